@@ -14,7 +14,7 @@ use Rattle.gts_core.specs.declared.system.GtsParts.{GtsParts}
 use Rattle.gts_core.specs.declared.system.Observer.{Observer}
 use Rattle.run_words.specs.declared.verbs.Verb.{Verb}
 use Rattle.run_words.specs.declared.verbs.Verb.TheVariants.{CheckCuts}
-use Rattle.wanted_values.specs.declared.wanting.Wanted.{Wanted}
+use Rattle.job_inputs.specs.declared.wanting.Wanted.{Wanted}
 use Rattle.altarica_run.specs.Passing.{HasObserver, IsThere}
 use Rattle.altarica_run.specs.Stages.{has_table}
 

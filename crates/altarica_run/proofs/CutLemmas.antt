@@ -42,8 +42,8 @@ use Rattle.gts_core.specs.declared.system.Observer.{Observer}
 use Rattle.gts_flatten.specs.Flat.{naming_of}
 use Rattle.hierarchy.specs.Listing.{variables}
 use Rattle.hierarchy.specs.Units.{Thing}
-use Rattle.mode_forests.specs.declared.forests.Edge.{Edge}
-use Rattle.mode_forests.specs.Views.{trees_of, number_in}
+use Rattle.mode_trees.specs.declared.forests.Edge.{Edge}
+use Rattle.mode_trees.specs.Views.{trees_of, number_in}
 use Rattle.zdd_families.specs.Families.{Family as Sets}
 use Rattle.zdd_families.specs.Sections.{IsCounted, IsMoreThan}
 use Rattle.zdd_families.proofs.Sections.{counted_nil, IsMoreThan-weaker}
@@ -54,16 +54,16 @@ use Rattle.eq_core.specs.Ordered.{IsOrderedTable}
 use Rattle.eq_core.specs.Values.{value_at}
 use Rattle.eq_core.specs.Views.{table_of}
 use Rattle.table_steps.specs.Table.{IsTable}
-use Rattle.table_meaning.specs.Laws.{TableIsOrdered, TableAgrees}
-use Rattle.table_meaning.proofs.Agreeing.{agrees as table_meant}
+use Rattle.table_laws.specs.GateLaws.{TableIsOrdered, TableAgrees}
+use Rattle.table_laws.proofs.Agreeing.{agrees as table_meant}
 use Rattle.tree_equations.specs.Gives as gives
 use Rattle.gate_diagrams.specs.Answers.{IsAnswer}
 use Rattle.firable_families.specs.Firable.{IsFirableOf}
 use Rattle.firable_families.proofs.InForests.{firable_in_trees, firable_in_system}
 use Rattle.gate_diagrams.specs.Needed.{IsConflictAt, NodesMay}
 use Rattle.gate_diagrams.specs.declared.answer.Drawn.{Drawn}
-use Rattle.drawn_cuts.specs.Drawn.{AreDrawn}
-use Rattle.drawn_cuts.specs.Laws.{DrawnAreMeant, NodesByNumbers}
+use Rattle.table_laws.specs.Drawn.{AreDrawn}
+use Rattle.table_laws.specs.DrawnLaws.{DrawnAreMeant, NodesByNumbers}
 use Rattle.min_cuts.specs.Lines.{AreInFiringOrder}
 use Rattle.min_cuts.specs.Sizes.{count, largest}
 use Rattle.cut_text.proofs.Source.{replays as source_replays}
@@ -72,8 +72,8 @@ use Rattle.cut_text.specs.Printed.{edges_of, labels_in, cuts_text, conflict_text
 use Rattle.check_text.specs.Texts.{IsCheckText}
 use Rattle.cut_text.specs.Texts.{IsCutText, IsConflictText}
 use Rattle.module_text.specs.Texts.{IsModuleText}
-use Rattle.script_lines.specs.Chains.{cut_of}
-use Rattle.script_lines.specs.CutLists.{CutLine}
+use Rattle.job_inputs.specs.Chains.{cut_of}
+use Rattle.job_inputs.specs.CutLists.{CutLine}
 use Rattle.cut_text.specs.declared.faults.PrintFault.{PrintFault}
 use Rattle.cut_text.specs.declared.faults.PrintFault.TheVariants as print
 use Rattle.run_words.specs.declared.jobs.Job.{Job}

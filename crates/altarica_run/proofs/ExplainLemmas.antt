@@ -16,7 +16,7 @@ use Rattle.ar_meaning.specs.Runs.{Command, Moment, Starts, Goes, ends, fires, fa
 use Rattle.ar_meaning.specs.Steps.{Step, Next, moves}
 use Rattle.ar_meaning.proofs.StatesAlone.{same_flows}
 use Rattle.flow_propagate.specs.Answers.{IsState}
-use Rattle.flow_rounds.proofs.Totals.{states_of}
+use Rattle.flow_reasons.proofs.RoundTotals.{states_of}
 use Rattle.gts_core.specs.Readings.{IsTotal}
 use Rattle.gts_core.specs.View.{Views, net_of, numbered}
 use Rattle.gts_core.specs.declared.system.GtsParts.{GtsParts}
@@ -27,9 +27,9 @@ use Rattle.hierarchy.specs.Listing.{variables}
 use Rattle.hierarchy.specs.Units.{Thing}
 use Rattle.reason_text.specs.Answers.{Explains, observed, AreSameObserver, IsObserverIn}
 use Rattle.reason_text.specs.Texts.{IsReasonText}
-use Rattle.script_lines.specs.Flat.{command_of}
+use Rattle.job_inputs.specs.Flat.{command_of}
 use Rattle.replayer.specs.Settles.{last_standing, Settles, IsFaultLine, AnswersSettle}
-use Rattle.script_lines.specs.declared.commands.Command.{Command as Given}
+use Rattle.job_inputs.specs.declared.commands.Command.{Command as Given}
 use Rattle.replayer.specs.declared.replaying.ReplayFault.{ReplayFault}
 use Rattle.replayer.specs.declared.replaying.ReplayFault.TheVariants as fault
 use Rattle.run_words.specs.declared.jobs.Job.{Job}

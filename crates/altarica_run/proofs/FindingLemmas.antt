@@ -11,10 +11,10 @@ use Rattle.ar_meaning.specs.Systems.{Variable, Net}
 use Rattle.ar_meaning.proofs.StatesAlone.{same_flows}
 use Rattle.check_text.specs.Texts.{EndsYes, all_good, is_none}
 use Rattle.check_text.proofs.YesLemmas.{yes_told, told_yes}
-use Rattle.flow_rounds.specs.Reasons.{Reason, IsReason, derived, reset}
-use Rattle.flow_rounds.proofs.Standing.{reason_at, no_two, descends}
-use Rattle.flow_rounds.proofs.Sufficing.{suffices}
-use Rattle.flow_rounds.proofs.Totals.{states_of}
+use Rattle.flow_reasons.specs.Reasons.{Reason, IsReason, derived, reset}
+use Rattle.flow_reasons.proofs.RoundStanding.{reason_at, no_two, descends}
+use Rattle.flow_reasons.proofs.Sufficing.{suffices}
+use Rattle.flow_reasons.proofs.RoundTotals.{states_of}
 use Rattle.gts_flatten.specs.Flat.{naming_of}
 use Rattle.hierarchy.specs.Units.{Thing}
 use Rattle.run_words.specs.declared.jobs.Job.{Job}

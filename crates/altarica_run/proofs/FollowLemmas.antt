@@ -5,7 +5,7 @@ use Rattle.ar_base.specs.Stages as then
 use Rattle.ar_io.specs.Outside.{Told}
 use Rattle.ar_io.specs.Writing.{SinkState, Cut}
 use Rattle.ar_io.proofs.Writing.{cut_nothing}
-use Rattle.script_lines.specs.Scripts.{Why, IsNoCommand, LacksWay, NamesNoEvent}
+use Rattle.job_inputs.specs.Scripts.{Why, IsNoCommand, LacksWay, NamesNoEvent}
 use Rattle.replayer.specs.declared.replaying.End.TheVariants as end
 use Rattle.run_words.specs.declared.jobs.Job.{Job}
 use Rattle.run_words.specs.Jobs.{IsJob}

@@ -14,16 +14,16 @@ use Rattle.ar_meaning.specs.TraceText.{Naming}
 use Rattle.ar_meaning.proofs.FlatSystems.{flat_back}
 use Rattle.ar_firing.specs.Rules.{Rule, number_of, Spot, AtEvent, AtUnit, AtVariable, AtObserver, AtWhole, IsFirstBroken, KeepsAll}
 use Rattle.ar_firing.proofs.ImageRules.{first_broken_there, keeps_all_there}
-use Rattle.forest_text.specs.Printed.{edge_count}
+use Rattle.cut_text.specs.ForestPrinted.{edge_count}
 use Rattle.gate_modules.specs.declared.ranges.Range.{Range}
 use Rattle.gts_core.specs.View.{Views}
 use Rattle.gts_core.specs.declared.system.GtsParts.{GtsParts}
 use Rattle.gts_flatten.specs.Elaborating.{Elaborated}
 use Rattle.gts_flatten.specs.Flat.{IsFlat}
 use Rattle.hierarchy.specs.Listing.{variables}
-use Rattle.mode_forests.specs.Views.{trees_of, number_in}
-use Rattle.mode_forests.specs.declared.forests.Forest.{Forest}
-use Rattle.mode_forests.specs.declared.forests.ModeTree.{ModeTree}
+use Rattle.mode_trees.specs.Views.{trees_of, number_in}
+use Rattle.mode_trees.specs.declared.forests.Forest.{Forest}
+use Rattle.mode_trees.specs.declared.forests.ModeTree.{ModeTree}
 use Rattle.run_words.specs.declared.jobs.Job.{Job}
 use Rattle.run_words.specs.declared.verbs.Verb.{Verb}
 use Rattle.run_words.specs.declared.verbs.Verb.TheVariants.{Check, Flat, Replay, Fragment, Equations, Cuts, Make, Explain, CheckCuts, Modules}

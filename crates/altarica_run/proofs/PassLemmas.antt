@@ -11,21 +11,21 @@ use Rattle.ar_base.specs.Lists.{Stands}
 use Rattle.ar_base.proofs.Standing.{stands_none, stands_within}
 use Rattle.ar_io.specs.Outside.{Told}
 use Rattle.ar_meaning.specs.Runs as runs
-use Rattle.event_lists.specs.Naming.{AnswersEvents}
-use Rattle.event_lists.specs.declared.reading.ListFault.{ListFault}
-use Rattle.event_lists.specs.declared.reading.ListFault.TheVariants as list
+use Rattle.job_inputs.specs.Naming.{AnswersEvents}
+use Rattle.job_inputs.specs.declared.reading.ListFault.{ListFault}
+use Rattle.job_inputs.specs.declared.reading.ListFault.TheVariants as list
 use Rattle.gts_core.specs.declared.bound.Chain.{Chain}
 use Rattle.gts_core.specs.declared.system.GtsParts.{GtsParts}
 use Rattle.gts_flatten.specs.Elaborating.{Elaborated}
 use Rattle.gts_flatten.specs.Flat.{IsFlat}
 use Rattle.hierarchy.specs.Listing.{observers}
-use Rattle.script_lines.specs.Chains.{cut_of, AnswersCuts}
-use Rattle.script_lines.specs.CutLists.{CutLine}
-use Rattle.script_lines.specs.Flat.{command_of, AnswersScript, IsBadScript}
-use Rattle.script_lines.specs.declared.commands.Command.{Command}
-use Rattle.script_lines.specs.declared.commands.Command.TheVariants.{Fire}
-use Rattle.script_lines.specs.declared.commands.ScriptFault.{ScriptFault}
-use Rattle.script_lines.specs.declared.commands.ScriptFault.TheVariants as script
+use Rattle.job_inputs.specs.Chains.{cut_of, AnswersCuts}
+use Rattle.job_inputs.specs.CutLists.{CutLine}
+use Rattle.job_inputs.specs.Flat.{command_of, AnswersScript, IsBadScript}
+use Rattle.job_inputs.specs.declared.commands.Command.{Command}
+use Rattle.job_inputs.specs.declared.commands.Command.TheVariants.{Fire}
+use Rattle.job_inputs.specs.declared.commands.ScriptFault.{ScriptFault}
+use Rattle.job_inputs.specs.declared.commands.ScriptFault.TheVariants as script
 use Rattle.run_words.specs.Jobs.{IsJob, NamesFiles, form_of, IsJobOf, OptionsFit}
 use Rattle.run_words.specs.Lines.{Line}
 use Rattle.run_words.specs.declared.jobs.Job.{Job}
@@ -35,11 +35,11 @@ use Rattle.altarica_run.specs.Files.{files_of}
 use Rattle.altarica_run.specs.Jobs.{AnswersJob, makes_model}
 use Rattle.altarica_run.specs.Loading.{RefusesFiles, AnswersTexts, AreTexts, texts_of, texts_where, script_texts}
 use Rattle.altarica_run.specs.Loading as loading
-use Rattle.wanted_values.specs.Answers.{AnswersWanted, AnswersObserver}
-use Rattle.wanted_values.specs.Wanting.{NamesNone, NamesObserver}
-use Rattle.wanted_values.specs.declared.wanting.Wanted.{Wanted}
-use Rattle.wanted_values.specs.declared.wanting.WantedFault.{WantedFault}
-use Rattle.wanted_values.specs.declared.wanting.WantedFault.TheVariants as wanted
+use Rattle.job_inputs.specs.Answers.{AnswersWanted, AnswersObserver}
+use Rattle.job_inputs.specs.Wanting.{NamesNone, NamesObserver}
+use Rattle.job_inputs.specs.declared.wanting.Wanted.{Wanted}
+use Rattle.job_inputs.specs.declared.wanting.WantedFault.{WantedFault}
+use Rattle.job_inputs.specs.declared.wanting.WantedFault.TheVariants as wanted
 use Rattle.altarica_run.specs.Passing as passing
 use Rattle.altarica_run.specs.Passing.{stop_of_wanted, stop_of_script, stop_of_cuts, stop_of_list, stop_told, IsStageOf, AreCommands, ReadsScript, no_script, gives, bad, AreLines, ReadsCuts, no_cuts, lists, bad_line, too_many, IsSecond, IsThere, has_second, where_asked, ReadsList, no_list, names, names_none, AreDropped, ReadsWanted, AreWanted, ReadsShown, no_path, shows, shows_none, IsShown, IsRequested, IsReady, RefusesWords, no_job, stage, not_read, AnswersWords}
 use Rattle.altarica_run.specs.Stages.{Ready, bare, has_script, has_list, has_table, explains, path_asked, observer_asked, Scripted, ListsCuts, Drops, Wanting, Showing, AsksByWords, Asks, Readies, Stages, not_loaded, loaded}

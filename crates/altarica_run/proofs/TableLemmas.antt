@@ -17,8 +17,8 @@ use Rattle.gts_core.specs.declared.system.GtsParts.{GtsParts}
 use Rattle.gts_core.specs.declared.system.Observer.{Observer}
 use Rattle.gts_flatten.specs.Elaborating.{Elaborated}
 use Rattle.gts_flatten.specs.Flat.{IsFlat, naming_of_parts}
-use Rattle.mode_forests.specs.Views.{trees_of, number_in}
-use Rattle.mode_forests.specs.declared.forests.Forest.{Forest}
+use Rattle.mode_trees.specs.Views.{trees_of, number_in}
+use Rattle.mode_trees.specs.declared.forests.Forest.{Forest}
 use Rattle.run_words.specs.declared.verbs.Verb.{Verb}
 use Rattle.table_steps.specs.Laws.{HasTable as SomeTableOf}
 use Rattle.table_steps.specs.Table.{IsTable}
@@ -26,7 +26,7 @@ use Rattle.tree_equations.specs.Gives.{AtObserver, NeedsTooMany}
 use Rattle.tree_equations.specs.Gives as gives
 use Rattle.tree_equations.specs.declared.fault.EqFault.{EqFault}
 use Rattle.tree_equations.specs.declared.fault.EqFault.TheVariants as table
-use Rattle.wanted_values.specs.declared.wanting.Wanted.{Wanted}
+use Rattle.job_inputs.specs.declared.wanting.Wanted.{Wanted}
 use Rattle.altarica_run.specs.Passing.{stop_of_table, IsStageOf, IsThere, IsForestOf, HasTable}
 use Rattle.altarica_run.specs.Stages.{Ready, Tabled, fits, exceeds, has_table, IsTableOf}
 use Rattle.altarica_run.specs.declared.stops.Stop.{Stop}

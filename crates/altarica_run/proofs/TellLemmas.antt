@@ -11,15 +11,15 @@ use Rattle.gts_core.specs.declared.system.GtsParts.{GtsParts}
 use Rattle.gts_core.specs.declared.system.Event.{Event}
 use Rattle.gts_core.specs.declared.system.Observer.{Observer}
 use Rattle.gts_core.specs.declared.system.Variable.{Variable}
-use Rattle.forest_text.specs.Printed.{forest_text}
-use Rattle.forest_text.specs.Texts.{IsForestText}
+use Rattle.cut_text.specs.ForestPrinted.{forest_text}
+use Rattle.cut_text.specs.ForestTexts.{IsForestText}
 use Rattle.gts_core.specs.Printed.{flat_text}
 use Rattle.gts_core.specs.Sound.{IsSound}
 use Rattle.gts_flatten.specs.Elaborating.{Elaborated}
 use Rattle.gts_flatten.specs.Flat.{IsFlat, naming_of, naming_of_parts}
 use Rattle.hierarchy.specs.Listing.{variables, events, observers}
 use Rattle.hierarchy.specs.Paths.{unit_path, thing_path}
-use Rattle.script_lines.specs.Flat.{command_of}
+use Rattle.job_inputs.specs.Flat.{command_of}
 use Rattle.replayer.specs.Replays.{IsReplay, AnswersReplay}
 use Rattle.replayer.specs.Replays as replays
 use Rattle.replayer.specs.declared.replaying.End.{End}

@@ -9,8 +9,8 @@ use Rattle.ar_meaning.specs.Systems.{Assign}
 use Rattle.check_text.specs.Texts.{EndsYes, AreSaid, lines_in, said_lines, missing_lines, last_line}
 use Rattle.cut_check.specs.Verdicts.{Said, IsListed, IsMissing, AreTheCuts}
 use Rattle.domains.specs.declared.Value.{Value}
-use Rattle.flow_rounds.specs.Reasons.{Reason, AreReasons}
-use Rattle.flow_rounds.specs.Rounds.{OfThese}
+use Rattle.flow_reasons.specs.Reasons.{Reason, AreReasons}
+use Rattle.flow_reasons.specs.Rounds.{OfThese}
 use Rattle.gts_flatten.specs.Flat.{naming_of}
 use Rattle.hierarchy.specs.Units.{Thing}
 use Rattle.reason_text.specs.Texts.{ReasonLines, IsTold}

@@ -15,10 +15,10 @@ use Rattle.ar_meaning.specs.Systems.{System}
 use Rattle.ar_parser.specs.declared.fault.ParseFault.{ParseFault}
 use Rattle.ar_parser.specs.declared.fault.ParseFault.TheVariants as parse
 use Rattle.eq_core.specs.Views.{table_of}
-use Rattle.event_lists.specs.Naming.{NamesEvents, HasUnknown, AreEventsOf}
-use Rattle.event_lists.specs.declared.reading.ListFault.{ListFault}
-use Rattle.event_lists.specs.declared.reading.ListFault.TheVariants as list
-use Rattle.forest_text.specs.Printed.{edge_count}
+use Rattle.job_inputs.specs.Naming.{NamesEvents, HasUnknown, AreEventsOf}
+use Rattle.job_inputs.specs.declared.reading.ListFault.{ListFault}
+use Rattle.job_inputs.specs.declared.reading.ListFault.TheVariants as list
+use Rattle.cut_text.specs.ForestPrinted.{edge_count}
 use Rattle.gate_modules.specs.Modules.{AreRanges}
 use Rattle.gate_modules.specs.declared.ranges.Range.{Range}
 use Rattle.gts_core.specs.Sound.{IsSound}
@@ -27,18 +27,18 @@ use Rattle.gts_core.specs.declared.bound.Chain.{Chain}
 use Rattle.gts_core.specs.declared.system.GtsParts.{GtsParts}
 use Rattle.gts_flatten.specs.Elaborating.{Elaborated}
 use Rattle.gts_flatten.specs.Flat.{IsFlat, naming_of_parts}
-use Rattle.mode_forests.specs.Views.{trees_of, number_in}
-use Rattle.mode_forests.specs.Ways.{OwnTheirWays}
-use Rattle.mode_forests.specs.declared.forests.Forest.{Forest}
+use Rattle.mode_trees.specs.Views.{trees_of, number_in}
+use Rattle.mode_trees.specs.Ways.{OwnTheirWays}
+use Rattle.mode_trees.specs.declared.forests.Forest.{Forest}
 use Rattle.module_text.specs.Ranges.{AreRangesOf}
 use Rattle.reason_text.specs.Answers.{IsObserverIn}
-use Rattle.script_lines.specs.Chains.{cut_of, HaveKnownWays}
-use Rattle.script_lines.specs.CutLists.{CutLine, CutList}
-use Rattle.script_lines.specs.Flat.{command_of, AreFirable, IsOfTree}
-use Rattle.script_lines.specs.Scripts.{BadLine, Commands}
-use Rattle.script_lines.specs.declared.commands.Command.{Command}
-use Rattle.script_lines.specs.declared.commands.ScriptFault.{ScriptFault}
-use Rattle.script_lines.specs.declared.commands.ScriptFault.TheVariants as script
+use Rattle.job_inputs.specs.Chains.{cut_of, HaveKnownWays}
+use Rattle.job_inputs.specs.CutLists.{CutLine, CutList}
+use Rattle.job_inputs.specs.Flat.{command_of, AreFirable, IsOfTree}
+use Rattle.job_inputs.specs.Scripts.{BadLine, Commands}
+use Rattle.job_inputs.specs.declared.commands.Command.{Command}
+use Rattle.job_inputs.specs.declared.commands.ScriptFault.{ScriptFault}
+use Rattle.job_inputs.specs.declared.commands.ScriptFault.TheVariants as script
 use Rattle.run_words.specs.declared.jobs.Job.{Job}
 use Rattle.run_words.specs.declared.verbs.Verb.{Verb}
 use Rattle.run_words.specs.declared.verbs.Verb.TheVariants.{Replay, Explain, CheckCuts, Modules}
@@ -48,10 +48,10 @@ use Rattle.tree_equations.specs.Gives.{AtObserver}
 use Rattle.tree_equations.specs.Gives as gate_tables
 use Rattle.tree_equations.specs.declared.fault.EqFault.{EqFault}
 use Rattle.tree_equations.specs.declared.fault.EqFault.TheVariants as table
-use Rattle.wanted_values.specs.Wanting as wanting
-use Rattle.wanted_values.specs.declared.wanting.Wanted.{Wanted}
-use Rattle.wanted_values.specs.declared.wanting.WantedFault.{WantedFault}
-use Rattle.wanted_values.specs.declared.wanting.WantedFault.TheVariants as wanted
+use Rattle.job_inputs.specs.Wanting as wanting
+use Rattle.job_inputs.specs.declared.wanting.Wanted.{Wanted}
+use Rattle.job_inputs.specs.declared.wanting.WantedFault.{WantedFault}
+use Rattle.job_inputs.specs.declared.wanting.WantedFault.TheVariants as wanted
 use Rattle.run_words.specs.Jobs.{IsJob}
 use Rattle.altarica_run.specs.Files.{files_of, Loads}
 use Rattle.altarica_run.specs.Jobs.{IsNoJob}

@@ -8,19 +8,19 @@ use Rattle.ar_firing.specs.Rules.{Rule, number_of, Spot, AtEvent, AtUnit, AtVari
 use Rattle.ar_io.specs.Outside.{Told}
 use Rattle.ar_meaning.specs.Runs.{Command}
 use Rattle.eq_core.specs.Gates.{Table}
-use Rattle.event_lists.specs.Naming.{NamesEvents, HasUnknown}
+use Rattle.job_inputs.specs.Naming.{NamesEvents, HasUnknown}
 use Rattle.gts_flatten.specs.Elaborating.{Elaborated}
 use Rattle.gts_flatten.specs.Flat.{naming_of}
 use Rattle.hierarchy.specs.Listing.{variables}
 use Rattle.hierarchy.specs.Paths.{unit_path}
-use Rattle.script_lines.specs.CutLists.{CutLine, CutList}
-use Rattle.script_lines.specs.Scripts.{BadLine, Commands, Why, IsNoCommand, LacksWay, NamesNoEvent}
+use Rattle.job_inputs.specs.CutLists.{CutLine, CutList}
+use Rattle.job_inputs.specs.Scripts.{BadLine, Commands, Why, IsNoCommand, LacksWay, NamesNoEvent}
 use Rattle.run_words.specs.declared.jobs.Job.{Job}
 use Rattle.run_words.specs.declared.verbs.Verb.{Verb}
 use Rattle.run_words.specs.declared.verbs.Verb.TheVariants.{Replay, Fragment, Equations, Cuts, Make, Explain, CheckCuts, Modules}
 use Rattle.table_text.specs.Texts.{IsTableFor}
-use Rattle.wanted_values.specs.Wanting.{IsWanted, NamesObserver, NamesNone, WantsNone}
-use Rattle.wanted_values.specs.declared.wanting.Wanted.{Wanted}
+use Rattle.job_inputs.specs.Wanting.{IsWanted, NamesObserver, NamesNone, WantsNone}
+use Rattle.job_inputs.specs.declared.wanting.Wanted.{Wanted}
 use Rattle.altarica_run.specs.Elaborates.{Elaborates}
 use Rattle.altarica_run.specs.Files.{files_of, Loaded, IsText}
 use Rattle.altarica_run.specs.declared.refusals.Refusal.{Refusal}

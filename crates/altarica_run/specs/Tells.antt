@@ -11,7 +11,7 @@ use Rattle.check_text.specs.Texts.{IsCheckText}
 use Rattle.cut_text.specs.Texts.{IsCutText, IsConflictText}
 use Rattle.domains.specs.declared.Value.{Value}
 use Rattle.eq_core.specs.Gates.{Table}
-use Rattle.forest_text.specs.Texts.{IsForestText}
+use Rattle.cut_text.specs.ForestTexts.{IsForestText}
 use Rattle.gate_diagrams.specs.Needed.{IsNeeded, IsNeededByBoth}
 use Rattle.gts_core.specs.Printed.{flat_text}
 use Rattle.gts_core.specs.Sound.{IsSound}
@@ -33,7 +33,7 @@ use Rattle.source_meaning.specs.Systems.{Declarations}
 use Rattle.table_text.specs.Texts.{IsTableText}
 use Rattle.typed_expr.specs.Yields.{Yields}
 use Rattle.typed_expr.specs.declared.expr.Expr.{Expr, out-Expr}
-use Rattle.wanted_values.specs.declared.wanting.Wanted.{Wanted}
+use Rattle.job_inputs.specs.declared.wanting.Wanted.{Wanted}
 use Rattle.zdd_families.specs.Families.{Family}
 use Rattle.zdd_families.specs.Sections.{IsCounted, IsMoreThan}
 use Rattle.altarica_run.specs.Stages.{Ready, IsTableOf, lists_cuts}

@@ -8,10 +8,10 @@ ghost use Rattle.eq_core.specs.Views.{table_of};
 ghost use Rattle.gate_diagrams.specs.Answers.{IsAnswer};
 ghost use Rattle.gts_core.specs.View.{Views, numbered};
 ghost use Rattle.gts_core.specs.declared.system.Observer.{Observer};
-ghost use Rattle.mode_forests.specs.Views.{trees_of};
+ghost use Rattle.mode_trees.specs.Views.{trees_of};
 ghost use Rattle.run_words.specs.declared.jobs.Job.{Job};
 ghost use Rattle.run_words.specs.declared.verbs.Verb.TheVariants.{CheckCuts as CheckAsked};
-ghost use Rattle.wanted_values.specs.declared.wanting.Wanted.{Wanted as TheWanted};
+ghost use Rattle.job_inputs.specs.declared.wanting.Wanted.{Wanted as TheWanted};
 ghost use Rattle.altarica_run.specs.Passing.{IsReady};
 ghost use Rattle.altarica_run.specs.Stages.{Ready};
 ghost use Rattle.altarica_run.specs.Telling.{IsWritten, status_printed};
@@ -26,12 +26,12 @@ use check_text::print_check;
 use cut_check::{Verdict, verdicts};
 use cut_text::PrintFault;
 use cut_text::laws::edges_of_forests;
-use drawn_cuts::drawn_sets;
+use table_laws::drawn_sets;
 use gate_diagrams::{Drawn, Family};
 use gts_core::laws::lawful_systems;
 use min_cuts::Lister;
 use std::alloc::Global;
-use table_meaning::table_agrees;
+use table_laws::table_agrees;
 use zdd_nodes::{room_for_families, stored_sections};
 
 /// Writes what is to be said of each line of the list, and the cuts that it lacks.

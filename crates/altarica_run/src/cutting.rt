@@ -4,7 +4,7 @@ ghost use Rattle.std.specs.Prelude.{◌≡◌, ◌≤◌, ◌++◌, ℕ, true, l
 ghost use Rattle.ar_io.specs.Writing.{Writes};
 ghost use Rattle.eq_core.specs.Views.{table_of};
 ghost use Rattle.gate_diagrams.specs.Answers.{IsAnswer, store_of};
-ghost use Rattle.mode_forests.specs.Views.{trees_of};
+ghost use Rattle.mode_trees.specs.Views.{trees_of};
 ghost use Rattle.run_words.specs.declared.jobs.Job.{Job};
 ghost use Rattle.run_words.specs.declared.verbs.Verb.TheVariants.{Cuts as CutsAsked};
 ghost use Rattle.altarica_run.specs.Passing.{IsReady};
@@ -23,13 +23,13 @@ use cut_text::laws::{
     conflicts_of_the_source, cuts_of_the_source, edges_of_forests, lines_of_the_source_replay,
 };
 use cut_text::{PrintFault, print_conflict, print_cuts};
-use drawn_cuts::drawn_sets;
+use table_laws::drawn_sets;
 use gate_diagrams::{Drawn, Family, diagrams};
 use gts_core::laws::lawful_systems;
 use min_cuts::{Lister, counts};
 use run_words::Verb;
 use std::alloc::Global;
-use table_meaning::{ordered_table, table_agrees};
+use table_laws::{ordered_table, table_agrees};
 use zdd_nodes::{NodeFault, room_for_families, stored_sections};
 
 /// Writes the cuts, or what the command tells of them; or the first conflict where there is one; or

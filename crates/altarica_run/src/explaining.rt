@@ -1,7 +1,7 @@
 //! The text of `explain`.
 
 ghost use Rattle.std.specs.Prelude.{◌≡◌};
-ghost use Rattle.script_lines.specs.Flat.{AreFirable};
+ghost use Rattle.job_inputs.specs.Flat.{AreFirable};
 ghost use Rattle.run_words.specs.declared.jobs.Job.{Job};
 ghost use Rattle.run_words.specs.declared.verbs.Verb.TheVariants.{Explain as ExplainAsked};
 ghost use Rattle.altarica_run.specs.Passing.{IsReady};

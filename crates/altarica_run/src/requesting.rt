@@ -16,9 +16,9 @@ use crate::tabling::wanted_of;
 use ar_base::{Count, EventId, Text};
 use gts_core::Chain;
 use run_words::{Job, Verb};
-use script_lines::{Command, ScriptFault, read_cuts, read_script};
+use job_inputs::{Command, ScriptFault, read_cuts, read_script};
 use std::alloc::Global;
-use wanted_values::{Wanted, observer_named};
+use job_inputs::{Wanted, observer_named};
 
 /// What the words, the script, the list and the command ask of a system.
 #[derive(Drop)]

@@ -3,7 +3,7 @@
 ghost use Rattle.std.specs.Prelude.{◌≡◌, ◌≤◌, ℕ, length};
 ghost use Rattle.eq_core.specs.Views.{table_of};
 ghost use Rattle.gate_diagrams.specs.Answers.{IsAnswer};
-ghost use Rattle.mode_forests.specs.Views.{trees_of};
+ghost use Rattle.mode_trees.specs.Views.{trees_of};
 ghost use Rattle.run_words.specs.declared.jobs.Job.{Job};
 ghost use Rattle.run_words.specs.declared.verbs.Verb.TheVariants.{Modules as ModulesAsked};
 ghost use Rattle.altarica_run.specs.Passing.{IsReady};
@@ -15,7 +15,7 @@ use crate::stages::Prepared;
 use crate::status::Status;
 use ar_io::Sink;
 use cut_text::PrintFault;
-use drawn_cuts::drawn_sets;
+use table_laws::drawn_sets;
 use gate_diagrams::{Drawn, Family};
 use gate_modules::shorten;
 use gts_core::laws::lawful_systems;

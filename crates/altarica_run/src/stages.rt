@@ -34,7 +34,7 @@ use gts_flatten::flatten;
 use hierarchy::Tree;
 use hierarchy::laws::tables_are_rooted;
 use instantiate::instantiate;
-use mode_forests::Forest;
+use mode_trees::Forest;
 use module_text::ranges;
 use run_words::{Job, Verb};
 use std::alloc::Global;

@@ -3,11 +3,11 @@
 use crate::refusals::Refusal;
 use ar_base::{Count, Memory, RuleFault};
 use ar_parser::ParseFault;
-use event_lists::ListFault;
+use job_inputs::ListFault;
 use run_words::JobFault;
-use script_lines::ScriptFault;
+use job_inputs::ScriptFault;
 use tree_equations::EqFault;
-use wanted_values::WantedFault;
+use job_inputs::WantedFault;
 
 /// A refusal, or want of memory.
 #[derive(Drop)]

@@ -2,7 +2,7 @@
 
 ghost use Rattle.std.specs.Prelude.{◌≡◌, ◌≤◌, ◌++◌, decimal, length};
 ghost use Rattle.ar_io.specs.Writing.{Writes};
-ghost use Rattle.script_lines.specs.Flat.{AreFirable};
+ghost use Rattle.job_inputs.specs.Flat.{AreFirable};
 ghost use Rattle.run_words.specs.declared.jobs.Job.{Job};
 ghost use Rattle.altarica_run.specs.Passing.{CanBeWritten, IsReady};
 ghost use Rattle.altarica_run.specs.Refusals.{line_of, status_of};
@@ -19,8 +19,8 @@ use crate::status::Status;
 use ar_io::{Sink, SinkFailed};
 use aralia_text::print;
 use cut_text::PrintFault;
-use forest_text::laws::forests_of_the_source;
-use forest_text::print_forest;
+use cut_text::forest_laws::forests_of_the_source;
+use cut_text::print_forest;
 use gts_core::Gts;
 use replayer::laws::replays_of_the_source;
 use replayer::{End, ReplayFault, replay};

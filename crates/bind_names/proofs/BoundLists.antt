@@ -22,8 +22,8 @@ use Rattle.source_meaning.specs.SoundBound.{IsOver, IsSoundBound}
 use Rattle.source_meaning.specs.Systems.{Declarations, AreOf}
 use Rattle.source_meaning.specs.declared.bound.Bound.{Bound}
 use Rattle.source_meaning.proofs.Different.{things_different}
-use Rattle.bind_events.specs.Bound.{IsBoundEvent, IsSoundEvent}
-use Rattle.bind_lists.specs.Bound.{IsBoundVariable, IsSoundVariable, AreBoundVariables, AreBoundAssertions, IsBoundObserver}
+use Rattle.bind_names.specs.Bound.{IsBoundEvent, IsSoundEvent}
+use Rattle.bind_names.specs.ListBound.{IsBoundVariable, IsSoundVariable, AreBoundVariables, AreBoundAssertions, IsBoundObserver}
 use Rattle.bind_names.specs.Whole.{IsBoundOf}
 use Rattle.bind_names.proofs.Meanings.{along_each, along_same, stand_whole, MeantVariables, meant_variables, MeantEvents, meant_events, MeantObservers, meant_observers}
 use Rattle.bind_names.proofs.Soundness.{HasParts, typed_there, sound_there, variable_sound}

@@ -16,8 +16,8 @@ use Rattle.hierarchy.specs.Units.{UnitPath, Thing}
 use Rattle.hierarchy.specs.Listing.{variables, events}
 use Rattle.hierarchy.specs.declared.tree.Tree.{Tree}
 use Rattle.source_meaning.specs.Systems.{IsVariable, IsEvent, IsObserver}
-use Rattle.bind_events.specs.Bound.{IsBoundEvent}
-use Rattle.bind_lists.specs.Bound.{IsBoundVariable, IsBoundObserver}
+use Rattle.bind_names.specs.Bound.{IsBoundEvent}
+use Rattle.bind_names.specs.ListBound.{IsBoundVariable, IsBoundObserver}
 
 -- Lists item by item
 

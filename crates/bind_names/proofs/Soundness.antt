@@ -19,9 +19,9 @@ use Rattle.hierarchy.specs.declared.tree.Tree.{Tree}
 use Rattle.hierarchy.specs.declared.tree.VarNode.{VarNode}
 use Rattle.source_meaning.specs.SoundBound.{IsSoundAct}
 use Rattle.source_meaning.specs.SoundBound as sound
-use Rattle.bind_forms.specs.Typed.{kind_of_node, kind_in, IsSymbolIn, IsTypedIn, IsSoundIn}
-use Rattle.bind_forms.specs.Typed as typed
-use Rattle.bind_lists.specs.Bound.{IsSoundVariable}
+use Rattle.bind_values.specs.Typed.{kind_of_node, kind_in, IsSymbolIn, IsTypedIn, IsSoundIn}
+use Rattle.bind_values.specs.Typed as typed
+use Rattle.bind_names.specs.ListBound.{IsSoundVariable}
 
 -- the kinds of variables are those of the tree's nodes
 found_kind : {tree : Tree} {ds : List VarNode} {xs : List Variable} → Along (IsSoundVariable tree) ds xs → (n : ℕ)

@@ -12,7 +12,7 @@ use Rattle.source_meaning.specs.SoundBound.{IsSoundBound}
 use Rattle.source_meaning.specs.Systems.{Declarations, AreOf}
 use Rattle.source_meaning.specs.declared.bound.Bound.{Bound}
 use Rattle.bind_scopes.specs.declared.scopes.Scopes.{Scopes}
-use Rattle.bind_forms.specs.Settled.{AreSettled}
+use Rattle.bind_values.specs.Settled.{AreSettled}
 use Rattle.bind_values.specs.declared.whole.Values.{Values}
 
 -- the units keep the rules, and these are the values of their parameters and variables

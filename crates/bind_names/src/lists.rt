@@ -4,14 +4,14 @@ ghost use Rattle.std.specs.Prelude.{List, IfOk};
 ghost use Rattle.hierarchy.specs.Models.{RootedModel};
 ghost use Rattle.hierarchy.specs.Units.{UnitPath};
 ghost use Rattle.bind_scopes.specs.Scopes.{HasScopes};
-ghost use Rattle.bind_forms.specs.Settled.{AreSettled};
+ghost use Rattle.bind_values.specs.Settled.{AreSettled};
 ghost use Rattle.bind_names.specs.Whole.{IsBoundOf};
 
 use ar_base::Memory;
-use bind_events::events;
-use bind_lists::{assertions, observers, variables};
+use crate::events;
+use crate::{assertions, observers, variables};
 use bind_scopes::Scopes;
-use bind_texts::{event_paths, prefixes, symbol_texts, unit_paths};
+use crate::{event_paths, prefixes, symbol_texts, unit_paths};
 use bind_values::Values;
 use source_meaning::Bound;
 use std::alloc::Global;

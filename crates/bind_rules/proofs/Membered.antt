@@ -11,7 +11,7 @@ use Rattle.ar_syntax.specs.declared.members.Member.{Member, out-Member}
 use Rattle.ar_syntax.specs.declared.members.Member.TheOpen as member
 use Rattle.ar_syntax.specs.declared.members.Member.TheVariants.{Local, Assert}
 use Rattle.typed_expr.specs.declared.expr.ValueKind.TheVariants.{Truth}
-use Rattle.bind_instructions.specs.Parts.{BreaksInside}
+use Rattle.written_forms.specs.Parts.{BreaksInside}
 use Rattle.class_table.specs.Declaring.{MemberForm}
 use Rattle.class_table.specs.Earliest.{IsEarliest, nowhere, IsEarlierOf}
 use Rattle.class_table.specs.Members.{Site, owned_at}
@@ -27,8 +27,8 @@ use Rattle.hierarchy.specs.Tie.{IsTreeOf}
 use Rattle.hierarchy.specs.declared.tree.UnitNode.{UnitNode}
 use Rattle.hierarchy.specs.declared.tree.Tree.{Tree}
 use Rattle.source_meaning.specs.Tested.{Everything}
-use Rattle.unit_settings.proofs.Sited.{flat_one, one_flat}
-use Rattle.unit_things.proofs.OneName.{members_there, members_past}
+use Rattle.unit_rules.proofs.Sited.{flat_one, one_flat}
+use Rattle.instantiate.proofs.OneName.{members_there, members_past}
 use Rattle.bind_rules.specs.Breaking.{BreaksExpression, BreaksAction, BreaksAssertion, BreaksEvent, BreaksMember, event, guard, action, assertion, BreaksOneMember, BreaksUnit}
 use Rattle.bind_rules.specs.declared.rules.Rule.{Rule}
 

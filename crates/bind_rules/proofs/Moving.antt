@@ -4,13 +4,13 @@ use Rattle.ar_base.specs.declared.places.Place.{Place}
 use Rattle.ar_syntax.specs.declared.expressions.RawExpr.{RawExpr}
 use Rattle.ar_syntax.specs.declared.paths.Path.{Path}
 use Rattle.typed_expr.specs.declared.expr.ValueKind.{ValueKind}
-use Rattle.bind_expressions.specs.Operands.{RawLevel, level_of, Demand, OfKind}
-use Rattle.bind_expressions.specs.Forms.{HasForm, own, path, choice}
-use Rattle.bind_expressions.specs.Wrong.{IsMisnamed, IsMistyped, itself, real, inside, IsWanted, this, that_of, Names, IsNamed}
-use Rattle.bind_expressions.proofs.MisnamedForms.{misnamed_move}
-use Rattle.bind_instructions.specs.Parts.{InstrForm, BreaksInside}
-use Rattle.bind_instructions.specs.Breaches.{MisnamesItself, MistypesItself, MisplacedInAction, MisplacedInAssertion, IsSort, IsTarget}
-use Rattle.bind_instructions.specs.Breaches as b
+use Rattle.written_forms.specs.Operands.{RawLevel, level_of, Demand, OfKind}
+use Rattle.written_forms.specs.Forms.{HasForm, own, path, choice}
+use Rattle.written_forms.specs.Wrong.{IsMisnamed, IsMistyped, itself, real, inside, IsWanted, this, that_of, Names, IsNamed}
+use Rattle.written_forms.proofs.MisnamedForms.{misnamed_move}
+use Rattle.written_forms.specs.Parts.{InstrForm, BreaksInside}
+use Rattle.written_forms.specs.Breaches.{MisnamesItself, MistypesItself, MisplacedInAction, MisplacedInAssertion, IsSort, IsTarget}
+use Rattle.written_forms.specs.Breaches as b
 use Rattle.class_table.specs.Earliest.{IsEarliest}
 use Rattle.class_table.proofs.FirstPlaces.{earliest_same}
 use Rattle.hierarchy.specs.Models.{RootedModel}

@@ -36,7 +36,7 @@ use Rattle.source_meaning.specs.Means.{is_valued}
 use Rattle.source_meaning.specs.Kinds.{kind_of_type, kind_of_member, IsOfKind}
 use Rattle.source_meaning.specs.Tested as s
 use Rattle.source_meaning.proofs.Attributed.{valued_attribute}
-use Rattle.unit_things.proofs.Named.{given_at, all_one, single_one}
+use Rattle.instantiate.proofs.Named.{given_at, all_one, single_one}
 use Rattle.bind_scopes.specs.Naming.{kind_of_parameter}
 use Rattle.bind_scopes.specs.Scopes.{IsScope, constants, before}
 use Rattle.bind_scopes.specs.declared.scopes.Scope.{Scope}

@@ -12,10 +12,10 @@ use Rattle.ar_syntax.specs.declared.members.TypeForm.{TypeForm}
 use Rattle.ar_syntax.specs.declared.paths.Path.{Path}
 use Rattle.typed_expr.specs.declared.expr.ValueKind.{ValueKind}
 use Rattle.typed_expr.specs.declared.expr.ValueKind.TheVariants.{Truth}
-use Rattle.bind_expressions.specs.Operands.{level_of, OfKind}
-use Rattle.bind_expressions.specs.Wrong.{IsMisnamed, IsMistyped}
-use Rattle.bind_instructions.specs.Parts.{InstrForm, BreaksInside}
-use Rattle.bind_instructions.specs.Breaches.{MisnamesItself, MistypesItself, MisplacedInAction, MisplacedInAssertion}
+use Rattle.written_forms.specs.Operands.{level_of, OfKind}
+use Rattle.written_forms.specs.Wrong.{IsMisnamed, IsMistyped}
+use Rattle.written_forms.specs.Parts.{InstrForm, BreaksInside}
+use Rattle.written_forms.specs.Breaches.{MisnamesItself, MistypesItself, MisplacedInAction, MisplacedInAssertion}
 use Rattle.class_table.specs.Declaring.{MemberForm}
 use Rattle.class_table.specs.Members.{Observer}
 use Rattle.hierarchy.specs.Models.{RootedModel}

@@ -13,7 +13,7 @@ ghost use Rattle.bind_rules.specs.Breaking.{IsNoEvent, HasNoEvent, IsNoOwnEvent,
 use crate::rules::Rule;
 use ar_base::{NameId, Place, UnitId};
 use ar_syntax::{Member, Part, Path, PathStart};
-use bind_expressions::earlier;
+use written_forms::earlier;
 use bind_scopes::Scopes;
 
 // The place of the path, where it names no event.

@@ -3,9 +3,9 @@
 ghost use Rattle.std.specs.Prelude.{◌<◌, List, length};
 ghost use Rattle.ar_base.specs.Lists.{Stands};
 ghost use Rattle.ar_syntax.specs.declared.instructions.Instr.{out-Instr};
-ghost use Rattle.bind_expressions.specs.Wrong.{IsNamed, Names};
-ghost use Rattle.bind_instructions.specs.Breaches.{IsTarget, MisnamesItself, MistypesItself};
-ghost use Rattle.bind_instructions.specs.Parts.{BreaksInside};
+ghost use Rattle.written_forms.specs.Wrong.{IsNamed, Names};
+ghost use Rattle.written_forms.specs.Breaches.{IsTarget, MisnamesItself, MistypesItself};
+ghost use Rattle.written_forms.specs.Parts.{BreaksInside};
 ghost use Rattle.class_table.specs.Earliest.{IsEarliest};
 ghost use Rattle.hierarchy.specs.Models.{RootedModel};
 ghost use Rattle.hierarchy.specs.Units.{UnitPath};
@@ -17,8 +17,8 @@ ghost use Rattle.bind_rules.specs.Breaking.{BreaksExpression, BreaksAction, Brea
 use crate::rules::Rule;
 use ar_base::{Place, UnitId};
 use ar_syntax::{Instr, RawExpr};
-use bind_expressions::{first_misnamed, first_mistyped};
-use bind_instructions::{ActionRule, AssertionRule, KindRule, NameRule, first_breach};
+use written_forms::{first_misnamed, first_mistyped};
+use written_forms::{ActionRule, AssertionRule, KindRule, NameRule, first_breach};
 use bind_scopes::{Scope, Scopes, Sort, UnitNames};
 use typed_expr::ValueKind;
 

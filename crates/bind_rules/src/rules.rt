@@ -11,7 +11,7 @@ ghost use Rattle.bind_rules.specs.Breaking.{BreaksTree};
 use crate::members::in_units;
 use crate::values::{in_observers, in_parameters, in_variables};
 use ar_base::Place;
-use bind_expressions::earlier;
+use written_forms::earlier;
 use bind_scopes::Scopes;
 
 /// A rule that is tested in a whole tree.

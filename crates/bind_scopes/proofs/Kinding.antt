@@ -16,7 +16,7 @@ use Rattle.class_table.specs.Declaring.{NamedType}
 use Rattle.class_table.specs.Members.{domain_body}
 use Rattle.class_table.specs.declared.tables.TypeBody.{TypeBody}
 use Rattle.class_table.specs.declared.tables.TypeBody.TheVariants as types
-use Rattle.unit_sizes.specs.Typing.{IsFound, none, some}
+use Rattle.unit_rules.specs.Typing.{IsFound, none, some}
 use Rattle.hierarchy.specs.Models.{RootedModel}
 use Rattle.hierarchy.specs.Units.{UnitPath, Thing, kind_at, numbers}
 use Rattle.hierarchy.specs.Walks.{Finds, Has, is_variable}
@@ -32,8 +32,8 @@ use Rattle.source_meaning.specs.Kinds.{kind_of_body, kind_of_type, kind_of_membe
 use Rattle.source_meaning.specs.Rules.{IsNot, Is}
 use Rattle.source_meaning.specs.Tested as s
 use Rattle.source_meaning.proofs.OneMeaning.{leads_same}
-use Rattle.bind_expressions.specs.Wrong.{Names, IsNamed}
-use Rattle.bind_instructions.specs.Breaches.{IsSort, IsTarget}
+use Rattle.written_forms.specs.Wrong.{Names, IsNamed}
+use Rattle.written_forms.specs.Breaches.{IsSort, IsTarget}
 use Rattle.bind_scopes.specs.Searching.{variable_in}
 use Rattle.bind_scopes.specs.Sites.{declares_flows}
 use Rattle.bind_scopes.specs.Scopes.{AreScopes, IsNamedIn, variable, parameter, symbol, IsScope, scoped_in}

@@ -20,12 +20,12 @@ use Rattle.class_table.specs.declared.tables.Classes.{Classes}
 use Rattle.hierarchy.specs.Models.{RootedModel, IsTableFor, sites_kept}
 use Rattle.hierarchy.specs.Units.{UnitPath, names_in}
 use Rattle.hierarchy.specs.Tie.{IsTreeOf}
-use Rattle.unit_things.proofs.OneName.{members_there, members_past}
-use Rattle.unit_sizes.specs.Typing.{KnowsPlaces}
+use Rattle.instantiate.proofs.OneName.{members_there, members_past}
+use Rattle.unit_rules.specs.Typing.{KnowsPlaces}
 use Rattle.bind_scopes.specs.Scopes.{AreScopes}
 use Rattle.bind_scopes.specs.declared.scopes.Scopes.{Scopes}
-use Rattle.unit_index.specs.Indexed.{same_pair, IsIndexOf}
-use Rattle.unit_index.proofs.Pairs.{pair_same, pair_one}
+use Rattle.bind_scopes.specs.Indexed.{same_pair, IsIndexOf}
+use Rattle.bind_scopes.proofs.Pairs.{pair_same, pair_one}
 use Rattle.bind_scopes.specs.Members.{HasName, NamesSo, AddsNames, HasFirst}
 
 so_none : (x : ℕ) → NamesSo [] x → ⊥

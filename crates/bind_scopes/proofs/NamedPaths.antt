@@ -27,7 +27,7 @@ use Rattle.source_meaning.specs.Means.{is_valued, IsSymbol}
 use Rattle.source_meaning.specs.Tested as s
 use Rattle.source_meaning.specs.Kinds.{IsOfKind, kind_of_member}
 use Rattle.source_meaning.proofs.OneMeaning.{apart, leads_same}
-use Rattle.unit_index.specs.Indexed.{same_pair}
+use Rattle.bind_scopes.specs.Indexed.{same_pair}
 use Rattle.bind_scopes.specs.Members.{NamesSo}
 use Rattle.bind_scopes.specs.Searching.{variable_in, parameter_in}
 use Rattle.bind_scopes.specs.Sites.{owned_in, is_read}

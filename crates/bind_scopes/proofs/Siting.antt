@@ -25,9 +25,9 @@ use Rattle.hierarchy.specs.Tie.{IsSource, IsAttribute, HasAttribute}
 use Rattle.hierarchy.specs.declared.tree.Attribute as tree
 use Rattle.hierarchy.specs.declared.tree.Source.{Source}
 use Rattle.source_meaning.specs.Means.{is_valued}
-use Rattle.unit_things.proofs.Named.{given_at, declares_owned, single_one}
-use Rattle.unit_things.proofs.Parametered.{parameter_owned, IsParameterSo, typed, kept}
-use Rattle.unit_things.specs.Values.{parameter_in, parameter_type}
+use Rattle.instantiate.proofs.Named.{given_at, declares_owned, single_one}
+use Rattle.instantiate.proofs.Parametered.{parameter_owned, IsParameterSo, typed, kept}
+use Rattle.instantiate.specs.Values.{parameter_in, parameter_type}
 use Rattle.bind_scopes.specs.Sites.{owned_in, reads_value, is_read, value_in, value_of, written_of}
 
 -- the member at a place, in the table and as it is declared

@@ -1,5 +1,6 @@
+pub mod Indexed
+pub mod Members
+pub mod Naming
+pub mod Scopes
 pub mod Searching
 pub mod Sites
-pub mod Members
-pub mod Scopes
-pub mod Naming

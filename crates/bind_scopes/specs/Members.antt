@@ -5,7 +5,7 @@ use Rattle.ar_base.specs.Lists.{IsOneOf}
 use Rattle.class_table.specs.Members.{NamedMember}
 use Rattle.hierarchy.specs.Models.{RootedModel}
 use Rattle.hierarchy.specs.Units.{names_in}
-use Rattle.unit_index.specs.Indexed.{same_pair}
+use Rattle.bind_scopes.specs.Indexed.{same_pair}
 
 -- the name is in the set, for this body
 abbrev pub HasName : {S : Type 0} → HashSet (ℕ × ℕ) S → ℕ → ℕ → Type 0

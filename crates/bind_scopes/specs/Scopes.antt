@@ -17,8 +17,8 @@ use Rattle.hierarchy.specs.declared.tree.UnitNode.{UnitNode}
 use Rattle.hierarchy.specs.declared.tree.Tree.{Tree}
 use Rattle.source_meaning.specs.Means.{is_valued, IsSymbol}
 use Rattle.source_meaning.specs.Tested as s
-use Rattle.unit_sizes.specs.Typing.{KnowsPlaces}
-use Rattle.unit_index.specs.Indexed.{same_pair, IsIndexOf}
+use Rattle.unit_rules.specs.Typing.{KnowsPlaces}
+use Rattle.bind_scopes.specs.Indexed.{same_pair, IsIndexOf}
 use Rattle.bind_scopes.specs.Members.{HasName, NamesSo}
 use Rattle.bind_scopes.specs.Searching.{variable_in, parameter_in}
 use Rattle.bind_scopes.specs.Sites.{owned_in, is_read}

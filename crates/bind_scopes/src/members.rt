@@ -7,7 +7,7 @@ ghost use Rattle.class_table.specs.Members.{Site, MemberKind, NamedMember, names
 ghost use Rattle.class_table.specs.Shown.{IsDeclaredBy};
 ghost use Rattle.class_table.specs.Tables.{Holds, IsNamedType, site_of};
 ghost use Rattle.hierarchy.specs.Models.{RootedModel, IsTableFor};
-ghost use Rattle.unit_sizes.specs.Typing.{KnowsPlaces};
+ghost use Rattle.unit_rules.specs.Typing.{KnowsPlaces};
 ghost use Rattle.bind_scopes.specs.Members.{AddsNames, HasFirst};
 
 use ar_base::{BodyId, Memory, NameId, Place};
@@ -15,8 +15,8 @@ use ar_syntax::{Member, TypeForm};
 use class_table::{Body, Classes, Owned, TypeBody};
 use std::alloc::Global;
 use std::collections::HashSet;
-use unit_settings::owned_at;
-use unit_sizes::TypePlaces;
+use unit_rules::owned_at;
+use unit_rules::TypePlaces;
 
 /// Names by the numbers of bodies.
 pub(crate) type Names = HashSet<(u32, u32)>;

@@ -9,8 +9,8 @@ use crate::scopes::{Named, Scope, Scopes};
 use crate::sites::is_flow_at;
 use ar_base::UnitId;
 use ar_syntax::Path;
-use bind_expressions::Naming;
-use bind_instructions::Targets;
+use written_forms::Naming;
+use written_forms::Targets;
 use hierarchy::{Tree, VarNode};
 use typed_expr::ValueKind;
 

@@ -25,8 +25,8 @@ use hierarchy::Tree;
 use std::alloc::Global;
 use std::collections::HashMap;
 use typed_expr::ValueKind;
-use unit_index::Index;
-use unit_sizes::TypePlaces;
+use crate::Index;
+use unit_rules::TypePlaces;
 
 /// What a path in an expression names.
 #[derive(Clone, Copy)]

@@ -12,7 +12,7 @@ ghost use Rattle.bind_scopes.specs.Sites.{owned_in, is_read as reads_of, declare
 use ar_syntax::{Member, RawExpr};
 use class_table::{Classes, Owned};
 use hierarchy::{Attribute, Source};
-use unit_settings::is_flow;
+use unit_rules::is_flow;
 
 /// The member that stands there, where there is one. Takes no memory.
 pub(crate) fn owned_at(classes: &Classes, source: Source) -> Option<&Owned>

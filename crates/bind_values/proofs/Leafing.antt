@@ -17,8 +17,8 @@ use Rattle.source_meaning.specs.Tested as s
 use Rattle.source_meaning.specs.BoundExpressions.{IsLeafFor}
 use Rattle.source_meaning.specs.BoundExpressions as leaf
 use Rattle.source_meaning.proofs.OneMeaning.{apart}
-use Rattle.bind_expressions.specs.declared.naming.Leaf.{Leaf}
-use Rattle.bind_expressions.specs.declared.naming.Leaf.TheVariants as stands
+use Rattle.written_forms.specs.declared.naming.Leaf.{Leaf}
+use Rattle.written_forms.specs.declared.naming.Leaf.TheVariants as stands
 use Rattle.bind_scopes.specs.Scopes.{AreScopes, IsNamedIn, variable, parameter, symbol, nothing, named_in}
 use Rattle.bind_scopes.specs.declared.scopes.Named.{Named}
 use Rattle.bind_scopes.specs.declared.scopes.Scopes.{Scopes}

@@ -3,7 +3,7 @@ use Rattle.std.proofs.Common.{◌≡◌, ℕ, Bool, true, false, cond, List, [],
 use Rattle.std.specs.HashMap.{HashMap, get}
 use Rattle.domains.specs.declared.Value.{Value}
 use Rattle.hierarchy.specs.declared.tree.Attribute.{Attribute}
-use Rattle.unit_index.specs.Indexed.{same_pair}
+use Rattle.bind_scopes.specs.Indexed.{same_pair}
 use Rattle.bind_scopes.specs.declared.scopes.Scopes.{Scopes}
 use Rattle.bind_values.specs.Known.{IsKnown, AreKnown}
 

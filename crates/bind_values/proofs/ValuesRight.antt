@@ -26,11 +26,11 @@ use Rattle.hierarchy.specs.Settings.{Attribute, in_force}
 use Rattle.hierarchy.specs.Tie.{IsParameter, HasAttribute}
 use Rattle.hierarchy.specs.declared.tree.ParNode.{ParNode}
 use Rattle.bind_scopes.proofs.NamedPaths.{kind_one}
-use Rattle.bind_expressions.specs.Operands.{level_of, OfKind, AnyKind, PathIn}
-use Rattle.bind_expressions.specs.Wrong.{IsMistyped, itself, real, inside}
-use Rattle.bind_expressions.specs.Translating.{BecomesBy}
-use Rattle.bind_expressions.specs.declared.naming.Leaf.{Leaf}
-use Rattle.bind_expressions.specs.declared.naming.Leaf.TheVariants as stands
+use Rattle.written_forms.specs.Operands.{level_of, OfKind, AnyKind, PathIn}
+use Rattle.written_forms.specs.Wrong.{IsMistyped, itself, real, inside}
+use Rattle.written_forms.specs.Translating.{BecomesBy}
+use Rattle.written_forms.specs.declared.naming.Leaf.{Leaf}
+use Rattle.written_forms.specs.declared.naming.Leaf.TheVariants as stands
 use Rattle.bind_scopes.specs.Scopes.{AreScopes, named_in}
 use Rattle.bind_scopes.specs.declared.scopes.Scopes.{Scopes}
 use Rattle.bind_scopes.proofs.Kinding.{variable_kind, valued_kind}

@@ -20,18 +20,18 @@ use Rattle.typed_expr.specs.declared.expr.Expr.TheOpen as form
 use Rattle.typed_expr.specs.declared.expr.ValueKind.{ValueKind}
 use Rattle.typed_expr.specs.declared.expr.ValueKind.TheVariants.{Truth, Whole}
 use Rattle.typed_expr.proofs.Valued.{Valued, level_value, value_of-level, truth-form}
-use Rattle.bind_expressions.specs.Operands.{RawLevel, level_of, OfKind, Like, Operand, wanting, first_branch, is_equality, operands_of, PathIn}
-use Rattle.bind_expressions.specs.Operands as in_form
-use Rattle.bind_expressions.specs.Forms.{HasForm}
-use Rattle.bind_expressions.specs.Forms as of_form
-use Rattle.bind_expressions.specs.Wrong.{IsWanted, this, that_of, IsMistyped}
-use Rattle.bind_expressions.specs.Wrong as wrong
-use Rattle.bind_expressions.specs.Translating.{leaf_level, StandsFor, Becomes, All_become, Parts_become, Cases_become, BecomesBy}
-use Rattle.bind_expressions.specs.Translating as t
-use Rattle.bind_expressions.specs.declared.naming.Leaf.{Leaf}
-use Rattle.bind_expressions.specs.declared.naming.Leaf.TheVariants as leaf
-use Rattle.bind_expressions.proofs.OperandLists.{mapped_one, test_one, branch_one, other_one, left_side, right_side}
-use Rattle.bind_expressions.proofs.RightForms.{same_kind}
+use Rattle.written_forms.specs.Operands.{RawLevel, level_of, OfKind, Like, Operand, wanting, first_branch, is_equality, operands_of, PathIn}
+use Rattle.written_forms.specs.Operands as in_form
+use Rattle.written_forms.specs.Forms.{HasForm}
+use Rattle.written_forms.specs.Forms as of_form
+use Rattle.written_forms.specs.Wrong.{IsWanted, this, that_of, IsMistyped}
+use Rattle.written_forms.specs.Wrong as wrong
+use Rattle.written_forms.specs.Translating.{leaf_level, StandsFor, Becomes, All_become, Parts_become, Cases_become, BecomesBy}
+use Rattle.written_forms.specs.Translating as t
+use Rattle.written_forms.specs.declared.naming.Leaf.{Leaf}
+use Rattle.written_forms.specs.declared.naming.Leaf.TheVariants as leaf
+use Rattle.written_forms.proofs.OperandLists.{mapped_one, test_one, branch_one, other_one, left_side, right_side}
+use Rattle.written_forms.proofs.RightForms.{same_kind}
 
 module _ {V : Type 0} (facts : V → Value → Type 0) (values : V → Value) where
   abbrev Is : Expr V → ValueKind → Type 0

@@ -7,7 +7,7 @@ use Rattle.hierarchy.specs.Units.{UnitPath, Thing}
 use Rattle.hierarchy.specs.Tie.{HasAttribute}
 use Rattle.hierarchy.specs.declared.tree.Attribute.{Attribute}
 use Rattle.source_meaning.specs.Tested.{HasValue}
-use Rattle.unit_index.specs.Indexed.{same_pair}
+use Rattle.bind_scopes.specs.Indexed.{same_pair}
 use Rattle.bind_scopes.specs.Scopes.{AreScopes}
 use Rattle.bind_scopes.specs.declared.scopes.Scopes.{Scopes}
 use Rattle.bind_values.specs.Values.{AreNamesKept, AreFirst, NamesBefore, IsValue}

@@ -3,8 +3,8 @@ use Rattle.std.specs.Prelude.{◌<◌, false, length, List, Option, Some, None}
 use Rattle.ar_syntax.specs.declared.paths.Path.{Path}
 use Rattle.domains.specs.declared.Value.{Value}
 use Rattle.domains.specs.declared.Value.TheVariants as value
-use Rattle.bind_expressions.specs.declared.naming.Leaf.{Leaf}
-use Rattle.bind_expressions.specs.declared.naming.Leaf.TheVariants as leaf
+use Rattle.written_forms.specs.declared.naming.Leaf.{Leaf}
+use Rattle.written_forms.specs.declared.naming.Leaf.TheVariants as leaf
 use Rattle.bind_scopes.specs.Scopes.{HasScopes, named_in}
 use Rattle.bind_scopes.specs.declared.scopes.Named.{Named}
 use Rattle.bind_scopes.specs.declared.scopes.Named.TheVariants.{Variable, Parameter, Symbol}

@@ -1,3 +1,7 @@
+pub mod Full
+pub mod Keeping
 pub mod Known
 pub mod Leaves
+pub mod Settled
+pub mod Typed
 pub mod Values

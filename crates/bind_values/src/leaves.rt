@@ -6,7 +6,7 @@ ghost use Rattle.bind_values.specs.Leaves.{leaf_of, leaf_in, IsInTree};
 
 use ar_base::UnitId;
 use ar_syntax::Path;
-use bind_expressions::{Leaf, Leaves};
+use written_forms::{Leaf, Leaves};
 use bind_scopes::{Named, Scopes};
 use domains::Value;
 

@@ -14,7 +14,7 @@ ghost use Rattle.bind_values.specs.Values.{IsValue, IsParameterValue, IsDomainAt
 
 use crate::leaves::known;
 use ar_base::Place;
-use bind_expressions::earlier;
+use written_forms::earlier;
 use bind_scopes::{Scopes, written};
 use domains::{Domain, Value};
 use hierarchy::{Attribute, ParNode, VarNode};

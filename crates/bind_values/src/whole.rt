@@ -16,7 +16,7 @@ ghost use Rattle.bind_values.specs.declared.leaves.UnitLeaves.{UnitLeaves};
 use crate::computing::{parameter_values, variable_values};
 use crate::outside::{outside_parameters, outside_variables};
 use ar_base::{Memory, Place};
-use bind_expressions::earlier;
+use written_forms::earlier;
 use bind_scopes::Scopes;
 use domains::Value;
 use std::alloc::Global;

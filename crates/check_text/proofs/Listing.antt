@@ -19,9 +19,9 @@ use Rattle.cut_check.specs.LineSets.{AreEventNumbers, HaveEventNumbers}
 use Rattle.cut_check.specs.Verdicts.{events_of, IsListed}
 use Rattle.cut_check.specs.declared.checking.Verdict.{Verdict}
 use Rattle.gts_core.specs.Sound.{IsSound}
-use Rattle.mode_forests.specs.Ways.{OwnTheirWays}
-use Rattle.mode_forests.specs.declared.forests.Edge.{Edge}
-use Rattle.mode_forests.specs.declared.forests.ModeTree.{ModeTree}
+use Rattle.mode_trees.specs.Ways.{OwnTheirWays}
+use Rattle.mode_trees.specs.declared.forests.Edge.{Edge}
+use Rattle.mode_trees.specs.declared.forests.ModeTree.{ModeTree}
 use Rattle.text_pieces.specs.WayLabels.{way_label}
 use Rattle.cut_text.specs.Printed.{HaveOneWay, AreOfEdges, HasEdge, edges_of, events_text}
 use Rattle.cut_text.specs.Tables.{AreWaysOf, texts_at}

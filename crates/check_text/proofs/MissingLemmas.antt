@@ -10,7 +10,7 @@ use Rattle.ar_firing.specs.Forest.{ModeTree}
 use Rattle.ar_firing.proofs.LeastSets.{within_then}
 use Rattle.ar_meaning.specs.Runs.{Label}
 use Rattle.gts_core.specs.declared.system.GtsParts.{GtsParts}
-use Rattle.mode_forests.specs.declared.forests.Edge.{Edge}
+use Rattle.mode_trees.specs.declared.forests.Edge.{Edge}
 use Rattle.min_cuts.specs.Lines.{line_from, IsInFiringOrder, AreInFiringOrder}
 use Rattle.cut_text.specs.Printed.{events_text}
 use Rattle.cut_check.specs.Verdicts.{IsListed}

@@ -9,8 +9,8 @@ use Rattle.ar_meaning.specs.Systems.{System}
 use Rattle.ar_meaning.specs.Runs.{Label}
 use Rattle.gts_core.specs.declared.bound.Chain.{Chain}
 use Rattle.gts_core.specs.declared.system.GtsParts.{GtsParts}
-use Rattle.script_lines.specs.Chains.{cut_of}
-use Rattle.script_lines.specs.CutLists.{CutLine}
+use Rattle.job_inputs.specs.Chains.{cut_of}
+use Rattle.job_inputs.specs.CutLists.{CutLine}
 use Rattle.cut_check.specs.Flat.{Tells, IsVerdict}
 use Rattle.cut_check.specs.Verdicts.{Said, IsSaid}
 use Rattle.cut_check.specs.declared.checking.Verdict.{Verdict}

@@ -8,7 +8,7 @@ use Rattle.domains.specs.declared.Value.{Value}
 use Rattle.typed_expr.specs.declared.expr.Expr.{Expr}
 use Rattle.ar_meaning.specs.Systems.{System}
 use Rattle.ar_meaning.specs.TraceText.{Naming}
-use Rattle.script_lines.specs.CutLists.{CutLine}
+use Rattle.job_inputs.specs.CutLists.{CutLine}
 use Rattle.cut_check.specs.Verdicts.{Said, IsGood, Fails, Holds, IsSaid, IsMissing, IsRight, AreTheCuts}
 use Rattle.cut_check.proofs.LawLemmas.{said_once, right_cuts, cuts_right}
 use Rattle.check_text.specs.Texts.{IsCheckText, EndsYes, lines_in, all_good, is_good, is_none, last_line, said_lines, missing_lines}

@@ -6,7 +6,7 @@ use Rattle.ar_meaning.specs.Runs.{Label}
 use Rattle.eq_core.specs.Values.{has_event}
 use Rattle.gts_core.specs.declared.bound.Chain.{Chain}
 use Rattle.gts_core.specs.declared.system.GtsParts.{GtsParts}
-use Rattle.mode_forests.specs.declared.forests.Edge.{Edge}
+use Rattle.mode_trees.specs.declared.forests.Edge.{Edge}
 use Rattle.cut_text.specs.Printed.{events_text}
 use Rattle.cut_text.specs.Tables.{texts_at}
 use Rattle.cut_text.specs.Texts.{braced}

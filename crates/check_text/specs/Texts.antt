@@ -9,7 +9,7 @@ use Rattle.ar_meaning.specs.Runs.{Label}
 use Rattle.ar_meaning.specs.TraceText.{Naming}
 use Rattle.ar_firing.specs.Forest.{IsLine}
 use Rattle.ar_firing.specs.Listed.{AreListed}
-use Rattle.script_lines.specs.CutLists.{CutLine}
+use Rattle.job_inputs.specs.CutLists.{CutLine}
 use Rattle.cut_text.specs.Texts.{labels_text}
 use Rattle.cut_check.specs.Verdicts.{Said, IsGood, Fails, Holds, IsSaid, IsMissing}
 

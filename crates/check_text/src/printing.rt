@@ -3,9 +3,9 @@
 ghost use Rattle.std.specs.Prelude.{◌≡◌, ◌&&◌, length, List, OnOk};
 ghost use Rattle.ar_io.specs.Writing.{Writes};
 ghost use Rattle.ar_meaning.specs.Runs.{Label};
-ghost use Rattle.mode_forests.specs.Ways.{OwnTheirWays};
+ghost use Rattle.mode_trees.specs.Ways.{OwnTheirWays};
 ghost use Rattle.min_cuts.specs.Kept.{numbers};
-ghost use Rattle.script_lines.specs.Chains.{HaveKnownWays};
+ghost use Rattle.job_inputs.specs.Chains.{HaveKnownWays};
 ghost use Rattle.cut_check.specs.LineSets.{AreLineSets, AreSomeLineSets, AreEventNumbers};
 ghost use Rattle.cut_check.specs.LineSets.{HaveEventNumbers};
 ghost use Rattle.cut_text.specs.Answers.{Prints};
@@ -21,7 +21,7 @@ use cut_check::{LineSets, Verdict, line_sets};
 use cut_text::{PrintFault, event_ways, write_set};
 use gts_core::{Chain, Gts};
 use min_cuts::Lister;
-use mode_forests::Forest;
+use mode_trees::Forest;
 use std::alloc::Global;
 use text_pieces::pieces::{number, put};
 

@@ -8,7 +8,7 @@ use Rattle.ar_base.proofs.Standing.{one_here, stands_map, one_none, one_split, o
 use Rattle.ar_meaning.specs.Runs.{Label}
 use Rattle.gts_core.specs.declared.bound.Chain.{Chain}
 use Rattle.gts_core.specs.declared.system.GtsParts.{GtsParts}
-use Rattle.script_lines.specs.Chains.{labels_of}
+use Rattle.job_inputs.specs.Chains.{labels_of}
 use Rattle.text_pieces.specs.WayLabels.{label_of}
 use Rattle.cut_check.specs.Flat.{chain_lines, numbers_of}
 use Rattle.cut_check.specs.Verdicts.{events_of, IsListed}

@@ -16,8 +16,8 @@ use Rattle.gts_core.specs.declared.system.Event.{Event}
 use Rattle.gts_core.specs.declared.system.GtsParts.{GtsParts}
 use Rattle.gts_core.specs.declared.system.Way.{Way}
 use Rattle.gts_core.proofs.Tests.{and_answer, turned_answer}
-use Rattle.script_lines.specs.Chains.{labels_of, HaveKnownWays}
-use Rattle.script_lines.specs.CutReads.{AreKnownWays}
+use Rattle.job_inputs.specs.Chains.{labels_of, HaveKnownWays}
+use Rattle.job_inputs.specs.CutReads.{AreKnownWays}
 use Rattle.text_pieces.specs.WayLabels.{label_of, label_found}
 use Rattle.cut_check.specs.Flat.{chain_lines}
 use Rattle.cut_check.specs.Rows.{IsOpenEvent, AreOpenEvents, AreVisible, IsFit, IsFreshEvent, IsRow, AreRows, HaveBits, AreWide}

@@ -33,8 +33,8 @@ use Rattle.gts_core.specs.declared.bound.Chain.{Chain}
 use Rattle.gts_core.specs.declared.system.GtsParts.{GtsParts}
 use Rattle.gts_core.specs.declared.system.Observer.{Observer}
 use Rattle.gts_core.proofs.Reading.{yielded_value, value_yielded}
-use Rattle.script_lines.specs.Chains.{labels_of}
-use Rattle.script_lines.specs.CutReads.{AreKnownWays}
+use Rattle.job_inputs.specs.Chains.{labels_of}
+use Rattle.job_inputs.specs.CutReads.{AreKnownWays}
 use Rattle.text_pieces.specs.WayLabels.{label_of}
 use Rattle.text_pieces.proofs.Ways.{way_named}
 use Rattle.flow_propagate.specs.declared.propagation.PropagateFault.{PropagateFault}

@@ -8,7 +8,7 @@ use Rattle.ar_meaning.specs.Systems.{System}
 use Rattle.ar_meaning.specs.Runs.{Label}
 use Rattle.gts_core.specs.declared.bound.Chain.{Chain}
 use Rattle.gts_core.specs.declared.system.GtsParts.{GtsParts}
-use Rattle.script_lines.specs.Chains.{labels_of}
+use Rattle.job_inputs.specs.Chains.{labels_of}
 use Rattle.cut_check.specs.Verdicts.{Said, IsGood, Fails, Holds, IsSaid}
 use Rattle.cut_check.specs.declared.checking.Verdict.{Verdict}
 use Rattle.cut_check.specs.declared.checking.Verdict.TheVariants as verdict

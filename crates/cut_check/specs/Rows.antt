@@ -7,7 +7,7 @@ use Rattle.flow_blocks.specs.Bits.{IsSet, words_for}
 use Rattle.gts_core.specs.declared.bound.Chain.{Chain}
 use Rattle.gts_core.specs.declared.system.Event.{Event}
 use Rattle.gts_core.specs.declared.system.GtsParts.{GtsParts}
-use Rattle.script_lines.specs.Chains.{labels_of}
+use Rattle.job_inputs.specs.Chains.{labels_of}
 use Rattle.cut_check.specs.Verdicts.{events_of}
 use Rattle.cut_check.specs.declared.rows.Row.{Row}
 

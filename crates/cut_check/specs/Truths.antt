@@ -10,7 +10,7 @@ use Rattle.ar_meaning.specs.Steps.{Step, Next}
 use Rattle.ar_meaning.specs.Systems.{System, Way}
 use Rattle.ar_firing.specs.Fragment.{IsOpen}
 use Rattle.gts_core.specs.declared.system.GtsParts.{GtsParts}
-use Rattle.script_lines.specs.Chains.{labels_of}
+use Rattle.job_inputs.specs.Chains.{labels_of}
 use Rattle.stepper.specs.Steps.{Standing}
 use Rattle.cut_check.specs.Verdicts.{IsTrueLine}
 

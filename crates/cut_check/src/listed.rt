@@ -4,8 +4,8 @@ ghost use Rattle.std.specs.Prelude.{◌<◌, length};
 ghost use Rattle.ar_base.specs.Lists.{IsOneOf};
 ghost use Rattle.ar_base.specs.Sets.{Within};
 ghost use Rattle.ar_meaning.specs.Found.{IsAnswer};
-ghost use Rattle.script_lines.specs.Chains.{labels_of, HaveKnownWays};
-ghost use Rattle.script_lines.specs.CutReads.{AreKnownWays};
+ghost use Rattle.job_inputs.specs.Chains.{labels_of, HaveKnownWays};
+ghost use Rattle.job_inputs.specs.CutReads.{AreKnownWays};
 ghost use Rattle.cut_check.specs.Flat.{chain_lines, numbers_of};
 ghost use Rattle.cut_check.specs.Verdicts.{events_of, IsListed};
 

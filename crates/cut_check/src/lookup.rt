@@ -6,7 +6,7 @@ ghost use Rattle.ar_meaning.specs.Found.{IsAnswer};
 ghost use Rattle.ar_meaning.specs.Runs.{Label};
 ghost use Rattle.flow_blocks.specs.Bits.{IsSet};
 ghost use Rattle.gts_core.specs.declared.system.GtsParts.{GtsParts as TheParts};
-ghost use Rattle.script_lines.specs.Chains.{HaveKnownWays};
+ghost use Rattle.job_inputs.specs.Chains.{HaveKnownWays};
 ghost use Rattle.cut_check.specs.Flat.{chain_lines, numbers_of};
 ghost use Rattle.cut_check.specs.LineSets.{AreLineSets, HasRoom};
 ghost use Rattle.cut_check.specs.Rows.{HaveBits};

@@ -4,9 +4,9 @@ ghost use Rattle.std.specs.Prelude.{◌≡◌, ◌+◌, ◌/◌, ◌<◌, ◌⊎
 ghost use Rattle.ar_meaning.specs.Found.{IsAnswer};
 ghost use Rattle.lane_rows.specs.Rows.{IsSet, words_for};
 ghost use Rattle.gts_core.specs.Sound.{IsSound};
-ghost use Rattle.script_lines.specs.Chains.{labels_of, HaveKnownWays};
-ghost use Rattle.script_lines.specs.CutReads.{AreKnownWays};
-ghost use Rattle.event_lists.specs.Naming.{AreEventsOf};
+ghost use Rattle.job_inputs.specs.Chains.{labels_of, HaveKnownWays};
+ghost use Rattle.job_inputs.specs.CutReads.{AreKnownWays};
+ghost use Rattle.job_inputs.specs.Naming.{AreEventsOf};
 ghost use Rattle.cut_check.specs.Flat.{numbers_of};
 ghost use Rattle.cut_check.specs.Rows.{AreOpenEvents, AreVisible, IsFreshEvent, IsRow, AreRows};
 

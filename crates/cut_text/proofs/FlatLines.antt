@@ -17,10 +17,10 @@ use Rattle.ar_firing.specs.Trees.{AreTrees}
 use Rattle.ar_firing.proofs.Shapes.{are_trees}
 use Rattle.gts_core.specs.declared.system.GtsParts.{GtsParts}
 use Rattle.gts_core.specs.declared.system.Way.{Way}
-use Rattle.mode_forests.specs.Views.{row_of, tree_of, number_in, number_of_found}
-use Rattle.mode_forests.specs.Ways.{HasOwnWay, OwnTheirWays}
-use Rattle.mode_forests.specs.declared.forests.Edge as edges
-use Rattle.mode_forests.specs.declared.forests.ModeTree as code
+use Rattle.mode_trees.specs.Views.{row_of, tree_of, number_in, number_of_found}
+use Rattle.mode_trees.specs.Ways.{HasOwnWay, OwnTheirWays}
+use Rattle.mode_trees.specs.declared.forests.Edge as edges
+use Rattle.mode_trees.specs.declared.forests.ModeTree as code
 use Rattle.firable_families.specs.Firable.{IsFirableOf}
 use Rattle.min_cuts.specs.Lines.{line_from, IsInFiringOrder}
 use Rattle.text_pieces.specs.WayLabels.{label_found, label_of}

@@ -11,9 +11,9 @@ use Rattle.ar_meaning.specs.TraceText.{flow_fault_text}
 use Rattle.ar_firing.specs.Cuts.{Conflicts}
 use Rattle.gts_flatten.specs.Flat.{naming_of_parts}
 use Rattle.gts_core.specs.declared.system.GtsParts.{GtsParts}
-use Rattle.mode_forests.specs.Ways.{OwnTheirWays}
-use Rattle.mode_forests.specs.declared.forests.Edge.{Edge}
-use Rattle.mode_forests.specs.declared.forests.ModeTree.{ModeTree}
+use Rattle.mode_trees.specs.Ways.{OwnTheirWays}
+use Rattle.mode_trees.specs.declared.forests.Edge.{Edge}
+use Rattle.mode_trees.specs.declared.forests.ModeTree.{ModeTree}
 use Rattle.text_pieces.specs.WayLabels.{label_of, way_label}
 use Rattle.cut_text.specs.Printed.{edges_of, way_in, labels_in, sets_text, conflict_text, HaveOneWay, HasEdge, AreOfEdges}
 use Rattle.cut_text.specs.Tables.{AreWaysOf, way_found, way_at, texts_at, labels_at, lines_at, HasWay, AllHaveWays}

@@ -1,10 +1,14 @@
-pub mod Pieces
-pub mod TableLemmas
-mod Firing
-mod Fault
-pub mod Known
 pub mod Answering
-pub mod Relabelled
-pub mod InSystem
+mod EdgeEvents
+mod Fault
+mod Firing
 pub mod FlatLines
+mod ForestPieces
+pub mod InSystem
+pub mod Known
+mod LiveThere
+pub mod Pieces
+pub mod Relabelled
+mod SameLines
 pub mod Source
+pub mod TableLemmas

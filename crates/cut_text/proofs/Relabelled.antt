@@ -8,9 +8,9 @@ use Rattle.ar_meaning.specs.Runs.{Label}
 use Rattle.ar_firing.specs.Forest.{Row}
 use Rattle.ar_firing.specs.Forest as firing
 use Rattle.ar_firing.specs.Trees.{IsTree, AreTrees}
-use Rattle.mode_forests.specs.Views.{row_of, tree_of}
-use Rattle.mode_forests.specs.declared.forests.Edge.{Edge}
-use Rattle.mode_forests.specs.declared.forests.ModeTree.{ModeTree}
+use Rattle.mode_trees.specs.Views.{row_of, tree_of}
+use Rattle.mode_trees.specs.declared.forests.Edge.{Edge}
+use Rattle.mode_trees.specs.declared.forests.ModeTree.{ModeTree}
 use Rattle.firable_families.specs.Firable.{LeadsTo, IsFirableOf}
 use Rattle.firable_families.specs.Firable.LeadsTo.{root, edge}
 use Rattle.min_cuts.specs.Lines.{line_from, IsInFiringOrder, AreInFiringOrder}

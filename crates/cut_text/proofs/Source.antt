@@ -33,9 +33,9 @@ use Rattle.gts_core.proofs.Viewing.{keyed_by}
 use Rattle.gts_flatten.specs.Elaborating.{Elaborated}
 use Rattle.gts_flatten.specs.Flat.{naming_of, naming_of_parts}
 use Rattle.hierarchy.specs.Units.{Thing}
-use Rattle.mode_forests.specs.Views.{trees_of}
-use Rattle.mode_forests.specs.declared.forests.Edge.{Edge}
-use Rattle.mode_forests.specs.declared.forests.Forest.{Forest}
+use Rattle.mode_trees.specs.Views.{trees_of}
+use Rattle.mode_trees.specs.declared.forests.Edge.{Edge}
+use Rattle.mode_trees.specs.declared.forests.Forest.{Forest}
 use Rattle.min_cuts.specs.Lines.{IsInFiringOrder, AreInFiringOrder}
 use Rattle.min_cuts.specs.Sizes.{count}
 use Rattle.text_pieces.specs.WayLabels.{label_of, way_label}

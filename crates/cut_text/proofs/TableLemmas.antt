@@ -8,9 +8,9 @@ use Rattle.ar_base.proofs.Standing.{one_cases, one_first, one_rest, one_here, on
 use Rattle.ar_base.proofs.Items.{stands_set}
 use Rattle.gts_core.specs.Sound.{IsSound}
 use Rattle.gts_core.specs.declared.system.GtsParts.{GtsParts}
-use Rattle.mode_forests.specs.Ways.{HasOwnWay, OwnTheirWays}
-use Rattle.mode_forests.specs.declared.forests.Edge.{Edge}
-use Rattle.mode_forests.specs.declared.forests.ModeTree.{ModeTree}
+use Rattle.mode_trees.specs.Ways.{HasOwnWay, OwnTheirWays}
+use Rattle.mode_trees.specs.declared.forests.Edge.{Edge}
+use Rattle.mode_trees.specs.declared.forests.ModeTree.{ModeTree}
 use Rattle.cut_text.specs.Printed.{edges_of, HaveOneWay}
 use Rattle.cut_text.specs.Tables.{AreWaysOf, with_ways}
 

@@ -1,4 +1,6 @@
-pub mod Texts
-pub mod Printed
 pub mod Answers
+pub mod ForestPrinted
+pub mod ForestTexts
+pub mod Printed
 pub mod Tables
+pub mod Texts

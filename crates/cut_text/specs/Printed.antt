@@ -15,11 +15,11 @@ use Rattle.gts_flatten.specs.Elaborating.{Elaborated}
 use Rattle.gts_flatten.specs.Flat.{IsFlat, naming_of_parts}
 use Rattle.hierarchy.specs.Units.{Thing}
 use Rattle.hierarchy.specs.Listing.{variables}
-use Rattle.mode_forests.specs.Views.{trees_of, number_in}
-use Rattle.mode_forests.specs.Ways.{OwnTheirWays}
-use Rattle.mode_forests.specs.declared.forests.Edge.{Edge}
-use Rattle.mode_forests.specs.declared.forests.ModeTree.{ModeTree}
-use Rattle.mode_forests.specs.declared.forests.Forest.{Forest}
+use Rattle.mode_trees.specs.Views.{trees_of, number_in}
+use Rattle.mode_trees.specs.Ways.{OwnTheirWays}
+use Rattle.mode_trees.specs.declared.forests.Edge.{Edge}
+use Rattle.mode_trees.specs.declared.forests.ModeTree.{ModeTree}
+use Rattle.mode_trees.specs.declared.forests.Forest.{Forest}
 use Rattle.text_pieces.specs.WayLabels.{label_of, way_label}
 use Rattle.cut_text.specs.Texts.{braced, count_line, fault_line}
 

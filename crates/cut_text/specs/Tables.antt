@@ -8,7 +8,7 @@ use Rattle.ar_meaning.specs.Runs.{Label}
 use Rattle.flow_propagate.specs.Answers.{fault_of}
 use Rattle.flow_propagate.specs.declared.propagation.FlowFault.{FlowFault as FoundFault}
 use Rattle.gts_core.specs.declared.system.GtsParts.{GtsParts}
-use Rattle.mode_forests.specs.declared.forests.Edge.{Edge}
+use Rattle.mode_trees.specs.declared.forests.Edge.{Edge}
 use Rattle.stepper.specs.declared.faults.StepFault.{StepFault}
 use Rattle.stepper.specs.declared.faults.StepFault.TheVariants as step
 use Rattle.ar_base.specs.declared.faults.Memory.{Memory}

@@ -2,14 +2,14 @@
 
 ghost use Rattle.std.specs.Prelude.{◌≡◌, ◌<◌, length, IfOk};
 ghost use Rattle.ar_base.specs.Lists.{IsOneOf};
-ghost use Rattle.mode_forests.specs.declared.forests.Edge.{Edge as TheEdge};
-ghost use Rattle.mode_forests.specs.Ways.{OwnTheirWays};
+ghost use Rattle.mode_trees.specs.declared.forests.Edge.{Edge as TheEdge};
+ghost use Rattle.mode_trees.specs.Ways.{OwnTheirWays};
 ghost use Rattle.cut_text.specs.Printed.{edges_of, HaveOneWay};
 ghost use Rattle.cut_text.specs.Tables.{AreWaysOf, with_ways};
 
 use ar_base::{Memory, WayId};
 use gts_core::Gts;
-use mode_forests::{Edge, Forest};
+use mode_trees::{Edge, Forest};
 use std::alloc::Global;
 
 /// For each event that has an edge its way; for another one, some way.

@@ -7,10 +7,10 @@ use Rattle.domains.specs.declared.Value.{Value}
 use Rattle.ar_meaning.specs.Runs.{Label}
 use Rattle.ar_firing.specs.Forest.{Row, ModeTree}
 use Rattle.ar_firing.specs.Trees.{IsTree, AreTrees, AreApart}
-use Rattle.mode_forests.specs.declared.forests.Edge.{Edge}
-use Rattle.mode_forests.specs.declared.forests.ModeTree as flat
-use Rattle.mode_forests.specs.declared.forests.Forest.{Forest}
-use Rattle.mode_forests.specs.Views.{row_of, tree_of, trees_of}
+use Rattle.mode_trees.specs.declared.forests.Edge.{Edge}
+use Rattle.mode_trees.specs.declared.forests.ModeTree as flat
+use Rattle.mode_trees.specs.declared.forests.Forest.{Forest}
+use Rattle.mode_trees.specs.Views.{row_of, tree_of, trees_of}
 use Rattle.firable_families.specs.Firable.{LeadsTo, root, edge, IsFirableOf}
 use Rattle.firable_families.proofs.Trees.{fore}
 

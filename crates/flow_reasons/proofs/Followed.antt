@@ -9,9 +9,9 @@ use Rattle.domains.specs.declared.Value.{Value}
 use Rattle.typed_expr.specs.Mentions.{Mentions}
 use Rattle.typed_expr.specs.declared.expr.Expr.{Expr, out-Expr}
 use Rattle.ar_meaning.specs.Systems as s
-use Rattle.flow_rounds.specs.Reasons.{IsReason, derived, reset, AreReasonsFrom, AreReasons, none, state, flow, InCone, named, rested_on, IsCone}
-use Rattle.flow_rounds.specs.Reasons as rounds
-use Rattle.flow_rounds.proofs.Standing.{reason_at}
+use Rattle.flow_reasons.specs.Reasons.{IsReason, derived, reset, AreReasonsFrom, AreReasons, none, state, flow, InCone, named, rested_on, IsCone}
+use Rattle.flow_reasons.specs.Reasons as rounds
+use Rattle.flow_reasons.proofs.RoundStanding.{reason_at}
 use Rattle.gts_core.specs.Sound.{IsSound}
 use Rattle.gts_core.specs.View.{net_of, numbered, variable_of}
 use Rattle.gts_core.specs.declared.system.Observer.{Observer}

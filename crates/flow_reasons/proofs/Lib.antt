@@ -1,13 +1,19 @@
-mod Placing
-mod Knowing
-mod Gathering
-mod Readers
-mod Marking
-mod Standing
+pub mod Ascending
 mod Counting
-mod Rounding
-mod RestRows
-mod Totals
-mod ReasonList
-mod SeenLists
 mod Followed
+mod Gathering
+pub mod ImageRounds
+mod Knowing
+mod Marking
+mod Placing
+mod Readers
+mod ReasonList
+mod RestRows
+pub mod RoundRounding
+pub mod RoundStanding
+pub mod RoundTotals
+mod Rounding
+mod SeenLists
+mod Standing
+pub mod Sufficing
+mod Totals

@@ -11,10 +11,10 @@ use Rattle.ar_meaning.specs.Systems as s
 use Rattle.ar_meaning.specs.Dependence.{Names}
 use Rattle.ar_meaning.specs.Facts.{FactOf}
 use Rattle.ar_meaning.proofs.ByNumber.{given_from}
-use Rattle.flow_rounds.specs.Rounds.{Round}
-use Rattle.flow_rounds.specs.Reasons.{IsNamedFact, RestsOn, IsReason, derived, reset, AreReasonsFrom, AreReasons, none, state, flow}
-use Rattle.flow_rounds.specs.Reasons as rounds
-use Rattle.flow_rounds.proofs.Rounding.{round_grows, round_fact}
+use Rattle.flow_reasons.specs.Rounds.{Round}
+use Rattle.flow_reasons.specs.Reasons.{IsNamedFact, RestsOn, IsReason, derived, reset, AreReasonsFrom, AreReasons, none, state, flow}
+use Rattle.flow_reasons.specs.Reasons as rounds
+use Rattle.flow_reasons.proofs.RoundRounding.{round_grows, round_fact}
 use Rattle.gts_core.specs.Sound.{IsSound}
 use Rattle.gts_core.specs.View.{net_of, assign_of, variable_of, variables_from}
 use Rattle.gts_core.specs.declared.system.Variable.{Variable}

@@ -14,8 +14,8 @@ use Rattle.ar_meaning.proofs.ByNumber.{given_from}
 use Rattle.ar_meaning.proofs.Dependence.{passes_named}
 use Rattle.ar_meaning.proofs.Least.{least, passes_more}
 use Rattle.ar_meaning.proofs.Outcomes.{one_told}
-use Rattle.flow_rounds.specs.Rounds.{Round, Adds}
-use Rattle.flow_rounds.proofs.Rounding.{round_grows, round_fact, added_fact}
+use Rattle.flow_reasons.specs.Rounds.{Round, Adds}
+use Rattle.flow_reasons.proofs.RoundRounding.{round_grows, round_fact, added_fact}
 use Rattle.gts_core.specs.Sound.{IsSound}
 use Rattle.gts_core.specs.View.{net_of, assign_of, variable_of}
 use Rattle.gts_core.specs.declared.system.Assign.{Assign}

@@ -9,7 +9,7 @@ use Rattle.ar_meaning.specs.Facts.{FactOf, given, assigned, Allows}
 use Rattle.ar_meaning.specs.Dependence.{IsFlow}
 use Rattle.ar_meaning.specs.Flows.{HasTwo, Completes, Flows, Total, all_hold}
 use Rattle.ar_meaning.proofs.Completing.{as_state, as_known, as_reset, stays_at}
-use Rattle.flow_rounds.proofs.Standing.{no_two, one_fact}
+use Rattle.flow_reasons.proofs.RoundStanding.{no_two, one_fact}
 use Rattle.gts_core.specs.Sound.{IsSound}
 use Rattle.gts_core.specs.View.{net_of, variable_of}
 use Rattle.gts_core.specs.declared.system.Assign.{Assign}

@@ -8,8 +8,8 @@ use Rattle.gts_core.specs.Sound.{IsSound}
 use Rattle.gts_core.specs.declared.system.GtsParts.{GtsParts}
 use Rattle.flow_propagate.specs.Answers.{IsState}
 use Rattle.flow_propagate.proofs.Determining.{flows_total}
-use Rattle.flow_rounds.proofs.Totals.{states_of, reasons_same}
-use Rattle.flow_rounds.specs.Reasons.{AreReasons}
+use Rattle.flow_reasons.proofs.RoundTotals.{states_of, reasons_same}
+use Rattle.flow_reasons.specs.Reasons.{AreReasons}
 use Rattle.flow_reasons.specs.Answers.{reasons_of, AreReasonsOf}
 use Rattle.flow_reasons.specs.Marks.{IsStanding}
 use Rattle.flow_reasons.specs.declared.reason.Reason.{Reason}

@@ -7,8 +7,8 @@ use Rattle.domains.specs.declared.Value.{Value}
 use Rattle.ar_meaning.specs.Systems.{Net}
 use Rattle.ar_meaning.specs.Flows.{Flows, Fails}
 use Rattle.ar_firing.specs.Operands.{HasFlows}
-use Rattle.flow_rounds.specs.Reasons.{AreReasons}
-use Rattle.flow_rounds.specs.Reasons as rounds
+use Rattle.flow_reasons.specs.Reasons.{AreReasons}
+use Rattle.flow_reasons.specs.Reasons as rounds
 use Rattle.gts_core.specs.View.{net_of}
 use Rattle.gts_core.specs.declared.system.GtsParts.{GtsParts}
 use Rattle.flow_propagate.specs.Answers.{fault_of}

@@ -5,7 +5,7 @@ use Rattle.ar_base.specs.Numbers.{VarId}
 use Rattle.ar_base.specs.Sets.{Ascends}
 use Rattle.typed_expr.specs.Mentions.{Mentions}
 use Rattle.typed_expr.specs.declared.expr.Expr.{Expr, out-Expr}
-use Rattle.flow_rounds.specs.Reasons as rounds
+use Rattle.flow_reasons.specs.Reasons as rounds
 use Rattle.flow_propagate.specs.Marks.{AreMarked}
 
 -- how many variables were not seen

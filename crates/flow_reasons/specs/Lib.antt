@@ -1,5 +1,7 @@
 pub mod Answers
-pub mod Marks
 pub mod Bringing
-pub mod Resting
 pub mod Cones
+pub mod Marks
+pub mod Reasons
+pub mod Resting
+pub mod Rounds

@@ -4,7 +4,7 @@ use Rattle.ar_base.specs.Lists.{Stands, IsFirst}
 use Rattle.domains.specs.declared.Value.{Value}
 use Rattle.ar_meaning.specs.Facts.{FactOf}
 use Rattle.ar_meaning.specs.Flows.{Flows, Total}
-use Rattle.flow_rounds.specs.Rounds.{Round, Adds}
+use Rattle.flow_reasons.specs.Rounds.{Round, Adds}
 use Rattle.gts_core.specs.View.{net_of}
 use Rattle.gts_core.specs.Readings.{IsTotal, values_at}
 use Rattle.gts_core.specs.declared.system.Variable.{Variable}

@@ -5,7 +5,7 @@ use Rattle.ar_base.specs.Lists.{Stands, IsOneOf}
 use Rattle.ar_base.specs.Numbers.{VarId, AssignId}
 use Rattle.ar_base.specs.Sets.{Ascends}
 use Rattle.domains.specs.declared.Value.{Value}
-use Rattle.flow_rounds.specs.Reasons as rounds
+use Rattle.flow_reasons.specs.Reasons as rounds
 use Rattle.gts_core.specs.declared.system.GtsParts.{GtsParts}
 use Rattle.flow_propagate.specs.Plan.{AreReaders}
 use Rattle.flow_reasons.specs.Answers.{numbers_of}

@@ -1,10 +1,11 @@
-//! Why each flow of a state has its value: the round in which its fact comes, the assignment that adds it and the variables
-//! that this rests on; and the variables that the value of an observer rests on.
+//! Why flows have their values: the rounds in which the facts of a state come, the assignment that adds each and the variables
+//! that it rests on, and the cone of an observer.
 #![tactic(auto)]
 
 mod bringing;
 mod cones;
 mod known;
+pub mod laws;
 mod listing;
 mod pairs;
 mod reason;

@@ -6,7 +6,7 @@ ghost use Rattle.gts_core.specs.Sound.{IsSound};
 ghost use Rattle.gts_core.specs.View.{net_of};
 ghost use Rattle.flow_propagate.specs.Answers.{IsState};
 ghost use Rattle.flow_propagate.specs.Plan.{AreReaders};
-ghost use Rattle.flow_rounds.specs.Reasons.{AreReasons};
+ghost use Rattle.flow_reasons.specs.Reasons.{AreReasons};
 ghost use Rattle.flow_reasons.specs.Answers.{reason_of, reasons_of, IsReasonsAnswer};
 ghost use Rattle.flow_reasons.specs.Marks.{IsStanding, AreLastMarks};
 ghost use Rattle.flow_reasons.specs.Resting.{HaveRests, reason_made};

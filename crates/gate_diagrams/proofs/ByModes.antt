@@ -21,9 +21,9 @@ use Rattle.mode_nodes.specs.Diagrams as modes
 use Rattle.mode_diagrams.specs.declared.trees.NumberedTree.{NumberedTree}
 use Rattle.mode_diagrams.specs.Trees.{edges_of}
 use Rattle.mode_diagrams.specs.Agreement.{Agrees, AreClosed}
-use Rattle.mode_numbers.specs.Numbers.{HasFewEdges, IsByModes}
-use Rattle.mode_families.specs.Sets.{AreSmall, HasSets, IsTrueFrom}
-use Rattle.mode_families.specs.declared.listing.Listed.{Listed}
+use Rattle.mode_diagrams.specs.Numbers.{HasFewEdges, IsByModes}
+use Rattle.mode_diagrams.specs.Sets.{AreSmall, HasSets, IsTrueFrom}
+use Rattle.mode_diagrams.specs.declared.listing.Listed.{Listed}
 use Rattle.gate_diagrams.specs.Needed.{family_at, own, named, IsNeeded, IsNeededByBoth, itself, NodesMay}
 use Rattle.gate_diagrams.specs.Needed.IsNeeded.{of_signed}
 use Rattle.gate_diagrams.specs.declared.answer.Drawn.{Drawn}

@@ -13,9 +13,9 @@ use Rattle.ar_meaning.specs.Runs.{Label}
 use Rattle.ar_firing.specs.Forest.{Row, ModeTree}
 use Rattle.ar_firing.specs.Listed.{AreListed}
 use Rattle.ar_firing.specs.Trees.{IsTree}
-use Rattle.mode_forests.specs.declared.forests.Edge.{Edge}
-use Rattle.mode_forests.specs.declared.forests.ModeTree.{ModeTree as Tree}
-use Rattle.mode_forests.specs.Views.{row_of, tree_of}
+use Rattle.mode_trees.specs.declared.forests.Edge.{Edge}
+use Rattle.mode_trees.specs.declared.forests.ModeTree.{ModeTree as Tree}
+use Rattle.mode_trees.specs.Views.{row_of, tree_of}
 use Rattle.zdd_families.specs.Families.{Family, same, has, union}
 use Rattle.zdd_families.specs.Sections.{IsCounted}
 use Rattle.zdd_families.proofs.Laws.{same-refl, same-true}

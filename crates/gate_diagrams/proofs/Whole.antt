@@ -5,9 +5,9 @@ use Rattle.std.proofs.lemmas.List.Elements.{All-nil}
 use Rattle.ar_firing.specs.Forest.{ModeTree}
 use Rattle.ar_firing.specs.Listed.{AreListed}
 use Rattle.ar_firing.specs.Trees.{AreApart}
-use Rattle.mode_forests.specs.declared.forests.ModeTree.{ModeTree as Tree}
-use Rattle.mode_forests.specs.declared.forests.Forest.{Forest}
-use Rattle.mode_forests.specs.Views.{tree_of, trees_of}
+use Rattle.mode_trees.specs.declared.forests.ModeTree.{ModeTree as Tree}
+use Rattle.mode_trees.specs.declared.forests.Forest.{Forest}
+use Rattle.mode_trees.specs.Views.{tree_of, trees_of}
 use Rattle.zdd_families.specs.Families.{Family}
 use Rattle.zdd_families.specs.Sections.{IsCounted, IsMoreThan}
 use Rattle.zdd_families.proofs.Sections.{IsMoreThan-weaker}

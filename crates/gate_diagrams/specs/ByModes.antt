@@ -9,8 +9,8 @@ use Rattle.zdd_nodes.specs.declared.NodeFault.TheVariants.{Full}
 use Rattle.eq_core.specs.Gates.{Operand, Gate, Table}
 use Rattle.firable_families.specs.Firable.{IsFirableOf}
 use Rattle.mode_diagrams.specs.declared.trees.NumberedTree.{NumberedTree}
-use Rattle.mode_numbers.specs.Numbers.{IsByModes}
-use Rattle.mode_families.specs.declared.listing.Listed.{Listed}
+use Rattle.mode_diagrams.specs.Numbers.{IsByModes}
+use Rattle.mode_diagrams.specs.declared.listing.Listed.{Listed}
 use Rattle.gate_diagrams.specs.Needed.{family_at, NodesMay}
 use Rattle.gate_diagrams.specs.Answers.{IsAnswer, AreNeeded, store_of}
 use Rattle.gate_diagrams.specs.declared.answer.Drawn.{Drawn}

@@ -3,7 +3,7 @@
 ghost use Rattle.std.specs.Prelude.{◌≡◌, ◌≤◌, IfOk, length};
 ghost use Rattle.ar_firing.specs.Listed.{AreListed};
 ghost use Rattle.ar_firing.specs.Trees.{AreTrees};
-ghost use Rattle.mode_forests.specs.Views.{trees_of};
+ghost use Rattle.mode_trees.specs.Views.{trees_of};
 ghost use Rattle.zdd_families.specs.Families.{Family as Sets};
 ghost use Rattle.eq_core.specs.Ordered.{IsOrderedTable};
 ghost use Rattle.eq_core.specs.Views.{table_of};
@@ -16,7 +16,7 @@ use crate::by_modes::by_modes;
 use crate::firable::firable_sets;
 use crate::paths::forest_paths;
 use eq_core::Equations;
-use mode_forests::Forest;
+use mode_trees::Forest;
 use std::alloc::Global;
 use zdd_nodes::NodeFault;
 use zdd_ops::Ops;

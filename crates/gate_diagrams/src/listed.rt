@@ -9,7 +9,7 @@ ghost use Rattle.eq_core.specs.Ordered.{AreOrdered};
 ghost use Rattle.eq_core.specs.Values.{IsBelow};
 ghost use Rattle.eq_core.specs.Views.{gate_of, operand_of};
 ghost use Rattle.mode_diagrams.specs.Trees.{AreNumbered, AreApart};
-ghost use Rattle.mode_numbers.specs.Numbers.{HasFewEdges};
+ghost use Rattle.mode_diagrams.specs.Numbers.{HasFewEdges};
 ghost use Rattle.gate_diagrams.specs.Needed.{family_at, IsNeeded};
 ghost use Rattle.gate_diagrams.specs.ByModes.{IsListed};
 
@@ -17,7 +17,7 @@ use crate::cone::cone;
 use ar_base::Memory;
 use eq_core::{Gate, Operand};
 use mode_diagrams::{NumberedTree, Undrawn, draw};
-use mode_families::{Listed, copied, list_sets};
+use mode_diagrams::{Listed, copied, list_sets};
 use mode_nodes::Diagrams;
 use std::alloc::Global;
 use zdd_nodes::{NodeFault, NodeId};

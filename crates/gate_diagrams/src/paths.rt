@@ -5,7 +5,7 @@ ghost use Rattle.ar_base.specs.Lists.{Stands};
 ghost use Rattle.ar_firing.specs.Forest.{ModeTree as Rows};
 ghost use Rattle.ar_firing.specs.Listed.{AreListed};
 ghost use Rattle.ar_firing.specs.Trees.{IsTree, AreTrees};
-ghost use Rattle.mode_forests.specs.Views.{row_of, tree_of};
+ghost use Rattle.mode_trees.specs.Views.{row_of, tree_of};
 ghost use Rattle.zdd_nodes.specs.Nodes.{family, IsNumber, IsSoundStore};
 ghost use Rattle.firable_families.specs.Firable.{IsPathSet};
 ghost use Rattle.firable_families.specs.Walk.{AreTreeFamilies};
@@ -14,7 +14,7 @@ ghost use Rattle.gate_diagrams.specs.Paths.{Extends, IsOneSet, IsWith, IsKnown, 
 
 use crate::modes::{Modes, number_of, put};
 use ar_base::EventId;
-use mode_forests::{Edge, ModeTree};
+use mode_trees::{Edge, ModeTree};
 use std::alloc::Global;
 use std::collections::HashMap;
 use zdd_nodes::{NodeFault, NodeId};

@@ -1,14 +1,16 @@
-mod Texts
-pub mod Numbering
-pub mod Viewing
-pub mod Systems
-mod Copying
 pub mod ActForms
-pub mod Tests
-pub mod Reading
-pub mod KindsRenamed
-pub mod SameDomains
-pub mod Lawfulness
 pub mod Added
+pub mod Allowing
+mod Copying
+mod Gathering
+pub mod KindsRenamed
+pub mod Lawfulness
 pub mod NamedVariables
 pub mod NamesNumbered
+pub mod Numbering
+pub mod Reading
+pub mod SameDomains
+pub mod Systems
+pub mod Tests
+mod Texts
+pub mod Viewing

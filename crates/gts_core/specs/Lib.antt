@@ -1,9 +1,10 @@
-pub mod View
-pub mod Sound
-pub mod Printed
-pub mod Copies
+pub mod Adding
 pub mod Bound
-pub mod Readings
+pub mod Copies
 pub mod Lawful
 pub mod Named
-pub mod Adding
+pub mod Printed
+pub mod Readings
+pub mod Rows
+pub mod Sound
+pub mod View

@@ -1,4 +1,5 @@
-//! Flat systems: variables, events with their ways, assertions and observers by number; what they mean, and their text.
+//! Flat systems: variables, events with their ways, assertions and observers by number; what they mean, and their text; and
+//! what a value of a variable may be, whatever the state.
 #![tactic(auto)]
 
 mod assigning;
@@ -11,6 +12,7 @@ mod names;
 mod pieces;
 mod print;
 mod readings;
+mod rows;
 mod system;
 
 pub use assigning::assignments;
@@ -19,4 +21,5 @@ pub use copies::{copy_domain, copy_expression};
 pub use gts::Gts;
 pub use names::{add_named, add_tests};
 pub use readings::{Assigned, are_met, is_met, value_in};
+pub use rows::{Domains, domains_of};
 pub use system::{Assign, Event, GtsParts, Observer, Valuation, Variable, Way, WayBody};

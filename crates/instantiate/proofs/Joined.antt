@@ -15,9 +15,9 @@ use Rattle.unit_walks.specs.Growing.{IsUnfolded}
 use Rattle.unit_walks.specs.Settling.{AreOutcomes}
 use Rattle.unit_walks.specs.Unfolding.{Unfolds, whole, Refuses, limit, memory}
 use Rattle.unit_walks.specs.declared.growing.Unfolded.{Unfolded as Found}
-use Rattle.unit_sizes.specs.Limits.{FitsLimits, AnswersLimits}
+use Rattle.unit_rules.specs.Limits.{FitsLimits, AnswersLimits}
 use Rattle.hierarchy.specs.declared.tree.Tree.{Tree}
-use Rattle.unit_things.specs.Values.{KeepsDeclarations}
+use Rattle.instantiate.specs.Values.{KeepsDeclarations}
 use Rattle.instantiate.specs.Unfolding.{Instantiates, IsTreeFor, unit_rules, unit_breaks, l8}
 use Rattle.instantiate.proofs.Ruled.{rule8}
 use Rattle.instantiate.specs.Settled.{AnswersRules, IsSettled}

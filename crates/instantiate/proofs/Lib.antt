@@ -1,2 +1,10 @@
-pub mod Ruled
+pub mod Domained
+pub mod InForce
 pub mod Joined
+pub mod Named
+pub mod Noded
+pub mod OneName
+pub mod Parametered
+pub mod Ruled
+pub mod SameTargets
+pub mod Upward

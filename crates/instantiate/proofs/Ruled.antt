@@ -14,8 +14,8 @@ use Rattle.class_table.proofs.FirstPlaces.{earliest_same}
 use Rattle.hierarchy.specs.Models.{RootedModel}
 use Rattle.hierarchy.specs.Units.{UnitPath}
 use Rattle.hierarchy.specs.Walks.{Nothing, Loops}
-use Rattle.unit_names.specs.Statements.{WalkEnds}
-use Rattle.unit_settings.specs.Rules.{BreaksDeclaration, BreaksSetting}
+use Rattle.unit_rules.specs.Statements.{WalkEnds}
+use Rattle.unit_rules.specs.Rules.{BreaksDeclaration, BreaksSetting}
 use Rattle.instantiate.specs.Unfolding.{Breaks, l6, l7, l8, l9, unit_rules}
 use Rattle.instantiate.specs.Settled.{AnswersRules}
 

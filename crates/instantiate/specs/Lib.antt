@@ -1,2 +1,4 @@
-pub mod Unfolding
+pub mod Nodes
 pub mod Settled
+pub mod Unfolding
+pub mod Values

@@ -10,9 +10,9 @@ use Rattle.hierarchy.specs.Listing.{Unfolded}
 use Rattle.hierarchy.specs.Tie.{IsTreeOf}
 use Rattle.hierarchy.specs.declared.tree.Tree.{Tree}
 use Rattle.unit_walks.specs.Unfolding.{Unfolds}
-use Rattle.unit_names.specs.Statements.{WalkEnds}
-use Rattle.unit_sizes.specs.Limits.{FitsLimits}
-use Rattle.unit_settings.specs.Rules.{BreaksDeclaration, BreaksSetting}
+use Rattle.unit_rules.specs.Statements.{WalkEnds}
+use Rattle.unit_rules.specs.Limits.{FitsLimits}
+use Rattle.unit_rules.specs.Rules.{BreaksDeclaration, BreaksSetting}
 
 -- rule n is broken at this place, where the main block has these units: a clone or an alias whose path names no unit,
 -- one whose walk loops, a declaration of variables without its one setting, a setting without a target or the later of

@@ -9,8 +9,8 @@ use ar_base::Memory;
 use class_table::Classes;
 use hierarchy::{Outline, Tree};
 use std::alloc::Global;
-use unit_names::name_units;
-use unit_things::{events, observers, parameters, variables};
+use unit_rules::name_units;
+use crate::{events, observers, parameters, variables};
 use unit_walks::Walks;
 
 /// The units of a main block, with what their names lead to.

@@ -11,7 +11,7 @@ use ar_base::RuleFault;
 use class_table::Classes;
 use hierarchy::Tree;
 use std::alloc::Global;
-use unit_sizes::fit;
+use unit_rules::fit;
 use unit_walks::{settle, units};
 
 // The units of the main block, where they are within the limits and keep the rules.

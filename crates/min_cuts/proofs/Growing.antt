@@ -2,9 +2,9 @@
 use Rattle.std.proofs.Common.{◌≡◌, ◌<◌, ℕ, ◌+◌, List, [], ◌∷◌, ◌++◌, map, length, take, get_or, Result, Ok, Err, is_ok, IsOk, if◌then◌else◌, true≢false, refl, sym, ap, ap₂, ◌∙◌, append_assoc, append-nil}
 use Rattle.std.proofs.lemmas.List.{map-append, take_more}
 use Rattle.ar_firing.specs.Forest.{ModeTree}
-use Rattle.mode_forests.specs.Views.{row_of, tree_of}
-use Rattle.mode_forests.specs.declared.forests.Edge.{Edge}
-use Rattle.mode_forests.specs.declared.forests.ModeTree.{ModeTree as TreeOfCode}
+use Rattle.mode_trees.specs.Views.{row_of, tree_of}
+use Rattle.mode_trees.specs.declared.forests.Edge.{Edge}
+use Rattle.mode_trees.specs.declared.forests.ModeTree.{ModeTree as TreeOfCode}
 use Rattle.min_cuts.specs.Kept.{edge_events}
 
 -- what a push that cannot fail leaves

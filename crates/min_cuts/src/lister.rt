@@ -3,7 +3,7 @@
 ghost use Rattle.std.specs.Prelude.{◌≡◌, ℕ, List, [], IfOk, IsOk, true};
 ghost use Rattle.std.specs.Borrow.{sem};
 ghost use Rattle.ar_firing.specs.Trees.{AreTrees};
-ghost use Rattle.mode_forests.specs.Views.{trees_of};
+ghost use Rattle.mode_trees.specs.Views.{trees_of};
 ghost use Rattle.zdd_families.specs.Families.{has};
 ghost use Rattle.zdd_nodes.specs.Nodes.{family as family_of, IsNumber};
 ghost use Rattle.firable_families.specs.Firable.{IsFirableOf};
@@ -14,7 +14,7 @@ use crate::sizes::largest;
 use crate::steps::{Step, descend, retreat};
 use ar_base::{EventId, Memory};
 use gate_diagrams::Family;
-use mode_forests::Forest;
+use mode_trees::Forest;
 use std::alloc::Global;
 use std::marker::Model;
 use zdd_nodes::{NodeId, Store};

@@ -4,12 +4,12 @@ ghost use Rattle.std.specs.Prelude.{◌≡◌, ◌<◌, ◌≤◌, ◌++◌, ℕ
 ghost use Rattle.std.specs.Ordering.{nat_cmp};
 ghost use Rattle.std.specs.List.Sorted.{IsPermutation, IsSorted};
 ghost use Rattle.ar_base.specs.Lists.{Stands, AreDifferent};
-ghost use Rattle.mode_forests.specs.Views.{trees_of, row_of};
+ghost use Rattle.mode_trees.specs.Views.{trees_of, row_of};
 ghost use Rattle.min_cuts.specs.Kept.{numbers, taken, edge_events, ArePlaces};
 
 use crate::steps::Step;
 use ar_base::{EventId, Memory};
-use mode_forests::{Edge, Forest};
+use mode_trees::{Edge, Forest};
 use std::alloc::Global;
 
 /// The events of all edges, tree by tree.

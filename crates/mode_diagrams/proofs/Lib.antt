@@ -1,3 +1,12 @@
-pub mod Laws
+pub mod Copying
+pub mod Ends
+pub mod Firable
 pub mod Folding
+pub mod Growing
+pub mod Holding
+pub mod Laws
+pub mod Making
+pub mod Pathing
+pub mod Putting
+pub mod Stepping
 pub mod Tabling

@@ -1,2 +1,5 @@
-pub mod Trees
 pub mod Agreement
+pub mod Kept
+pub mod Numbers
+pub mod Sets
+pub mod Trees

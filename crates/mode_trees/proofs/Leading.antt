@@ -3,8 +3,8 @@ use Rattle.std.proofs.Common.{◌≡◌, ◌<◌, ◌≤◌, ◌+◌, ℕ, zero,
 use Rattle.ar_base.specs.Lists.{Stands, IsOneOf, AreDifferent}
 use Rattle.ar_base.proofs.Standing.{stands_one, stands_none, stands_map}
 use Rattle.domains.specs.declared.Value.{Value}
-use Rattle.mode_forests.specs.declared.forests.Edge.{Edge}
-use Rattle.mode_forests.proofs.Fewer.{no_more}
+use Rattle.mode_trees.specs.declared.forests.Edge.{Edge}
+use Rattle.mode_trees.proofs.Fewer.{no_more}
 use Rattle.mode_trees.specs.Paths.{EntersOnce, LeadTo, root, along, IsWithin}
 
 module _ (first : Value) (edges : List Edge) (once : EntersOnce first edges) where

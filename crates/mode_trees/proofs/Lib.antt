@@ -1,2 +1,3 @@
+pub mod Fewer
 mod Leading
 mod Nexts

@@ -5,7 +5,7 @@ use Rattle.ar_base.specs.Lists.{Stands}
 use Rattle.ar_base.proofs.Standing.{stands_one, stands_within, one_here, at_most}
 use Rattle.ar_base.proofs.Comparing.{low as low_of}
 use Rattle.domains.specs.declared.Value.{Value}
-use Rattle.mode_forests.specs.declared.forests.Edge.{Edge}
+use Rattle.mode_trees.specs.declared.forests.Edge.{Edge}
 use Rattle.mode_trees.specs.Below.{IsBelow, no_more, next}
 use Rattle.mode_trees.specs.Paths.{Leaves, IsNext, IsNextOrNone, earlier_of, GetsBelow}
 

@@ -1,2 +1,4 @@
 pub mod Below
 pub mod Paths
+pub mod Views
+pub mod Ways

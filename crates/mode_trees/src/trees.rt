@@ -3,13 +3,13 @@
 ghost use Rattle.std.specs.Prelude.{◌≡◌, ◌≤◌, ◌^◌, ◌∷◌, length, map, IfOk};
 ghost use Rattle.ar_base.specs.Lists.{AreDifferent};
 ghost use Rattle.ar_meaning.specs.Found.{IsAnswer};
-ghost use Rattle.mode_forests.specs.declared.forests.Edge.{Edge};
+ghost use Rattle.mode_trees.specs.declared.forests.Edge.{Edge};
 ghost use Rattle.mode_trees.specs.Below.{IsBelow};
 ghost use Rattle.mode_trees.specs.Paths.{IsWithin, Leaves, IsNextOrNone, earlier_of, GetsBelow};
 
 use ar_base::Memory;
 use domains::Value;
-use mode_forests::Edge;
+use crate::Edge;
 use std::alloc::Global;
 
 /// The edges of this list below the first mode, each before those below the mode that it enters, those that leave

@@ -21,11 +21,11 @@ use Rattle.ar_firing.proofs.OneListing.{ascending_same}
 use Rattle.flow_blocks.specs.Bits.{row_of}
 use Rattle.flow_blocks.proofs.RowLemmas.{row_set_same, row_set_other}
 use Rattle.gate_modules.specs.Shortened.{numbers}
-use Rattle.mode_forests.specs.declared.forests.Edge.{Edge}
+use Rattle.mode_trees.specs.declared.forests.Edge.{Edge}
 use Rattle.zdd_families.specs.Families.{holds}
 use Rattle.zdd_families.proofs.Ascending.{IsAscending, ascends_from}
 use Rattle.zdd_families.proofs.Members.{holds_law}
-use Rattle.mode_forests.specs.declared.forests.ModeTree.{ModeTree}
+use Rattle.mode_trees.specs.declared.forests.ModeTree.{ModeTree}
 use Rattle.cut_text.specs.Printed.{edges_of}
 use Rattle.module_text.specs.Arranged.{way_pieces, pieces_of}
 use Rattle.module_text.specs.declared.arranging.Line.{Line}

@@ -29,11 +29,11 @@ use Rattle.gts_flatten.specs.Elaborating.{Elaborated}
 use Rattle.gts_flatten.specs.Flat.{naming_of, naming_of_parts}
 use Rattle.hierarchy.specs.Paths.{unit_path}
 use Rattle.hierarchy.specs.Units.{Thing}
-use Rattle.mode_forests.specs.Views.{row_of, tree_of, trees_of, number_in, number_of_found}
-use Rattle.mode_forests.specs.Ways.{HasOwnWay, HaveOwnWays, OwnTheirWays}
-use Rattle.mode_forests.specs.declared.forests.Edge.{Edge}
-use Rattle.mode_forests.specs.declared.forests.Forest.{Forest}
-use Rattle.mode_forests.specs.declared.forests.ModeTree.{ModeTree}
+use Rattle.mode_trees.specs.Views.{row_of, tree_of, trees_of, number_in, number_of_found}
+use Rattle.mode_trees.specs.Ways.{HasOwnWay, HaveOwnWays, OwnTheirWays}
+use Rattle.mode_trees.specs.declared.forests.Edge.{Edge}
+use Rattle.mode_trees.specs.declared.forests.Forest.{Forest}
+use Rattle.mode_trees.specs.declared.forests.ModeTree.{ModeTree}
 use Rattle.text_pieces.specs.WayLabels.{label_found, label_of, way_label}
 use Rattle.text_pieces.proofs.Ways.{label_alike}
 use Rattle.zdd_families.specs.Families.{holds}

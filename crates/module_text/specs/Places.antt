@@ -4,7 +4,7 @@ use Rattle.std.specs.Global.{Global}
 use Rattle.ar_base.specs.Lists.{Stands, IsOneOf}
 use Rattle.ar_base.specs.Numbers.{WayId}
 use Rattle.flow_blocks.specs.Bits.{row_of}
-use Rattle.mode_forests.specs.declared.forests.Edge.{Edge}
+use Rattle.mode_trees.specs.declared.forests.Edge.{Edge}
 use Rattle.module_text.specs.declared.arranging.Piece.{Piece}
 use Rattle.module_text.specs.declared.arranging.Piece.TheVariants.{Way as AWay}
 use Rattle.module_text.specs.declared.places.EdgePlaces.{EdgePlaces}

@@ -3,8 +3,8 @@ use Rattle.std.specs.Prelude.{ℕ, List, ◌++◌, map, length}
 use Rattle.std.specs.List.{filter, flat_map}
 use Rattle.ar_base.specs.Texts.{line, text_at}
 use Rattle.gts_core.specs.declared.system.GtsParts.{GtsParts}
-use Rattle.mode_forests.specs.declared.forests.Edge.{Edge}
-use Rattle.mode_forests.specs.declared.forests.Forest.{Forest}
+use Rattle.mode_trees.specs.declared.forests.Edge.{Edge}
+use Rattle.mode_trees.specs.declared.forests.Forest.{Forest}
 use Rattle.text_pieces.specs.WayLabels.{way_label}
 use Rattle.zdd_families.specs.Families.{holds}
 use Rattle.cut_text.specs.Printed.{edges_of}

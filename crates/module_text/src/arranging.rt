@@ -3,7 +3,7 @@
 ghost use Rattle.std.specs.Prelude.{◌≡◌, ◌<◌, ◌++◌, ℕ, List, IfOk, OnOk, map, length};
 ghost use Rattle.ar_base.specs.Lists.{Along, IsOneOf};
 ghost use Rattle.gate_modules.specs.Shortened.{numbers};
-ghost use Rattle.mode_forests.specs.declared.forests.Edge.{Edge};
+ghost use Rattle.mode_trees.specs.declared.forests.Edge.{Edge};
 ghost use Rattle.module_text.specs.Arranged.{line_pieces, part_pieces, form_pieces, IsGroupOf};
 ghost use Rattle.module_text.specs.Arranged.{pieces_of, unit_pieces};
 ghost use Rattle.module_text.specs.Places.{ArePlacesOf, IsOfEdges, pieces_at};

@@ -13,7 +13,7 @@ ghost use Rattle.gts_flatten.specs.Elaborating.{Elaborated};
 ghost use Rattle.hierarchy.specs.Listing.{AreUnits};
 ghost use Rattle.hierarchy.specs.Models.{IsKept};
 ghost use Rattle.hierarchy.specs.Units.{Thing};
-ghost use Rattle.mode_forests.specs.declared.forests.Forest.{Forest as TheForest};
+ghost use Rattle.mode_trees.specs.declared.forests.Forest.{Forest as TheForest};
 ghost use Rattle.cut_text.specs.Printed.{things_of, IsForestOf};
 ghost use Rattle.gate_modules.specs.Choices.{StandFor};
 ghost use Rattle.gate_modules.specs.Shortened.{Shortens};

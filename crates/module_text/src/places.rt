@@ -6,11 +6,11 @@ ghost use Rattle.ar_base.specs.Sets.{Ascends};
 ghost use Rattle.cut_text.specs.Printed.{edges_of};
 ghost use Rattle.flow_blocks.specs.Bits.{row_of};
 ghost use Rattle.gate_modules.specs.Shortened.{numbers};
-ghost use Rattle.mode_forests.specs.declared.forests.Edge.{Edge as TheEdge};
+ghost use Rattle.mode_trees.specs.declared.forests.Edge.{Edge as TheEdge};
 ghost use Rattle.module_text.specs.Places.{ArePlacesOf, IsPlaced};
 
 use ar_base::{EventId, Memory, WayId};
-use mode_forests::{Edge, Forest};
+use mode_trees::{Edge, Forest};
 use std::alloc::Global;
 
 /// The ways of all edges, tree by tree, and for each event the places of its edges among them.

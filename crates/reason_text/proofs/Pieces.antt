@@ -5,7 +5,7 @@ use Rattle.ar_base.specs.Texts.{separated, text_at}
 use Rattle.ar_base.proofs.Lines.{line_after}
 use Rattle.ar_meaning.specs.TraceText.{Naming, place_text}
 use Rattle.ar_meaning.specs.ValueTexts.{value_text}
-use Rattle.flow_rounds.specs.Reasons.{Reason}
+use Rattle.flow_reasons.specs.Reasons.{Reason}
 use Rattle.flow_reasons.specs.Answers.{numbers_of}
 use Rattle.reason_text.specs.Texts.{path_of, paths_of, from_text, added_text, why_text, reason_line}
 

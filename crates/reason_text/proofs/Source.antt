@@ -8,9 +8,9 @@ use Rattle.ar_meaning.specs.Systems.{Net, System}
 use Rattle.ar_meaning.specs.FlatOf.{IsNumber, IsFlatOf}
 use Rattle.ar_meaning.specs.TraceText.{Naming}
 use Rattle.ar_meaning.proofs.FlatSystems.{flat_image, flat_back}
-use Rattle.flow_rounds.specs.Reasons.{Reason, AreReasons}
-use Rattle.flow_rounds.proofs.ImageRounds.{reasons_there, cone_there}
-use Rattle.flow_rounds.proofs.Standing.{no_two, reasons_one}
+use Rattle.flow_reasons.specs.Reasons.{Reason, AreReasons}
+use Rattle.flow_reasons.proofs.ImageRounds.{reasons_there, cone_there}
+use Rattle.flow_reasons.proofs.RoundStanding.{no_two, reasons_one}
 use Rattle.ar_firing.specs.Operands.{HasFlows}
 use Rattle.gts_core.specs.View.{net_of}
 use Rattle.gts_core.specs.declared.system.GtsParts.{GtsParts}

@@ -9,9 +9,9 @@ use Rattle.domains.specs.declared.Value.{Value}
 use Rattle.ar_meaning.specs.Systems as s
 use Rattle.ar_meaning.specs.Found.{IsAnswer}
 use Rattle.ar_meaning.specs.TraceText.{Naming}
-use Rattle.flow_rounds.specs.Reasons.{IsReason, derived, reset, AreReasons}
-use Rattle.flow_rounds.specs.Reasons as rounds
-use Rattle.flow_rounds.proofs.Standing.{reason_at}
+use Rattle.flow_reasons.specs.Reasons.{IsReason, derived, reset, AreReasons}
+use Rattle.flow_reasons.specs.Reasons as rounds
+use Rattle.flow_reasons.proofs.RoundStanding.{reason_at}
 use Rattle.gts_core.specs.View.{net_of, assign_of}
 use Rattle.gts_core.specs.declared.system.GtsParts.{GtsParts}
 use Rattle.gts_core.proofs.Viewing.{variables_long}

@@ -6,7 +6,7 @@ use Rattle.typed_expr.specs.declared.expr.Expr.{Expr}
 use Rattle.ar_meaning.specs.Systems.{Net}
 use Rattle.ar_meaning.specs.TraceText.{Naming, place_text}
 use Rattle.ar_meaning.specs.ValueTexts.{value_text}
-use Rattle.flow_rounds.specs.Reasons.{Reason, AreReasons, InCone}
+use Rattle.flow_reasons.specs.Reasons.{Reason, AreReasons, InCone}
 
 -- the path of a variable
 abbrev pub path_of : Naming → ℕ → List ℕ

@@ -8,9 +8,9 @@ use Rattle.ar_meaning.specs.Runs.{Label, IsWay, FiresWays, Fire}
 use Rattle.gts_core.specs.View.{Views}
 use Rattle.gts_core.specs.Sound.{IsSound}
 use Rattle.gts_core.specs.declared.system.GtsParts.{GtsParts}
-use Rattle.script_lines.specs.Flat.{command_of, AreFirable, IsFirable}
-use Rattle.script_lines.specs.declared.commands.Command.{Command}
-use Rattle.script_lines.specs.declared.commands.Command.TheVariants as code
+use Rattle.job_inputs.specs.Flat.{command_of, AreFirable, IsFirable}
+use Rattle.job_inputs.specs.declared.commands.Command.{Command}
+use Rattle.job_inputs.specs.declared.commands.Command.TheVariants as code
 use Rattle.text_pieces.specs.WayLabels.{label_of}
 use Rattle.text_pieces.proofs.Ways.{way_named}
 

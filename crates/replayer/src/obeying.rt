@@ -5,7 +5,7 @@ ghost use Rattle.ar_meaning.specs.Systems.{System};
 ghost use Rattle.gts_core.specs.Sound.{IsSound};
 ghost use Rattle.gts_core.specs.View.{Views};
 ghost use Rattle.gts_flatten.specs.Flat.{naming_of_parts};
-ghost use Rattle.script_lines.specs.Flat.{command_of, IsFirable};
+ghost use Rattle.job_inputs.specs.Flat.{command_of, IsFirable};
 ghost use Rattle.replayer.specs.Observing.{IsLatest};
 ghost use Rattle.replayer.specs.Playing.{AreTotal, Answers, IsRefusal};
 ghost use Rattle.text_pieces.specs.Faults.{IsFaultInRange};
@@ -18,7 +18,7 @@ use crate::trace::{fired, gone_back, listed, no_step, not_fired, shown};
 use ar_base::WayId;
 use ar_io::Sink;
 use gts_core::Gts;
-use script_lines::Command;
+use job_inputs::Command;
 use std::alloc::Global;
 use stepper::{NoStep, StepFault, Stepper};
 

@@ -6,7 +6,7 @@ ghost use Rattle.ar_meaning.specs.Systems.{System};
 ghost use Rattle.gts_core.specs.Sound.{IsSound};
 ghost use Rattle.gts_core.specs.View.{Views, net_of};
 ghost use Rattle.gts_flatten.specs.Flat.{naming_of_parts};
-ghost use Rattle.script_lines.specs.Flat.{command_of, AreFirable};
+ghost use Rattle.job_inputs.specs.Flat.{command_of, AreFirable};
 ghost use Rattle.replayer.specs.Replays.{AnswersReplay};
 ghost use Rattle.stepper.specs.Steps.{IsStartFault};
 
@@ -17,7 +17,7 @@ use ar_base::Memory;
 use ar_io::{Sink, SinkFailed};
 use flow_propagate::PropagateFault;
 use gts_core::Gts;
-use script_lines::Command;
+use job_inputs::Command;
 use std::alloc::Global;
 use stepper::Stepper;
 

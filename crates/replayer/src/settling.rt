@@ -7,7 +7,7 @@ ghost use Rattle.gts_core.specs.Readings.{IsTotal};
 ghost use Rattle.gts_core.specs.Sound.{IsSound};
 ghost use Rattle.gts_core.specs.View.{Views, net_of};
 ghost use Rattle.gts_flatten.specs.Flat.{naming_of_parts};
-ghost use Rattle.script_lines.specs.Flat.{command_of, AreFirable, IsFirable};
+ghost use Rattle.job_inputs.specs.Flat.{command_of, AreFirable, IsFirable};
 ghost use Rattle.replayer.specs.Settles.{AnswersSettle};
 ghost use Rattle.replayer.specs.Settling.{AnswersCommand};
 ghost use Rattle.stepper.specs.Steps.{IsStartFault};
@@ -20,7 +20,7 @@ use ar_io::Sink;
 use domains::Value;
 use flow_propagate::PropagateFault;
 use gts_core::{Gts, Valuation};
-use script_lines::Command;
+use job_inputs::Command;
 use std::alloc::Global;
 use stepper::{NoStep, Stepper};
 

@@ -29,13 +29,13 @@ use Rattle.gts_core.specs.declared.bound.Act.TheOpen as act
 use Rattle.gts_core.specs.declared.bound.Act.TheOpen.{Act-F}
 use Rattle.gts_core.specs.declared.bound.Act.TheFolds.{fold_out-Act, map-Act}
 use Rattle.class_table.proofs.Taken.{map_join}
-use Rattle.bind_expressions.specs.Translating.{BecomesBy}
-use Rattle.bind_expressions.specs.declared.naming.Leaf.{Leaf}
-use Rattle.bind_expressions.specs.declared.naming.Leaf.TheVariants as leaf
-use Rattle.bind_instructions.specs.Parts.{InstrForm, IsPartOf}
-use Rattle.bind_instructions.specs.Parts as part
-use Rattle.bind_acts.specs.Acting.{SetsBoth, ActsAs, ElseActs, All_act}
-use Rattle.bind_acts.specs.Acting as acts
+use Rattle.written_forms.specs.Translating.{BecomesBy}
+use Rattle.written_forms.specs.declared.naming.Leaf.{Leaf}
+use Rattle.written_forms.specs.declared.naming.Leaf.TheVariants as leaf
+use Rattle.written_forms.specs.Parts.{InstrForm, IsPartOf}
+use Rattle.written_forms.specs.Parts as part
+use Rattle.written_forms.specs.Acting.{SetsBoth, ActsAs, ElseActs, All_act}
+use Rattle.written_forms.specs.Acting as acts
 use Rattle.hierarchy.specs.Models.{RootedModel}
 use Rattle.hierarchy.specs.Units.{UnitPath, Thing}
 use Rattle.hierarchy.specs.Walks.{Finds, is_variable}

@@ -13,14 +13,14 @@ use Rattle.typed_expr.specs.Renames as r
 use Rattle.typed_expr.specs.declared.expr.Expr.{Expr, out-Expr}
 use Rattle.typed_expr.specs.declared.expr.Expr.TheOpen.{Variable}
 use Rattle.typed_expr.specs.declared.expr.ValueKind.TheVariants.{Truth, Whole}
-use Rattle.bind_expressions.specs.Operands.{RawLevel, level_of, AnyKind, OfKind, Like, Operand, wanting, first_branch, is_equality, sides_by, operands_of, PathIn}
-use Rattle.bind_expressions.specs.Operands as in_form
-use Rattle.bind_expressions.specs.Wrong.{IsMistyped}
-use Rattle.bind_expressions.specs.Wrong as wrong
-use Rattle.bind_expressions.specs.Translating.{leaf_level, StandsFor, Becomes, All_become, Parts_become, Cases_become, BecomesBy}
-use Rattle.bind_expressions.specs.Translating as t
-use Rattle.bind_expressions.specs.declared.naming.Leaf.{Leaf}
-use Rattle.bind_expressions.proofs.OperandLists.{mapped_one, test_one, branch_one, other_one, left_side, right_side}
+use Rattle.written_forms.specs.Operands.{RawLevel, level_of, AnyKind, OfKind, Like, Operand, wanting, first_branch, is_equality, sides_by, operands_of, PathIn}
+use Rattle.written_forms.specs.Operands as in_form
+use Rattle.written_forms.specs.Wrong.{IsMistyped}
+use Rattle.written_forms.specs.Wrong as wrong
+use Rattle.written_forms.specs.Translating.{leaf_level, StandsFor, Becomes, All_become, Parts_become, Cases_become, BecomesBy}
+use Rattle.written_forms.specs.Translating as t
+use Rattle.written_forms.specs.declared.naming.Leaf.{Leaf}
+use Rattle.written_forms.proofs.OperandLists.{mapped_one, test_one, branch_one, other_one, left_side, right_side}
 use Rattle.hierarchy.specs.Models.{RootedModel}
 use Rattle.hierarchy.specs.Units.{UnitPath, Thing}
 use Rattle.hierarchy.specs.Listing.{variables}

@@ -9,7 +9,7 @@ use Rattle.hierarchy.specs.Models.{RootedModel}
 use Rattle.hierarchy.specs.Units.{Thing}
 use Rattle.hierarchy.specs.Settings.{Attribute, in_force}
 use Rattle.source_meaning.specs.Means.{Means, ValueOf, whole, value, no_facts}
-use Rattle.bind_expressions.specs.Operands.{level_of}
+use Rattle.written_forms.specs.Operands.{level_of}
 
 pub number_value : (m : RootedModel) (t : Thing) (a : Attribute) (n : ℤ) → in_force m t ≡ Some a
     → level_of a.value ≡ raw.Whole n → ValueOf m t (v.Whole n)

@@ -20,7 +20,7 @@ use Rattle.hierarchy.specs.Walks.{Reaches, NamesLead, arrives, Finds, LeadsTo, H
 use Rattle.hierarchy.specs.Settings.{Attribute}
 use Rattle.hierarchy.proofs.Outcomes.{walks_same, unit_of_reaches}
 use Rattle.source_meaning.specs.Means.{Means, All_mean, Parts_mean, Cases_mean, ValueOf, is_valued, IsSymbol, no_facts}
-use Rattle.bind_expressions.specs.Operands.{RawLevel, level_of}
+use Rattle.written_forms.specs.Operands.{RawLevel, level_of}
 use Rattle.source_meaning.specs.Means as means
 use Rattle.typed_expr.proofs.OneValue.{yields_one}
 

@@ -31,8 +31,8 @@ use Rattle.hierarchy.specs.Listing.{In, events}
 use Rattle.hierarchy.specs.Settings.{is_state}
 use Rattle.source_meaning.specs.Acts.{Conditions, Placed, assigns_of, Sets, skip, assign, tie, conditional, all, Sets_else, no_branch, branch, Sets_all}
 use Rattle.source_meaning.specs.Acts as a
-use Rattle.bind_instructions.specs.Parts.{InstrForm}
-use Rattle.bind_expressions.specs.Operands.{level_of}
+use Rattle.written_forms.specs.Parts.{InstrForm}
+use Rattle.written_forms.specs.Operands.{level_of}
 use Rattle.source_meaning.specs.Means.{Means}
 use Rattle.source_meaning.specs.Systems.{IsVariable, IsObserver, AreAsserted, IsPart, IsMember, IsHidden, IsEvent, IsSystemOf}
 use Rattle.source_meaning.specs.Systems as b

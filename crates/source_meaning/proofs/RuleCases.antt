@@ -18,8 +18,8 @@ use Rattle.hierarchy.specs.Units.{UnitPath, kind_at, numbers}
 use Rattle.hierarchy.specs.Listing.{Unfolded, forms_at}
 use Rattle.source_meaning.specs.Means.{IsSymbol}
 use Rattle.source_meaning.specs.Acts.{Conditions, Placed, Sets, tie, AreTied}
-use Rattle.bind_instructions.specs.Parts.{InstrForm, IsPartOf, itself}
-use Rattle.bind_instructions.specs.Breaches.{target, ties}
+use Rattle.written_forms.specs.Parts.{InstrForm, IsPartOf, itself}
+use Rattle.written_forms.specs.Breaches.{target, ties}
 use Rattle.source_meaning.specs.Tested.{InAction}
 use Rattle.source_meaning.specs.Rules.{in_instruction, in_action, Breaks, l10, l13, name_rules}
 use Rattle.source_meaning.specs.Systems.{Declarations, Declares, Binds, name_breaks}

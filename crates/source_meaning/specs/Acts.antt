@@ -12,8 +12,8 @@ use Rattle.ar_meaning.specs.Systems.{Assign}
 use Rattle.hierarchy.specs.Models.{RootedModel}
 use Rattle.hierarchy.specs.Units.{UnitPath, Thing}
 use Rattle.hierarchy.specs.Walks.{Finds, is_variable}
-use Rattle.bind_expressions.specs.Operands.{level_of}
-use Rattle.bind_instructions.specs.Parts.{InstrForm}
+use Rattle.written_forms.specs.Operands.{level_of}
+use Rattle.written_forms.specs.Parts.{InstrForm}
 use Rattle.source_meaning.specs.Means.{Means}
 
 -- conditions from the outermost inward, each with the truth value that it must have

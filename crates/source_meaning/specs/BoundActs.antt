@@ -10,10 +10,10 @@ use Rattle.ar_syntax.specs.declared.paths.Path.{Path}
 use Rattle.ar_meaning.specs.Image.{Assign_renames}
 use Rattle.gts_core.specs.Bound.{assigns_of_act, places_of_act}
 use Rattle.gts_core.specs.declared.bound.Act.{Act}
-use Rattle.bind_expressions.specs.Operands.{level_of, AnyKind, PathIn}
-use Rattle.bind_expressions.specs.Wrong.{IsMistyped}
-use Rattle.bind_expressions.specs.declared.naming.Leaf.{Leaf}
-use Rattle.bind_instructions.specs.Parts.{InstrForm, IsPartOf}
+use Rattle.written_forms.specs.Operands.{level_of, AnyKind, PathIn}
+use Rattle.written_forms.specs.Wrong.{IsMistyped}
+use Rattle.written_forms.specs.declared.naming.Leaf.{Leaf}
+use Rattle.written_forms.specs.Parts.{InstrForm, IsPartOf}
 use Rattle.hierarchy.specs.Models.{RootedModel}
 use Rattle.hierarchy.specs.Units.{UnitPath, Thing}
 use Rattle.hierarchy.specs.Listing.{variables}

@@ -22,10 +22,10 @@ use Rattle.hierarchy.specs.Units.{UnitPath, Thing, kind_at}
 use Rattle.hierarchy.specs.Walks.{Finds, Has, thing, is_variable, is_event}
 use Rattle.hierarchy.specs.Listing.{forms_at}
 use Rattle.hierarchy.specs.Settings.{Attribute, in_force, is_state_variable, is_flow_variable}
-use Rattle.bind_expressions.specs.Operands.{level_of, OfKind}
-use Rattle.bind_expressions.specs.Wrong.{IsMisnamed, IsMistyped}
-use Rattle.bind_instructions.specs.Parts.{InstrForm}
-use Rattle.bind_instructions.specs.Breaches.{MisnamesItself, MistypesItself, MisplacedInAction, MisplacedInAssertion}
+use Rattle.written_forms.specs.Operands.{level_of, OfKind}
+use Rattle.written_forms.specs.Wrong.{IsMisnamed, IsMistyped}
+use Rattle.written_forms.specs.Parts.{InstrForm}
+use Rattle.written_forms.specs.Breaches.{MisnamesItself, MistypesItself, MisplacedInAction, MisplacedInAssertion}
 use Rattle.source_meaning.specs.Means.{ValueOf}
 use Rattle.source_meaning.specs.Kinds.{HasKindAt}
 use Rattle.source_meaning.specs.Tested.{InAction, InAssertion, InSome, Scope, Everything, HasValue, Tested, MayName, NamesVariable}

@@ -28,7 +28,7 @@ use Rattle.hierarchy.specs.Walks.{Finds, is_event}
 use Rattle.hierarchy.specs.Listing.{Unfolded, In, variables, events, observers, assertions, hidden_paths, ways_declared}
 use Rattle.hierarchy.specs.Settings.{is_state}
 use Rattle.hierarchy.specs.Tie.{HasDomain}
-use Rattle.bind_expressions.specs.Operands.{level_of}
+use Rattle.written_forms.specs.Operands.{level_of}
 use Rattle.source_meaning.specs.Means.{Means, ValueOf}
 use Rattle.source_meaning.specs.Acts.{Placed, assigns_of, places_of, Sets}
 use Rattle.source_meaning.specs.Rules.{Breaks, name_rules}

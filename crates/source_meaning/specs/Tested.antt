@@ -12,7 +12,7 @@ use Rattle.typed_expr.specs.declared.expr.ValueKind.{ValueKind}
 use Rattle.typed_expr.specs.declared.expr.ValueKind.TheVariants.{Truth}
 use Rattle.ar_base.specs.Numbers.{NameId}
 use Rattle.class_table.specs.Members.{NamedMember, Observer}
-use Rattle.bind_instructions.specs.Parts.{InstrForm, IsPartOf}
+use Rattle.written_forms.specs.Parts.{InstrForm, IsPartOf}
 use Rattle.hierarchy.specs.Models.{RootedModel}
 use Rattle.hierarchy.specs.Units.{UnitPath, Thing, names_at, kind_at, numbers}
 use Rattle.hierarchy.specs.Walks.{Finds, Has, thing, is_variable}

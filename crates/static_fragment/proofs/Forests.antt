@@ -16,23 +16,23 @@ use Rattle.gts_core.specs.View.{Views}
 use Rattle.gts_core.specs.Sound.{IsSound}
 use Rattle.gts_core.specs.declared.system.Variable.{Variable}
 use Rattle.gts_core.specs.declared.system.GtsParts.{GtsParts}
-use Rattle.kept_ways.specs.Events.{AreMarks, AreMoving}
-use Rattle.kept_ways.specs.declared.kept.KeptWay.{KeptWay}
-use Rattle.mode_forests.specs.Views.{row_of, tree_of, trees_of, number_in}
-use Rattle.mode_forests.specs.Ways.{HasOwnWay, OwnTheirWays}
-use Rattle.mode_forests.specs.declared.forests.Edge.{Edge}
-use Rattle.mode_forests.specs.declared.forests.ModeTree.{ModeTree}
-use Rattle.mode_forests.specs.declared.forests.Forest.{Forest}
+use Rattle.mode_search.specs.Events.{AreMarks, AreMoving}
+use Rattle.mode_search.specs.declared.kept.KeptWay.{KeptWay}
+use Rattle.mode_trees.specs.Views.{row_of, tree_of, trees_of, number_in}
+use Rattle.mode_trees.specs.Ways.{HasOwnWay, OwnTheirWays}
+use Rattle.mode_trees.specs.declared.forests.Edge.{Edge}
+use Rattle.mode_trees.specs.declared.forests.ModeTree.{ModeTree}
+use Rattle.mode_trees.specs.declared.forests.Forest.{Forest}
 use Rattle.mode_trees.specs.Below.{IsBelow}
 use Rattle.mode_trees.specs.Below as below
-use Rattle.mode_edges.specs.Reached.{IsAgain}
-use Rattle.mode_edges.specs.declared.searching.Reach.{Reach}
-use Rattle.live_edges.specs.declared.listing.Live.{Live}
-use Rattle.live_edges.specs.Live.{AreLive, AreEdgesApart}
-use Rattle.live_edges.specs.Sharing.{AreWithin}
-use Rattle.fragment_units.proofs.Units.{moving_mode, mode_moving, value_there}
-use Rattle.fragment_edges.specs.Setting.{AreReached, label_in}
-use Rattle.fragment_edges.proofs.Leading.{row_with, in_row, live_there, live_back}
+use Rattle.mode_search.specs.Reached.{IsAgain}
+use Rattle.mode_search.specs.declared.searching.Reach.{Reach}
+use Rattle.mode_search.specs.declared.listing.Live.{Live}
+use Rattle.mode_search.specs.Live.{AreLive, AreEdgesApart}
+use Rattle.mode_search.specs.Sharing.{AreWithin}
+use Rattle.static_fragment.proofs.Units.{moving_mode, mode_moving, value_there}
+use Rattle.static_fragment.specs.Setting.{AreReached, label_in}
+use Rattle.static_fragment.proofs.Leading.{row_with, in_row, live_there, live_back}
 use Rattle.static_fragment.specs.Stages.{AreFromWays, NoneAgain}
 use Rattle.static_fragment.specs.Trees.{IsTreeAt, AreTreesBelow}
 

@@ -7,10 +7,10 @@ use Rattle.ar_meaning.specs.Found.{IsAnswer}
 use Rattle.ar_meaning.proofs.Found.{holds, fails}
 use Rattle.gts_core.specs.declared.system.Variable.{Variable}
 use Rattle.gts_core.specs.declared.system.GtsParts.{GtsParts}
-use Rattle.mode_forests.specs.declared.forests.ModeTree.{ModeTree}
-use Rattle.mode_edges.specs.declared.searching.Reach.{Reach}
+use Rattle.mode_trees.specs.declared.forests.ModeTree.{ModeTree}
+use Rattle.mode_search.specs.declared.searching.Reach.{Reach}
 use Rattle.mode_trees.specs.Below.{IsBelow}
-use Rattle.fragment_units.specs.Units.{IsMovingState}
+use Rattle.static_fragment.specs.Units.{IsMovingState}
 use Rattle.static_fragment.specs.Trees.{IsTreeAt, AreTreesBelow, HasTree, GetsTree, stays, adds}
 
 pub trees_start : (p : GtsParts) (moving : List Bool) (reaches : List Reach) (trees : List ModeTree) → trees ≡ []

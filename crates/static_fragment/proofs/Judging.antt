@@ -10,29 +10,29 @@ use Rattle.ar_firing.proofs.Unbroken.{keeps_s3, keeps_s4, keeps_s5, keeps_s6}
 use Rattle.gts_core.specs.View.{Views}
 use Rattle.gts_core.specs.Sound.{IsSound}
 use Rattle.gts_core.specs.declared.system.GtsParts.{GtsParts}
-use Rattle.kept_ways.specs.Events.{IsLeast, AreMarks, AreMoving, AreFirstStates, IsJointAt, IsStateless}
-use Rattle.kept_ways.specs.Kept.{AreKept, OtherInGuard, OtherInAction}
-use Rattle.kept_ways.specs.declared.kept.KeptWay.{KeptWay}
+use Rattle.mode_search.specs.Events.{IsLeast, AreMarks, AreMoving, AreFirstStates, IsJointAt, IsStateless}
+use Rattle.mode_search.specs.Kept.{AreKept, OtherInGuard, OtherInAction}
+use Rattle.mode_search.specs.declared.kept.KeptWay.{KeptWay}
 use Rattle.ar_base.proofs.Standing.{at_most}
 use Rattle.ar_base.proofs.Comparing.{low}
-use Rattle.mode_edges.specs.declared.searching.Reach.{Reach}
-use Rattle.live_edges.specs.Reaches.{IsWrongAt, IsAgainAt}
-use Rattle.live_edges.specs.Sharing.{IsShared, IsSharing}
-use Rattle.live_edges.specs.declared.listing.Live.{Live}
-use Rattle.live_edges.specs.declared.sharing.Sharing.{Sharing}
-use Rattle.wide_values.specs.Wide.{IsFirstWide}
-use Rattle.wide_values.specs.declared.searches.Wide.{Wide}
-use Rattle.wide_values.specs.declared.searches.Wide.TheVariants as wide
-use Rattle.fragment_units.specs.Units.{AreUnits}
-use Rattle.fragment_units.specs.Shown.{IsFirstShown}
-use Rattle.fragment_units.proofs.Units.{no_joint_keeps, no_stateless_keeps}
-use Rattle.fragment_units.proofs.Values.{none_wide_keeps}
-use Rattle.fragment_units.proofs.Showing.{first_joint_shown, first_stateless_shown, first_wide_shown}
-use Rattle.fragment_edges.specs.Setting.{AreKeptWays, AreReached, AreLiveEdges}
-use Rattle.fragment_edges.proofs.Naming.{guard_breaks, guard_other, unbroken_s3, action_breaks}
-use Rattle.fragment_edges.proofs.Leading.{wrong_breaks, broken_s4, unbroken_s4}
-use Rattle.fragment_edges.proofs.Listing.{shared_breaks, breaks_shared, unbroken_s5, many_break, few_keep}
-use Rattle.fragment_edges.proofs.Entering.{again_breaks, breaks_again, unbroken_s6}
+use Rattle.mode_search.specs.declared.searching.Reach.{Reach}
+use Rattle.mode_search.specs.Reaches.{IsWrongAt, IsAgainAt}
+use Rattle.mode_search.specs.Sharing.{IsShared, IsSharing}
+use Rattle.mode_search.specs.declared.listing.Live.{Live}
+use Rattle.mode_search.specs.declared.sharing.Sharing.{Sharing}
+use Rattle.mode_search.specs.Wide.{IsFirstWide}
+use Rattle.mode_search.specs.declared.searches.Wide.{Wide}
+use Rattle.mode_search.specs.declared.searches.Wide.TheVariants as wide
+use Rattle.static_fragment.specs.Units.{AreUnits}
+use Rattle.static_fragment.specs.UnitShown.{IsFirstShown}
+use Rattle.static_fragment.proofs.Units.{no_joint_keeps, no_stateless_keeps}
+use Rattle.static_fragment.proofs.Values.{none_wide_keeps}
+use Rattle.static_fragment.proofs.UnitShowing.{first_joint_shown, first_stateless_shown, first_wide_shown}
+use Rattle.static_fragment.specs.Setting.{AreKeptWays, AreReached, AreLiveEdges}
+use Rattle.static_fragment.proofs.Naming.{guard_breaks, guard_other, unbroken_s3, action_breaks}
+use Rattle.static_fragment.proofs.Leading.{wrong_breaks, broken_s4, unbroken_s4}
+use Rattle.static_fragment.proofs.Listing.{shared_breaks, breaks_shared, unbroken_s5, many_break, few_keep}
+use Rattle.static_fragment.proofs.Entering.{again_breaks, breaks_again, unbroken_s6}
 use Rattle.static_fragment.specs.declared.faults.FragmentFault.{FragmentFault}
 use Rattle.static_fragment.specs.declared.faults.FragmentFault.TheVariants.{Outside, Memory}
 use Rattle.static_fragment.specs.Recognised.{IsRefused}

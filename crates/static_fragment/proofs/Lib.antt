@@ -1,3 +1,12 @@
+pub mod Entering
+mod Forests
 mod Growing
 mod Judging
-mod Forests
+pub mod Labels
+pub mod Leading
+pub mod Listing
+pub mod Naming
+pub mod UnitShowing
+pub mod Units
+pub mod Values
+pub mod Ways

@@ -1,4 +1,9 @@
+pub mod Kept
+pub mod Reaching
 pub mod Recognised
+pub mod Setting
 pub mod Shown
 pub mod Stages
 pub mod Trees
+pub mod UnitShown
+pub mod Units

@@ -2,8 +2,8 @@
 use Rattle.std.specs.Prelude.{◌≡◌, ◌<◌, ◌≤◌, ℕ, nat_lt, if◌then◌else◌, Option, Some, None, Result, Ok, Err}
 use Rattle.ar_firing.specs.Rules.{AtVariable, AtObserver, AtWhole}
 use Rattle.ar_firing.specs.Rules as rules
-use Rattle.wide_values.specs.declared.searches.Wide.{Wide}
-use Rattle.wide_values.specs.declared.searches.Wide.TheVariants as wide
+use Rattle.mode_search.specs.declared.searches.Wide.{Wide}
+use Rattle.mode_search.specs.declared.searches.Wide.TheVariants as wide
 use Rattle.static_fragment.specs.declared.faults.FragmentFault.{FragmentFault}
 use Rattle.static_fragment.specs.declared.faults.FragmentFault.TheVariants.{Outside, Memory}
 use Rattle.static_fragment.specs.Recognised.{spot_of}

@@ -4,14 +4,14 @@ use Rattle.ar_meaning.specs.Systems.{System}
 use Rattle.ar_firing.specs.Rules.{Rule, number_of, Keeps}
 use Rattle.gts_core.specs.View.{Views}
 use Rattle.gts_core.specs.declared.system.GtsParts.{GtsParts}
-use Rattle.kept_ways.specs.declared.kept.KeptWay.{KeptWay}
-use Rattle.mode_edges.specs.declared.searching.Reach.{Reach}
-use Rattle.live_edges.specs.Reaches.{AreListed, AreReaches, IsAgainAt}
-use Rattle.live_edges.specs.Sharing.{IsSharing}
-use Rattle.live_edges.specs.declared.listing.Live.{Live}
-use Rattle.live_edges.specs.declared.sharing.Sharing.{Sharing}
-use Rattle.fragment_units.specs.Units.{AreUnits}
-use Rattle.fragment_edges.specs.Setting.{AreKeptWays, AreReached, AreLiveEdges}
+use Rattle.mode_search.specs.declared.kept.KeptWay.{KeptWay}
+use Rattle.mode_search.specs.declared.searching.Reach.{Reach}
+use Rattle.mode_search.specs.Reaches.{AreListed, AreReaches, IsAgainAt}
+use Rattle.mode_search.specs.Sharing.{IsSharing}
+use Rattle.mode_search.specs.declared.listing.Live.{Live}
+use Rattle.mode_search.specs.declared.sharing.Sharing.{Sharing}
+use Rattle.static_fragment.specs.Units.{AreUnits}
+use Rattle.static_fragment.specs.Setting.{AreKeptWays, AreReached, AreLiveEdges}
 use Rattle.static_fragment.specs.declared.faults.FragmentFault.{FragmentFault}
 use Rattle.static_fragment.specs.declared.stages.Units.{Units}
 use Rattle.static_fragment.specs.Recognised.{IsRefused}

@@ -4,10 +4,10 @@ use Rattle.ar_base.specs.Lists.{Stands}
 use Rattle.ar_base.specs.Numbers.{VarId}
 use Rattle.gts_core.specs.declared.system.Variable.{Variable}
 use Rattle.gts_core.specs.declared.system.GtsParts.{GtsParts}
-use Rattle.mode_forests.specs.declared.forests.ModeTree.{ModeTree}
-use Rattle.mode_edges.specs.declared.searching.Reach.{Reach}
+use Rattle.mode_trees.specs.declared.forests.ModeTree.{ModeTree}
+use Rattle.mode_search.specs.declared.searching.Reach.{Reach}
 use Rattle.mode_trees.specs.Below.{IsBelow}
-use Rattle.fragment_units.specs.Units.{IsMovingState}
+use Rattle.static_fragment.specs.Units.{IsMovingState}
 
 -- the tree of one of the first so many variables, a state variable of a unit that moves
 pub record IsTreeAt (p : GtsParts) (moving : List Bool) (reaches : List Reach) (count : ℕ) (tree : ModeTree) : Type 0

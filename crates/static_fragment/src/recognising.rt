@@ -3,9 +3,9 @@
 ghost use Rattle.std.specs.Prelude.{ℕ, IfOk, IfErr};
 ghost use Rattle.ar_meaning.specs.Systems.{System};
 ghost use Rattle.gts_core.specs.View.{Views};
-ghost use Rattle.kept_ways.specs.Events.{numbers_of};
-ghost use Rattle.mode_forests.specs.Views.{trees_of, number_in};
-ghost use Rattle.mode_forests.specs.Ways.{OwnTheirWays};
+ghost use Rattle.mode_search.specs.Events.{numbers_of};
+ghost use Rattle.mode_trees.specs.Views.{trees_of, number_in};
+ghost use Rattle.mode_trees.specs.Ways.{OwnTheirWays};
 ghost use Rattle.static_fragment.specs.Recognised.{IsRecognised, IsRefused};
 
 use crate::faults::FragmentFault;
@@ -16,7 +16,7 @@ use crate::stages::{
 use crate::trees::forest;
 use ar_base::EventId;
 use gts_core::Gts;
-use mode_forests::Forest;
+use mode_trees::Forest;
 use std::alloc::Global;
 
 /// The trees of the modes of a system that keeps the rules of the static fragment, where these

@@ -5,7 +5,7 @@ ghost use Rattle.static_fragment.specs.Shown.{IsShownWith, IsWideShown, IsCounte
 
 use crate::faults::{FragmentFault, Spot};
 use ar_base::{EventId, UnitId, VarId};
-use wide_values::Wide;
+use mode_search::Wide;
 
 // Refuses with this rule where an event was found.
 pub(crate) fn at_event(rule: u8, found: Option<u32>) -> Result<(), FragmentFault>

@@ -4,8 +4,8 @@ ghost use Rattle.std.specs.Prelude.{◌≡◌, ◌<◌, ◌^◌, length, IfOk};
 ghost use Rattle.gts_core.specs.Sound.{IsSound};
 ghost use Rattle.gts_core.specs.View.{Views};
 ghost use Rattle.gts_core.specs.declared.system.GtsParts.{GtsParts};
-ghost use Rattle.kept_ways.specs.Events.{numbers_of, AreFirstStates};
-ghost use Rattle.live_edges.specs.Reaches.{AreListed};
+ghost use Rattle.mode_search.specs.Events.{numbers_of, AreFirstStates};
+ghost use Rattle.mode_search.specs.Reaches.{AreListed};
 ghost use Rattle.static_fragment.specs.Shown.{lesser_of};
 ghost use Rattle.static_fragment.specs.Stages.{Judges, HasUnits, HasWays, HasReaches, HasSharing, IsSeen, AreFromWays, NoneAgain};
 
@@ -13,14 +13,14 @@ use crate::faults::FragmentFault;
 use crate::showing::{at_event, at_unit, at_variable, at_whole, at_wide};
 use ar_base::{EventId, VarId};
 use gts_core::GtsParts;
-use kept_ways::{
+use mode_search::{
     KeptWay, first_joint, first_stateless, first_states, kept_ways, least_action, least_guard,
     marked, moving_units,
 };
-use live_edges::{Sharing, all_reached, least_again, least_wrong, live_edges, shared};
-use mode_edges::Reach;
+use mode_search::{Sharing, all_reached, least_again, least_wrong, live_edges, shared};
+use mode_search::Reach;
 use std::alloc::Global;
-use wide_values::first_wide;
+use mode_search::first_wide;
 
 // What is read of the units.
 #[derive(Drop)]

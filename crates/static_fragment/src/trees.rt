@@ -4,14 +4,14 @@ ghost use Rattle.std.specs.Prelude.{◌≡◌, ◌<◌, ◌∷◌, length, map, 
 ghost use Rattle.ar_base.specs.Lists.{AreDifferent};
 ghost use Rattle.ar_meaning.specs.Found.{IsAnswer};
 ghost use Rattle.gts_core.specs.Sound.{IsSound};
-ghost use Rattle.mode_forests.specs.declared.forests.Edge.{Edge};
+ghost use Rattle.mode_trees.specs.declared.forests.Edge.{Edge};
 ghost use Rattle.static_fragment.specs.Stages.{AreFromWays, NoneAgain};
 ghost use Rattle.static_fragment.specs.Trees.{AreTreesBelow, HasTree, GetsTree};
 
 use ar_base::{Memory, VarId};
 use gts_core::{GtsParts, Variable};
-use mode_edges::Reach;
-use mode_forests::{Forest, ModeTree};
+use mode_search::Reach;
+use mode_trees::{Forest, ModeTree};
 use mode_trees::edges_below;
 use std::alloc::Global;
 

@@ -2,9 +2,9 @@
 use Rattle.std.proofs.Common.{ℕ, List}
 use Rattle.domains.specs.declared.Value.{Value}
 use Rattle.ar_meaning.specs.Systems.{Net, Way}
-use Rattle.way_effects.specs.Ready.{IsReceiveFault}
-use Rattle.way_effects.specs.declared.faults.ReceiveFault.{ReceiveFault}
-use Rattle.way_effects.specs.declared.faults.ReceiveFault.TheVariants as receives
+use Rattle.way_flags.specs.Ready.{IsReceiveFault}
+use Rattle.way_flags.specs.declared.faults.ReceiveFault.{ReceiveFault}
+use Rattle.way_flags.specs.declared.faults.ReceiveFault.TheVariants as receives
 use Rattle.stepper.specs.Steps.{IsStepFault, step_fault_of}
 
 -- a fault of what is received is one of the step

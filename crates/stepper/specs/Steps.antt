@@ -10,8 +10,8 @@ use Rattle.gts_core.specs.declared.system.GtsParts.{GtsParts}
 use Rattle.flow_propagate.specs.Answers.{fault_of}
 use Rattle.flow_propagate.specs.declared.propagation.PropagateFault.{PropagateFault}
 use Rattle.flow_propagate.specs.declared.propagation.PropagateFault.TheVariants as propagates
-use Rattle.way_effects.specs.declared.faults.ReceiveFault.{ReceiveFault}
-use Rattle.way_effects.specs.declared.faults.ReceiveFault.TheVariants as receives
+use Rattle.way_flags.specs.declared.faults.ReceiveFault.{ReceiveFault}
+use Rattle.way_flags.specs.declared.faults.ReceiveFault.TheVariants as receives
 use Rattle.stepper.specs.declared.faults.StepFault.{StepFault}
 use Rattle.stepper.specs.declared.faults.StepFault.TheVariants as fault
 

@@ -12,7 +12,7 @@ ghost use Rattle.way_flags.specs.Index.{IsWayIndex};
 ghost use Rattle.stepper.specs.Changes.{before, point_at};
 ghost use Rattle.gts_core.specs.View.{net_of, IsWayAt};
 ghost use Rattle.gts_core.specs.Readings.{IsTotal};
-ghost use Rattle.way_effects.specs.Ready.{IsReady};
+ghost use Rattle.way_flags.specs.Ready.{IsReady};
 ghost use Rattle.way_flags.specs.Ways.{AreFlags};
 ghost use Rattle.stepper.specs.Steps.{IsStepFault, IsStartFault, step_fault_of};
 
@@ -24,7 +24,7 @@ use flow_changes::{Present, make_present, propagate_from, restore};
 use flow_propagate::{Plan, PropagateFault};
 use gts_core::{Gts, GtsParts, Valuation};
 use std::alloc::Global;
-use way_effects::{ReceiveFault, received};
+use way_flags::{ReceiveFault, received};
 use way_flags::{WayIndex, is_set, renew};
 
 /// What the state variables receive where a way is fired, or the fault of the way or of what they receive.

@@ -8,8 +8,8 @@ use Rattle.eq_core.specs.Ordered.{IsOrderedTable}
 use Rattle.eq_core.specs.Views.{table_of}
 use Rattle.gts_core.specs.View.{Views}
 use Rattle.gts_core.specs.declared.system.GtsParts.{GtsParts}
-use Rattle.mode_forests.specs.Views.{trees_of, number_in}
-use Rattle.mode_forests.specs.declared.forests.Forest.{Forest}
+use Rattle.mode_trees.specs.Views.{trees_of, number_in}
+use Rattle.mode_trees.specs.declared.forests.Forest.{Forest}
 use Rattle.system_cases.specs.declared.analysing.Analysed.{Analysed}
 
 -- the parts stand for a system of the static fragment, of which no event is dropped, and the forest is its own

@@ -4,7 +4,7 @@ ghost use Rattle.std.specs.Prelude.{◌<◌, length, IfOk, IfSome};
 ghost use Rattle.ar_firing.specs.Trees.{AreTrees};
 ghost use Rattle.eq_core.specs.Ordered.{IsOrderedTable};
 ghost use Rattle.eq_core.specs.Views.{table_of};
-ghost use Rattle.mode_forests.specs.Views.{trees_of};
+ghost use Rattle.mode_trees.specs.Views.{trees_of};
 ghost use Rattle.system_cases.specs.Analysed.{IsForestFor, IsAnalysed};
 
 use ar_base::RuleFault;
@@ -20,10 +20,10 @@ use gts_core::laws::one_system;
 use gts_flatten::flatten;
 use hierarchy::laws::tables_are_rooted;
 use instantiate::instantiate;
-use mode_forests::Forest;
+use mode_trees::Forest;
 use static_fragment::{FragmentFault, recognise};
 use std::alloc::Global;
-use table_meaning::ordered_table;
+use table_laws::ordered_table;
 use tree_equations::{EqFault, equations};
 
 /// The trees of a model's modes, and the gate table of its first observer with the value true.

@@ -1,7 +1,7 @@
 //! The sets of events that are firable in trees of modes, by the plain definition.
 
 use crate::families::one_event;
-use mode_forests::{Forest, ModeTree};
+use mode_trees::{Forest, ModeTree};
 use std::alloc::AllocError;
 
 // The events of a tree.

@@ -17,8 +17,8 @@ use Rattle.gts_core.specs.declared.system.Assign.{Assign}
 use Rattle.typed_expr.specs.Sets.{HasExactly}
 use Rattle.gts_core.specs.declared.system.Variable.{Variable}
 use Rattle.gts_core.specs.declared.system.GtsParts.{GtsParts}
-use Rattle.domain_rows.specs.Rows.{AreDomains, RowFacts}
-use Rattle.domain_rows.proofs.Allowing.{there, back}
+use Rattle.gts_core.specs.Rows.{AreDomains, RowFacts}
+use Rattle.gts_core.proofs.Allowing.{there, back}
 use Rattle.tree_equations.specs.Leaving.{MayGiveOutside}
 
 -- a value that the assignment yields, and which the domain of its target does not have

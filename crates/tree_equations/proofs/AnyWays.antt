@@ -7,9 +7,9 @@ use Rattle.typed_expr.specs.declared.expr.Expr.{Expr}
 use Rattle.ar_meaning.specs.Systems as s
 use Rattle.eq_core.specs.Gates.{Operand, EventIs, Gate, Table, all_of}
 use Rattle.eq_build.specs.Entries.{Entry, Built, with_entry}
-use Rattle.mode_forests.specs.Views.{row_of, tree_of}
-use Rattle.mode_forests.specs.declared.forests.Edge.{Edge}
-use Rattle.mode_forests.specs.declared.forests.ModeTree.{ModeTree}
+use Rattle.mode_trees.specs.Views.{row_of, tree_of}
+use Rattle.mode_trees.specs.declared.forests.Edge.{Edge}
+use Rattle.mode_trees.specs.declared.forests.ModeTree.{ModeTree}
 use Rattle.table_steps.specs.Steps.{Reading, Threads, Has_modes, not_left, entered, modes_of, in_order, modes_at, first_reading, All_rounds}
 use Rattle.table_steps.specs.Steps as t
 use Rattle.table_steps.specs.Table.{IsTable}

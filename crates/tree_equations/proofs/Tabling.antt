@@ -11,8 +11,8 @@ use Rattle.eq_build.proofs.Stopping.{stops_up}
 use Rattle.gts_core.specs.View.{net_of, numbered}
 use Rattle.gts_core.specs.declared.system.Observer.{Observer}
 use Rattle.gts_core.specs.declared.system.GtsParts.{GtsParts}
-use Rattle.mode_forests.specs.Views.{number_in}
-use Rattle.mode_forests.specs.declared.forests.Forest.{Forest}
+use Rattle.mode_trees.specs.Views.{number_in}
+use Rattle.mode_trees.specs.declared.forests.Forest.{Forest}
 use Rattle.table_steps.specs.Table.{IsTable}
 use Rattle.tree_equations.specs.Answers.{plain, trees_in}
 use Rattle.tree_equations.specs.Gives.{AtObserver, IsTableOf, NeedsTooMany}

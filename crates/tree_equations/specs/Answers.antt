@@ -14,9 +14,9 @@ use Rattle.eq_build.specs.Views.{entries_in, lists_in, operands_in, row_at, Make
 use Rattle.eq_build.specs.declared.entries.Entry.{Entry}
 use Rattle.eq_build.specs.declared.entries.BuildFault.{BuildFault}
 use Rattle.gts_core.specs.declared.system.Variable.{Variable}
-use Rattle.mode_forests.specs.Views.{row_of, tree_of}
-use Rattle.mode_forests.specs.declared.forests.Edge.{Edge}
-use Rattle.mode_forests.specs.declared.forests.ModeTree.{ModeTree}
+use Rattle.mode_trees.specs.Views.{row_of, tree_of}
+use Rattle.mode_trees.specs.declared.forests.Edge.{Edge}
+use Rattle.mode_trees.specs.declared.forests.ModeTree.{ModeTree}
 use Rattle.table_steps.specs.Steps.{Reading, Threads, Builds_assign}
 use Rattle.tree_equations.specs.declared.assigning.BuiltAssign.{BuiltAssign}
 

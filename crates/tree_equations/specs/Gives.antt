@@ -7,8 +7,8 @@ use Rattle.eq_build.specs.Builds.{most_gates}
 use Rattle.gts_core.specs.View.{net_of, numbered}
 use Rattle.gts_core.specs.declared.system.Observer.{Observer}
 use Rattle.gts_core.specs.declared.system.GtsParts.{GtsParts}
-use Rattle.mode_forests.specs.Views.{trees_of, number_in}
-use Rattle.mode_forests.specs.declared.forests.Forest.{Forest}
+use Rattle.mode_trees.specs.Views.{trees_of, number_in}
+use Rattle.mode_trees.specs.declared.forests.Forest.{Forest}
 use Rattle.table_steps.specs.Table.{IsTable}
 
 -- P holds of the expression of the observer of this number, if there is one

@@ -11,7 +11,7 @@ use ar_base::Memory;
 use eq_build::{Entry, Groups};
 use eq_core::Operand;
 use gts_core::Variable;
-use mode_forests::ModeTree;
+use mode_trees::ModeTree;
 use std::alloc::Global;
 
 // The first row of each variable: the modes of its tree, or its init value; none for a flow.

@@ -9,12 +9,12 @@ ghost use Rattle.gts_core.specs.Sound.{IsSound};
 ghost use Rattle.gts_core.specs.View.{variable_of, assign_of};
 ghost use Rattle.gts_core.specs.declared.system.Variable.{Variable as FlatVariable};
 ghost use Rattle.tree_equations.specs.Index.{IsIndex, AreNumbersOf, AreLeaving, AddsLeaving, to_target};
-ghost use Rattle.domain_rows.specs.Rows.{AreDomains, Says};
+ghost use Rattle.gts_core.specs.Rows.{AreDomains, Says};
 ghost use Rattle.tree_equations.specs.Leaving.{MayGiveOutside};
 
 use crate::index::Index;
 use ar_base::Memory;
-use domain_rows::{Domains, domains_of};
+use gts_core::{Domains, domains_of};
 use domains::{Domain, Value};
 use gts_core::{Assign, GtsParts, Variable};
 use std::alloc::Global;

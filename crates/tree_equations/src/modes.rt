@@ -13,7 +13,7 @@ use ar_base::Memory;
 use domains::Value;
 use eq_build::{BuildFault, Entry, made};
 use eq_core::{Gate, Joint, Operand};
-use mode_forests::{Edge, ModeTree};
+use mode_trees::{Edge, ModeTree};
 use std::alloc::Global;
 
 // The entries of each tree's modes.

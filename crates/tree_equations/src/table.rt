@@ -26,7 +26,7 @@ use domains::Value;
 use eq_build::{BuildFault, Entry, made, operand_for};
 use eq_core::{Equations, Gate, Joint, Operand};
 use gts_core::{Gts, GtsParts};
-use mode_forests::Forest;
+use mode_trees::Forest;
 use std::alloc::Global;
 
 /// The table of gates of a static system, by the trees of its modes, for the observer of this number and a wanted value.

@@ -1,9 +1,17 @@
+mod Acting
 pub mod Firing
-pub mod Lists
-mod Placing
+mod Growing
 mod Heights
-pub mod Renewing
-mod Turned
-pub mod SameReadings
 mod Indexed
+pub mod Lists
+mod Meeting
+mod Neighbours
+mod Pairing
+mod Placing
+pub mod Renewing
+pub mod SameReadings
 mod Settling
+mod Stepping
+mod Taking
+mod Turned
+pub mod Writing

@@ -1,4 +1,9 @@
-pub mod Ways
+pub mod Effects
 pub mod Index
-pub mod Turning
+pub mod Meeting
+pub mod Ready
+pub mod Receiving
 pub mod Renewing
+pub mod Taking
+pub mod Turning
+pub mod Ways

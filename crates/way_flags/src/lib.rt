@@ -1,15 +1,21 @@
-//! Which ways of a flat system can fire, and how that changes with the values.
+//! Which ways of a flat system can fire, how that changes with the values, and what state variables receive where one fires.
 #![tactic(auto)]
 
+mod effects;
+mod faults;
 mod flags;
 mod index;
 mod looking;
 mod order;
+mod receiving;
 mod sequence;
+mod takers;
 mod turning;
 mod waiting;
 
+pub use faults::ReceiveFault;
 pub use flags::is_set;
 pub use index::{WayIndex, way_index};
 pub use looking::{renew, way_flags};
+pub use receiving::received;
 pub use turning::turn;

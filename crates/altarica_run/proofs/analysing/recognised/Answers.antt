@@ -2,7 +2,7 @@ use Rattle.std.proofs.Common.{◌∙◌, ℕ, List, ap, sym, subst}
 use Rattle.ar_meaning.specs.Systems.{System}
 use Rattle.gts_core.specs.View.{Views}
 use Rattle.gts_core.specs.declared.system.GtsParts.{GtsParts}
-use Rattle.mode_forests.specs.Views.{trees_of, number_in}
+use Rattle.mode_trees.specs.Views.{trees_of, number_in}
 use Rattle.static_fragment.specs.Recognised.{IsRecognised, IsRefused, spot_of}
 use Rattle.static_fragment.specs.declared.faults.FragmentFault.{FragmentFault}
 use Rattle.altarica_run.specs.Spots.{path_in}

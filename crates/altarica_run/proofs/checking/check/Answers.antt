@@ -3,10 +3,10 @@ use Rattle.cut_check.specs.Flat.{AreVerdicts}
 use Rattle.cut_check.specs.declared.checking.Verdict.{Verdict}
 use Rattle.gts_core.specs.declared.bound.Chain.{Chain}
 use Rattle.std.proofs.lemmas.Result.{err_from_is_err_and}
-use Rattle.mode_forests.specs.Views.{trees_of, number_in}
+use Rattle.mode_trees.specs.Views.{trees_of, number_in}
 use Rattle.eq_core.specs.Views.{table_of}
 use Rattle.gate_diagrams.specs.declared.answer.Drawn.TheVariants.{Cuts}
-use Rattle.drawn_cuts.specs.Drawn.{sets_of}
+use Rattle.table_laws.specs.Drawn.{sets_of}
 use Rattle.altarica_run.specs.Stages.{lists_cuts}
 use Rattle.altarica_run.specs.Tells.{Tells}
 use Rattle.altarica_run.specs.declared.status.Status.TheVariants.{Done}

@@ -1,9 +1,9 @@
 use Rattle.std.proofs.Common.{Ok, Err}
 use Rattle.std.proofs.lemmas.Result.{err_from_is_err_and}
-use Rattle.mode_forests.specs.Views.{trees_of, number_in}
+use Rattle.mode_trees.specs.Views.{trees_of, number_in}
 use Rattle.eq_core.specs.Views.{table_of}
 use Rattle.gate_diagrams.specs.declared.answer.Drawn.TheVariants.{Conflicts}
-use Rattle.drawn_cuts.specs.Drawn.{sets_of}
+use Rattle.table_laws.specs.Drawn.{sets_of}
 use Rattle.altarica_run.specs.Tells.{Tells}
 use Rattle.altarica_run.specs.declared.status.Status.TheVariants.{Fault}
 use Rattle.altarica_run.proofs.CutLemmas.{both, own_forest, forest_is, table, observed, agrees, are_drawn, none_printed, printed_partly, printed_whole, conflict_printed}

@@ -1,6 +1,6 @@
 use Rattle.std.proofs.Common.{refl, ap, Err}
 use Rattle.std.proofs.lemmas.Result.{err_from_is_err_and}
-use Rattle.mode_forests.specs.Views.{number_in}
+use Rattle.mode_trees.specs.Views.{number_in}
 use Rattle.cut_text.specs.declared.faults.PrintFault.TheVariants as print
 use Rattle.altarica_run.specs.Telling.{nothing}
 use Rattle.altarica_run.specs.Tells.{Tells, nodes_line}

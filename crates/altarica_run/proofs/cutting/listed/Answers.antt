@@ -1,5 +1,5 @@
 use Rattle.std.proofs.Common.{◌≤◌, ◌∙◌, length, sym, ap, subst}
-use Rattle.mode_forests.specs.Views.{trees_of}
+use Rattle.mode_trees.specs.Views.{trees_of}
 use Rattle.eq_core.specs.Views.{table_of}
 use Rattle.gate_diagrams.specs.Answers.{IsAnswer, store_of}
 use Rattle.gate_diagrams.specs.declared.answer.Drawn.{Drawn}

@@ -1,7 +1,7 @@
 use Rattle.std.proofs.Common.{ap}
 use Rattle.std.proofs.lemmas.Result.{err_from_is_err_and}
 use Rattle.gate_diagrams.specs.declared.answer.Drawn.TheVariants.{Cuts}
-use Rattle.drawn_cuts.specs.Drawn.{sets_of}
+use Rattle.table_laws.specs.Drawn.{sets_of}
 use Rattle.altarica_run.specs.Stages.{lists_cuts}
 use Rattle.altarica_run.specs.Tells.{Tells}
 use Rattle.altarica_run.specs.declared.status.Status.TheVariants.{Done}

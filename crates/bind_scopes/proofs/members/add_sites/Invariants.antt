@@ -2,7 +2,7 @@ use Rattle.std.proofs.Common.{take, map}
 use Rattle.class_table.specs.Declaring.{Declared}
 use Rattle.class_table.specs.Members.{named_at}
 use Rattle.class_table.specs.Tables.{Holds, site_of}
-use Rattle.unit_sizes.specs.Typing.{KnowsPlaces}
+use Rattle.unit_rules.specs.Typing.{KnowsPlaces}
 use Rattle.bind_scopes.specs.Members.{AddsNames}
 use Rattle.bind_scopes.proofs.members.add_sites.Given as goal
 

@@ -18,11 +18,11 @@ use Rattle.gts_core.specs.declared.system.GtsParts.{GtsParts}
 use Rattle.gts_core.specs.View.{Views}
 use Rattle.gts_flatten.specs.Elaborating.{Elaborated}
 use Rattle.gts_flatten.specs.Flat.{naming_of}
-use Rattle.mode_forests.specs.Views.{trees_of}
-use Rattle.mode_forests.specs.declared.forests.Edge.{Edge}
-use Rattle.mode_forests.specs.declared.forests.Forest.{Forest}
+use Rattle.mode_trees.specs.Views.{trees_of}
+use Rattle.mode_trees.specs.declared.forests.Edge.{Edge}
+use Rattle.mode_trees.specs.declared.forests.Forest.{Forest}
 use Rattle.min_cuts.specs.Lines.{AreInFiringOrder}
-use Rattle.script_lines.specs.Chains.{cut_of, labels_of}
+use Rattle.job_inputs.specs.Chains.{cut_of, labels_of}
 use Rattle.cut_check.specs.Flat.{chain_lines, IsVerdict}
 use Rattle.cut_check.specs.Verdicts.{IsSaid, IsMissing}
 use Rattle.cut_check.proofs.LawLemmas.{said_back, missing_there, missing_back}

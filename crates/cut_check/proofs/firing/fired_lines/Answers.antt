@@ -2,8 +2,8 @@ use Rattle.std.proofs.Common.{◌∙◌, ◌∷◌, [], List, get_or, length, ap
 use Rattle.ar_base.specs.Numbers.{WayId}
 use Rattle.ar_base.proofs.Standing.{stands_get, stands_item}
 use Rattle.gts_core.specs.View.{numbered}
-use Rattle.script_lines.specs.Chains.{labels_of}
-use Rattle.script_lines.specs.CutReads.{AreKnownWays}
+use Rattle.job_inputs.specs.Chains.{labels_of}
+use Rattle.job_inputs.specs.CutReads.{AreKnownWays}
 use Rattle.cut_check.specs.Flat.{chain_lines}
 use Rattle.cut_check.proofs.RowLemmas.{chain_known}
 use Rattle.cut_check.proofs.TruthLemmas.{fired_at_start, truths_none, truths_more, line_stands, row_fit}

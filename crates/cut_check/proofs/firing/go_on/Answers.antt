@@ -7,7 +7,7 @@ use Rattle.ar_firing.specs.Fragment.{IsOpen}
 use Rattle.ar_firing.specs.Replays.{AreOpen}
 use Rattle.ar_meaning.specs.Systems.{System, Way}
 use Rattle.gts_core.specs.declared.system.GtsParts.{GtsParts}
-use Rattle.script_lines.specs.Chains.{labels_of}
+use Rattle.job_inputs.specs.Chains.{labels_of}
 use Rattle.text_pieces.specs.WayLabels.{label_of}
 use Rattle.cut_check.proofs.RowLemmas.{known_at}
 use Rattle.cut_check.proofs.TruthLemmas.{stops_all}

@@ -2,7 +2,7 @@ use Rattle.std.proofs.Common.{◌≡◌, ◌≤◌, ◌-◌, ℕ, List, take, le
 use Rattle.ar_firing.specs.Replays.{AreOpen}
 use Rattle.ar_meaning.specs.Systems.{System}
 use Rattle.gts_core.specs.View.{Views}
-use Rattle.script_lines.specs.Chains.{labels_of}
+use Rattle.job_inputs.specs.Chains.{labels_of}
 use Rattle.cut_check.specs.Truths.{HasFired}
 use Rattle.cut_check.proofs.firing.go_on.Given as goal
 

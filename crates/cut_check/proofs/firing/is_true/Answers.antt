@@ -6,7 +6,7 @@ use Rattle.gts_core.specs.Readings.{IsTotal, value_in}
 use Rattle.gts_core.specs.View.{numbered}
 use Rattle.gts_core.specs.declared.system.GtsParts.{GtsParts}
 use Rattle.gts_core.proofs.Tests.{answer_true, answer_false}
-use Rattle.script_lines.specs.Chains.{labels_of}
+use Rattle.job_inputs.specs.Chains.{labels_of}
 use Rattle.cut_check.specs.Rows.{IsFit}
 use Rattle.cut_check.specs.Verdicts.{IsTrueLine}
 use Rattle.cut_check.proofs.TruthLemmas.{true_fit, are_open, fired_answer}

@@ -1,6 +1,6 @@
 use Rattle.std.proofs.Common.{take}
 use Rattle.ar_base.specs.Lists.{IsOneOf}
-use Rattle.script_lines.specs.Chains.{labels_of}
+use Rattle.job_inputs.specs.Chains.{labels_of}
 use Rattle.cut_check.specs.Verdicts.{events_of}
 use Rattle.cut_check.proofs.listed.has_event.Given as goal
 

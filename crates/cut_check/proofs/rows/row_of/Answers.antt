@@ -2,7 +2,7 @@ use Rattle.std.proofs.Common.{◌≡◌, ◌∙◌, List, get_or, take, subst, a
 use Rattle.std.proofs.lemmas.List.{take_all}
 use Rattle.ar_base.specs.Numbers.{WayId}
 use Rattle.ar_base.proofs.Standing.{stands_get}
-use Rattle.script_lines.specs.Chains.{labels_of}
+use Rattle.job_inputs.specs.Chains.{labels_of}
 use Rattle.text_pieces.specs.WayLabels.{label_of}
 use Rattle.text_pieces.proofs.Ways.{read_stands}
 use Rattle.cut_check.specs.Rows.{IsRow}

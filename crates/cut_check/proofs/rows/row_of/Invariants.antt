@@ -1,6 +1,6 @@
 use Rattle.std.proofs.Common.{◌≡◌, ℕ, List, take, length}
 use Rattle.flow_blocks.specs.Bits.{words_for}
-use Rattle.script_lines.specs.Chains.{labels_of}
+use Rattle.job_inputs.specs.Chains.{labels_of}
 use Rattle.cut_check.specs.Rows.{AreOpenEvents, IsRow}
 use Rattle.cut_check.proofs.rows.row_of.Given as goal
 

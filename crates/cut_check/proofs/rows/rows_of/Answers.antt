@@ -3,8 +3,8 @@ use Rattle.std.proofs.lemmas.List.{take_all, take_more}
 use Rattle.ar_base.specs.Numbers.{WayId}
 use Rattle.ar_base.proofs.Standing.{stands_item}
 use Rattle.gts_core.specs.declared.bound.Chain.{Chain}
-use Rattle.script_lines.specs.Chains.{labels_of}
-use Rattle.script_lines.specs.CutReads.{AreKnownWays}
+use Rattle.job_inputs.specs.Chains.{labels_of}
+use Rattle.job_inputs.specs.CutReads.{AreKnownWays}
 use Rattle.cut_check.specs.Rows.{IsRow, AreRows}
 use Rattle.cut_check.proofs.RowLemmas.{chain_known, rows_more}
 use Rattle.cut_check.proofs.rows.rows_of.Goals as goal

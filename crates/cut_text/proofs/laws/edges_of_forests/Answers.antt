@@ -1,5 +1,5 @@
 use Rattle.ar_firing.proofs.Shapes.{are_trees}
-use Rattle.mode_forests.specs.Views.{trees_of}
+use Rattle.mode_trees.specs.Views.{trees_of}
 use Rattle.cut_text.proofs.Relabelled.{trees_as, one_way, known}
 use Rattle.cut_text.proofs.laws.edges_of_forests.Goals as goal
 

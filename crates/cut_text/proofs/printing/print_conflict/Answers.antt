@@ -4,7 +4,7 @@ use Rattle.ar_base.specs.Numbers.{WayId}
 use Rattle.ar_io.proofs.Writing.{writes_as}
 use Rattle.flow_propagate.specs.Answers.{fault_of}
 use Rattle.min_cuts.specs.Kept.{numbers}
-use Rattle.mode_forests.specs.declared.forests.ModeTree.{ModeTree}
+use Rattle.mode_trees.specs.declared.forests.ModeTree.{ModeTree}
 use Rattle.cut_text.specs.Printed.{edges_of}
 use Rattle.cut_text.specs.Tables.{AreWaysOf, IsMet}
 use Rattle.cut_text.proofs.Answering.{failed}

@@ -2,7 +2,7 @@ use Rattle.std.proofs.Common.{◌++◌, ◌∙◌, ℕ, List, Err, ap, sym, subs
 use Rattle.std.proofs.lemmas.Result.{err_from_is_err_and}
 use Rattle.ar_base.specs.Numbers.{WayId}
 use Rattle.ar_io.proofs.Writing.{writes_on, writes_cut, writes_as}
-use Rattle.mode_forests.specs.declared.forests.ModeTree.{ModeTree}
+use Rattle.mode_trees.specs.declared.forests.ModeTree.{ModeTree}
 use Rattle.cut_text.specs.Printed.{edges_of}
 use Rattle.cut_text.specs.Tables.{AreWaysOf}
 use Rattle.cut_text.specs.Texts.{count_line}

@@ -1,5 +1,5 @@
 use Rattle.std.proofs.Common.{take}
-use Rattle.flow_rounds.specs.Reasons.{AreReasonsFrom}
+use Rattle.flow_reasons.specs.Reasons.{AreReasonsFrom}
 use Rattle.gts_core.specs.View.{net_of, variables_from}
 use Rattle.flow_reasons.specs.Answers.{reasons_of}
 use Rattle.flow_reasons.proofs.listing.listed.Given as goal

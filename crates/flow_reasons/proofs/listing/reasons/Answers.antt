@@ -1,6 +1,6 @@
 use Rattle.std.proofs.Common.{List, sym, subst}
 use Rattle.domains.specs.declared.Value.{Value}
-use Rattle.flow_rounds.specs.Reasons.{AreReasons}
+use Rattle.flow_reasons.specs.Reasons.{AreReasons}
 use Rattle.gts_core.specs.View.{net_of}
 use Rattle.gts_core.specs.declared.system.GtsParts.{GtsParts}
 use Rattle.flow_reasons.specs.Answers.{reasons_of}

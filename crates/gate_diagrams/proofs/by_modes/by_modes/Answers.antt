@@ -1,8 +1,8 @@
 use Rattle.std.proofs.Common.{map, IfSome, sym, subst}
-use Rattle.mode_forests.specs.Views.{tree_of, trees_of}
+use Rattle.mode_trees.specs.Views.{tree_of, trees_of}
 use Rattle.mode_diagrams.specs.Trees.{AreNumbered, AreApart}
-use Rattle.mode_numbers.specs.Numbers.{AreNumbersOf, IsByModes}
-use Rattle.mode_numbers.proofs.Firable.{firable_by_modes}
+use Rattle.mode_diagrams.specs.Numbers.{AreNumbersOf, IsByModes}
+use Rattle.mode_diagrams.proofs.Firable.{firable_by_modes}
 use Rattle.gate_diagrams.proofs.by_modes.by_modes.Goals as goal
 
 pub answer_by_modes-requires-clause-numbered : goal.answer_by_modes-requires-clause-numbered

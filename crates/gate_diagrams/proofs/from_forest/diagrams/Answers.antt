@@ -1,6 +1,6 @@
 use Rattle.std.proofs.Common.{◌≡◌, ◌≤◌, length, IfOk, IfSome, Err, sym, ap, ◌∙◌, subst}
 use Rattle.std.proofs.lemmas.Result.{err_from_is_err_and}
-use Rattle.mode_forests.specs.Views.{trees_of}
+use Rattle.mode_trees.specs.Views.{trees_of}
 use Rattle.zdd_nodes.specs.declared.NodeFault.{NodeFault}
 use Rattle.zdd_nodes.specs.declared.NodeFault.TheVariants.{Full}
 use Rattle.eq_core.specs.Views.{table_of}

@@ -1,6 +1,6 @@
 use Rattle.std.proofs.Common.{[], sym, subst}
 use Rattle.ar_base.proofs.Standing.{stands_map, stands_item}
-use Rattle.mode_forests.specs.Views.{tree_of}
+use Rattle.mode_trees.specs.Views.{tree_of}
 use Rattle.gate_diagrams.proofs.TreePaths.{AreDrawn, none_drawn, next_drawn}
 use Rattle.gate_diagrams.proofs.paths.forest_paths.Goals as goal
 

@@ -1,6 +1,6 @@
 use Rattle.std.proofs.Common.{map, take}
 use Rattle.zdd_nodes.specs.Nodes.{IsSoundStore}
-use Rattle.mode_forests.specs.Views.{tree_of}
+use Rattle.mode_trees.specs.Views.{tree_of}
 use Rattle.gate_diagrams.proofs.TreePaths.{AreDrawn}
 use Rattle.gate_diagrams.proofs.paths.forest_paths.Given as goal
 

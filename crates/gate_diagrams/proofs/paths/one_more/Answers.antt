@@ -1,7 +1,7 @@
 use Rattle.std.proofs.Common.{sym, ◌∙◌, subst}
 use Rattle.zdd_nodes.specs.Nodes.{NodeId}
 use Rattle.zdd_nodes.proofs.Growing.{Grows-then}
-use Rattle.mode_forests.specs.Views.{row_of}
+use Rattle.mode_trees.specs.Views.{row_of}
 use Rattle.gate_diagrams.specs.Paths.{IsOneSet}
 use Rattle.gate_diagrams.proofs.Adding.{extends}
 use Rattle.gate_diagrams.proofs.Tabling.{some_one, tabled_more}

@@ -1,6 +1,6 @@
 use Rattle.std.proofs.Common.{◌≡◌, length, get_or, ap, arith}
 use Rattle.std.proofs.lemmas.List.{length-map}
-use Rattle.mode_forests.specs.Views.{row_of, tree_of}
+use Rattle.mode_trees.specs.Views.{row_of, tree_of}
 use Rattle.zdd_nodes.proofs.Growing.{Grows-none, Grows-then}
 use Rattle.gate_diagrams.proofs.Tabling.{no_edge, edge_stands, tabled_first, tabled_listed}
 use Rattle.gate_diagrams.proofs.paths.tree_paths.Goals as goal

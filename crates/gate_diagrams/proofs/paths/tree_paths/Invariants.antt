@@ -1,5 +1,5 @@
 use Rattle.zdd_nodes.specs.Nodes.{IsSoundStore}
-use Rattle.mode_forests.specs.Views.{tree_of}
+use Rattle.mode_trees.specs.Views.{tree_of}
 use Rattle.gate_diagrams.specs.Paths.{Extends, IsTabled}
 use Rattle.gate_diagrams.proofs.paths.tree_paths.Given as goal
 

@@ -1,5 +1,5 @@
 use Rattle.std.proofs.Common.{◌≡◌, ◌++◌, map, take}
-use Rattle.mode_forests.specs.Views.{row_of}
+use Rattle.mode_trees.specs.Views.{row_of}
 use Rattle.min_cuts.specs.Kept.{numbers}
 use Rattle.min_cuts.proofs.orders.add_events.Given as goal
 

@@ -1,5 +1,5 @@
 use Rattle.std.proofs.Common.{◌≡◌, ◌<◌, List, get_or, length, subst}
-use Rattle.mode_forests.specs.declared.forests.ModeTree.{ModeTree}
+use Rattle.mode_trees.specs.declared.forests.ModeTree.{ModeTree}
 use Rattle.min_cuts.specs.Kept.{numbers}
 use Rattle.min_cuts.proofs.Growing.{order_more}
 use Rattle.min_cuts.proofs.orders.order_of.Goals as goal

@@ -1,5 +1,5 @@
 use Rattle.std.proofs.Common.{◌≡◌, map, take}
-use Rattle.mode_forests.specs.Views.{tree_of}
+use Rattle.mode_trees.specs.Views.{tree_of}
 use Rattle.min_cuts.specs.Kept.{numbers, edge_events}
 use Rattle.min_cuts.proofs.orders.order_of.Given as goal
 

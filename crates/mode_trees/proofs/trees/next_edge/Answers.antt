@@ -1,6 +1,6 @@
 use Rattle.std.proofs.Common.{◌+◌, Option, Some, sym, ◌∙◌, ap, subst}
 use Rattle.ar_base.proofs.Standing.{stands_get}
-use Rattle.mode_forests.specs.declared.forests.Edge.{Edge}
+use Rattle.mode_trees.specs.declared.forests.Edge.{Edge}
 use Rattle.mode_trees.specs.Paths.{IsNextOrNone}
 use Rattle.mode_trees.proofs.Nexts.{next_take, next_skip}
 use Rattle.mode_trees.proofs.trees.next_edge.Goals.{then-leaves, else-leaves}

@@ -1,6 +1,6 @@
 use Rattle.std.proofs.Common.{List, take}
 use Rattle.ar_base.specs.Lists.{Along}
-use Rattle.mode_forests.specs.declared.forests.Edge.{Edge}
+use Rattle.mode_trees.specs.declared.forests.Edge.{Edge}
 use Rattle.module_text.specs.Arranged.{IsGroupOf}
 use Rattle.module_text.specs.Places.{ArePlacesOf}
 use Rattle.module_text.proofs.arranging.groups_of.Given as goal

@@ -1,5 +1,5 @@
 use Rattle.std.proofs.Common.{◌≡◌, List, map, take}
-use Rattle.mode_forests.specs.declared.forests.Edge.{Edge}
+use Rattle.mode_trees.specs.declared.forests.Edge.{Edge}
 use Rattle.module_text.specs.Arranged.{pieces_of, part_pieces}
 use Rattle.module_text.specs.Places.{ArePlacesOf}
 use Rattle.module_text.proofs.arranging.lines_of_sets.Given as goal

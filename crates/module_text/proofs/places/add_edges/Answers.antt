@@ -1,5 +1,5 @@
 use Rattle.std.proofs.Common.{List, ◌++◌, take, take_all, append-nil, sym, ap, subst}
-use Rattle.mode_forests.specs.declared.forests.Edge.{Edge}
+use Rattle.mode_trees.specs.declared.forests.Edge.{Edge}
 use Rattle.module_text.specs.Places.{ArePlacesOf}
 use Rattle.module_text.proofs.Placing.{edges_more}
 use Rattle.module_text.proofs.places.add_edges.Goals as goal

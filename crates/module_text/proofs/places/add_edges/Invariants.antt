@@ -1,5 +1,5 @@
 use Rattle.std.proofs.Common.{List, take, ◌++◌}
-use Rattle.mode_forests.specs.declared.forests.Edge.{Edge}
+use Rattle.mode_trees.specs.declared.forests.Edge.{Edge}
 use Rattle.module_text.specs.Places.{ArePlacesOf}
 use Rattle.module_text.proofs.places.add_edges.Given as goal
 

@@ -8,12 +8,12 @@ use Rattle.domains.specs.declared.Value.{Value}
 use Rattle.gts_core.specs.Readings.{IsTotal}
 use Rattle.gts_core.specs.declared.system.GtsParts.{GtsParts}
 use Rattle.gts_flatten.specs.Flat.{naming_of_parts}
-use Rattle.script_lines.specs.Flat.{command_of}
+use Rattle.job_inputs.specs.Flat.{command_of}
 use Rattle.replayer.specs.Observing.{AreInOrder}
 use Rattle.replayer.specs.Playing.{AreTotal, Answers}
 use Rattle.replayer.specs.Printing.{values_text}
-use Rattle.script_lines.specs.declared.commands.Command.{Command}
-use Rattle.script_lines.specs.declared.commands.Command.TheVariants as code
+use Rattle.job_inputs.specs.declared.commands.Command.{Command}
+use Rattle.job_inputs.specs.declared.commands.Command.TheVariants as code
 use Rattle.replayer.specs.declared.replaying.End.{End}
 use Rattle.replayer.proofs.FollowLemmas.{total_none}
 use Rattle.replayer.proofs.WayLemmas.{fires_ways, firable_at}

@@ -2,7 +2,7 @@ use Rattle.std.proofs.Common.{◌≡◌, ℕ, map, drop}
 use Rattle.ar_meaning.specs.Systems.{System}
 use Rattle.gts_core.specs.View.{Views}
 use Rattle.gts_flatten.specs.Flat.{naming_of_parts}
-use Rattle.script_lines.specs.Flat.{command_of}
+use Rattle.job_inputs.specs.Flat.{command_of}
 use Rattle.replayer.specs.Observing.{IsLatest}
 use Rattle.replayer.specs.Playing.{AreTotal, IsPlayed}
 use Rattle.replayer.proofs.replaying.play.Given as goal

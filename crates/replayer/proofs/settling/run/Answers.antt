@@ -4,11 +4,11 @@ use Rattle.std.proofs.lemmas.Result.{err_from_is_err_and}
 use Rattle.ar_base.proofs.Standing.{stands_get}
 use Rattle.domains.specs.declared.Value.{Value}
 use Rattle.gts_flatten.specs.Flat.{naming_of_parts}
-use Rattle.script_lines.specs.Flat.{command_of}
+use Rattle.job_inputs.specs.Flat.{command_of}
 use Rattle.replayer.specs.Settles.{Settles}
 use Rattle.replayer.specs.Settling.{AnswersCommand}
-use Rattle.script_lines.specs.declared.commands.Command.{Command}
-use Rattle.script_lines.specs.declared.commands.Command.TheVariants as code
+use Rattle.job_inputs.specs.declared.commands.Command.{Command}
+use Rattle.job_inputs.specs.declared.commands.Command.TheVariants as code
 use Rattle.replayer.specs.declared.replaying.End.{End}
 use Rattle.replayer.proofs.WayLemmas.{firable_at}
 use Rattle.replayer.proofs.SettleLemmas.{running, running_on, running_fails, running_told, running_ends, settles_as}

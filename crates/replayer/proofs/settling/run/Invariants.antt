@@ -1,7 +1,7 @@
 use Rattle.std.proofs.Common.{◌≡◌, ℕ, map, drop}
 use Rattle.ar_meaning.specs.Systems.{System}
 use Rattle.gts_core.specs.View.{Views}
-use Rattle.script_lines.specs.Flat.{command_of}
+use Rattle.job_inputs.specs.Flat.{command_of}
 use Rattle.replayer.specs.Settling.{IsRunning}
 use Rattle.replayer.proofs.settling.run.Given as goal
 

@@ -1,7 +1,7 @@
 use Rattle.std.proofs.Common.{refl, subst, sym}
-use Rattle.script_lines.specs.Flat.{command_of}
+use Rattle.job_inputs.specs.Flat.{command_of}
 use Rattle.replayer.specs.Settling.{GoesOn}
-use Rattle.script_lines.specs.declared.commands.Command.{Command}
+use Rattle.job_inputs.specs.declared.commands.Command.{Command}
 use Rattle.replayer.proofs.SettleLemmas.{show_goes, list_goes}
 use Rattle.replayer.proofs.settling.take.Goals as goal
 

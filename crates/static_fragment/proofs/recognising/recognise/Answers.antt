@@ -5,11 +5,11 @@ use Rattle.ar_firing.specs.Rules.{S1, S2}
 use Rattle.gts_core.specs.View.{Views}
 use Rattle.gts_core.specs.Sound.{IsSound}
 use Rattle.gts_core.specs.declared.system.GtsParts.{GtsParts}
-use Rattle.kept_ways.specs.Events.{numbers_of}
-use Rattle.kept_ways.specs.declared.kept.KeptWay.{KeptWay}
-use Rattle.mode_forests.specs.Views.{trees_of, number_in}
-use Rattle.mode_forests.specs.Ways.{OwnTheirWays}
-use Rattle.mode_edges.specs.declared.searching.Reach.{Reach}
+use Rattle.mode_search.specs.Events.{numbers_of}
+use Rattle.mode_search.specs.declared.kept.KeptWay.{KeptWay}
+use Rattle.mode_trees.specs.Views.{trees_of, number_in}
+use Rattle.mode_trees.specs.Ways.{OwnTheirWays}
+use Rattle.mode_search.specs.declared.searching.Reach.{Reach}
 use Rattle.static_fragment.specs.Recognised.{IsRefused}
 use Rattle.static_fragment.specs.Stages.{HasWays, IsSeen, AreFromWays, NoneAgain}
 use Rattle.static_fragment.proofs.Judging.{if_err, reaches_on, sharing_on, all_rules}

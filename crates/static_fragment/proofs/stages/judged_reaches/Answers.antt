@@ -1,8 +1,8 @@
 use Rattle.std.proofs.Common.{List, Err, ◌∙◌, ap, subst}
 use Rattle.std.proofs.lemmas.Result.{err_from_is_err_and}
-use Rattle.mode_edges.specs.declared.searching.Reach.{Reach}
-use Rattle.kept_ways.specs.Events.{IsLeast}
-use Rattle.live_edges.specs.Reaches.{IsWrongAt}
+use Rattle.mode_search.specs.declared.searching.Reach.{Reach}
+use Rattle.mode_search.specs.Events.{IsLeast}
+use Rattle.mode_search.specs.Reaches.{IsWrongAt}
 use Rattle.static_fragment.proofs.Judging.{on_err, refused4, kept4}
 use Rattle.static_fragment.proofs.stages.judged_reaches.Goals as goal
 

@@ -1,7 +1,7 @@
 use Rattle.std.proofs.Common.{List, length, Err, ◌∙◌, ap, subst, sym, arith}
 use Rattle.std.proofs.lemmas.Result.{err_from_is_err_and}
-use Rattle.live_edges.specs.declared.listing.Live.{Live}
-use Rattle.live_edges.specs.Sharing.{AreWithin, IsSharing}
+use Rattle.mode_search.specs.declared.listing.Live.{Live}
+use Rattle.mode_search.specs.Sharing.{AreWithin, IsSharing}
 use Rattle.static_fragment.proofs.Judging.{on_err, refused5, kept5}
 use Rattle.static_fragment.proofs.Forests.{all_apart, all_within}
 use Rattle.static_fragment.proofs.stages.judged_sharing.Goals as goal

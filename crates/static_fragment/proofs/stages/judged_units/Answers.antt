@@ -1,6 +1,6 @@
 use Rattle.std.proofs.Common.{Err, ◌∙◌, ap, arith}
 use Rattle.std.proofs.lemmas.Result.{err_from_is_err_and}
-use Rattle.kept_ways.specs.Events.{numbers_of}
+use Rattle.mode_search.specs.Events.{numbers_of}
 use Rattle.static_fragment.proofs.Judging.{on_err, refused1, kept1, refused2, kept2, units_are, stateless_as}
 use Rattle.static_fragment.proofs.stages.judged_units.Goals as goal
 

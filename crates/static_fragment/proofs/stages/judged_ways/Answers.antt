@@ -1,8 +1,8 @@
 use Rattle.std.proofs.Common.{List, Err, ◌∙◌, ap, subst}
 use Rattle.std.proofs.lemmas.Result.{err_from_is_err_and}
-use Rattle.kept_ways.specs.Events.{IsLeast}
-use Rattle.kept_ways.specs.Kept.{OtherInGuard}
-use Rattle.kept_ways.specs.declared.kept.KeptWay.{KeptWay}
+use Rattle.mode_search.specs.Events.{IsLeast}
+use Rattle.mode_search.specs.Kept.{OtherInGuard}
+use Rattle.mode_search.specs.declared.kept.KeptWay.{KeptWay}
 use Rattle.static_fragment.proofs.Judging.{on_err, refused3, kept3, ways_are}
 use Rattle.static_fragment.proofs.stages.judged_ways.Goals as goal
 

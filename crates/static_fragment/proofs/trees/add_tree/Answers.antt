@@ -1,5 +1,5 @@
 use Rattle.std.proofs.Common.{refl, subst, List}
-use Rattle.mode_forests.specs.declared.forests.Edge.{Edge}
+use Rattle.mode_trees.specs.declared.forests.Edge.{Edge}
 use Rattle.mode_trees.specs.Below.{IsBelow}
 use Rattle.static_fragment.specs.Trees.{adds}
 use Rattle.static_fragment.proofs.trees.add_tree.Goals as goal

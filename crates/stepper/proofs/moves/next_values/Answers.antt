@@ -8,7 +8,7 @@ use Rattle.gts_core.specs.View.{net_of, IsWayAt}
 use Rattle.gts_core.specs.Readings.{IsTotal}
 use Rattle.gts_core.specs.declared.system.GtsParts.{GtsParts}
 use Rattle.gts_core.proofs.Tests.{answer_false}
-use Rattle.way_effects.specs.Ready.{IsReady, IsReceiveFault}
+use Rattle.way_flags.specs.Ready.{IsReady, IsReceiveFault}
 use Rattle.flow_propagate.specs.NewValues.{AreNewValues, written}
 use Rattle.way_flags.specs.Ways.{flag_at, AreFlags}
 use Rattle.stepper.specs.Steps.{IsStepFault}

@@ -1,5 +1,5 @@
 use Rattle.std.proofs.Common.{[]}
-use Rattle.mode_forests.specs.Views.{number_in}
+use Rattle.mode_trees.specs.Views.{number_in}
 use Rattle.system_cases.proofs.Keyed.{keyed_static}
 use Rattle.system_cases.proofs.analysing.forest_of.Goals as goal
 

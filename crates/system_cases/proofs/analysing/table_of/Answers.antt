@@ -5,7 +5,7 @@ use Rattle.domains.specs.declared.Value.TheVariants.{Truth}
 use Rattle.eq_core.specs.Views.{table_of}
 use Rattle.gts_core.specs.View.{net_of, numbered}
 use Rattle.gts_core.specs.declared.system.Observer.{Observer}
-use Rattle.mode_forests.specs.Views.{trees_of, number_in}
+use Rattle.mode_trees.specs.Views.{trees_of, number_in}
 use Rattle.tree_equations.specs.Gives.{AtObserver, IsTableOf}
 use Rattle.system_cases.proofs.Keyed.{keyed_static}
 use Rattle.system_cases.proofs.analysing.table_of.Goals as goal

@@ -13,7 +13,7 @@ use Rattle.gts_core.specs.Lawful.{kind_by_number}
 use Rattle.gts_core.specs.View.{net_of, numbered}
 use Rattle.gts_core.specs.declared.system.Observer.{Observer}
 use Rattle.hierarchy.specs.Listing.{variables}
-use Rattle.mode_forests.specs.Views.{trees_of, number_in}
+use Rattle.mode_trees.specs.Views.{trees_of, number_in}
 use Rattle.table_steps.specs.Table.{IsTable}
 use Rattle.aralia_text.specs.Texts.{equations_text}
 use Rattle.table_text.proofs.laws.tables_of_the_source.Goals as goal

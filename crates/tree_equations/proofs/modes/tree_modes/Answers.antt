@@ -7,8 +7,8 @@ use Rattle.eq_build.specs.Views.{gates_in}
 use Rattle.eq_build.proofs.Growing.{longer_on}
 use Rattle.eq_build.proofs.Places.{item_next}
 use Rattle.eq_build.proofs.Stopping.{stops_up, entries_passed_on}
-use Rattle.mode_forests.specs.Views.{row_of}
-use Rattle.mode_forests.specs.declared.forests.Edge.{Edge}
+use Rattle.mode_trees.specs.Views.{row_of}
+use Rattle.mode_trees.specs.declared.forests.Edge.{Edge}
 use Rattle.table_steps.specs.Steps.{modes_of, entered, not_left}
 use Rattle.tree_equations.specs.Answers.{edges_in, tree_in, plain}
 use Rattle.tree_equations.proofs.Rising.{entered_more, edge_stops}

@@ -13,7 +13,7 @@ use Rattle.gts_core.specs.View.{net_of, numbered}
 use Rattle.gts_core.proofs.Viewing.{are_numbered, variables_long}
 use Rattle.gts_core.specs.declared.system.Variable.{Variable}
 use Rattle.gts_core.specs.declared.system.GtsParts.{GtsParts}
-use Rattle.mode_forests.specs.declared.forests.ModeTree.{ModeTree}
+use Rattle.mode_trees.specs.declared.forests.ModeTree.{ModeTree}
 use Rattle.table_steps.specs.Steps.{Reading, Threads, Has_modes, All_rounds, AreBlocks, first_reading}
 use Rattle.table_steps.specs.Table.{IsTable}
 use Rattle.gts_core.specs.View.{variables_from}

@@ -2,7 +2,7 @@ use Rattle.std.proofs.Common.{◌≡◌, List, [], ℕ, sym, ap, subst, arith}
 use Rattle.ar_base.specs.Lists.{AreDifferent}
 use Rattle.ar_base.specs.Lists.Along.{none as nothing}
 use Rattle.ar_base.specs.Numbers.{EventId}
-use Rattle.mode_forests.specs.Views.{trees_of}
+use Rattle.mode_trees.specs.Views.{trees_of}
 use Rattle.zdd_families.specs.Families.{Family}
 use Rattle.zdd_nodes.specs.Nodes.{family}
 use Rattle.min_cuts.specs.Lines.{AreInFiringOrder}

@@ -12,7 +12,7 @@ use Rattle.flow_propagate.specs.NewValues.{written}
 use Rattle.flow_propagate.specs.declared.propagation.FlowFault.{FlowFault}
 use Rattle.flow_propagate.specs.declared.propagation.PropagateFault.{PropagateFault}
 use Rattle.flow_propagate.specs.declared.propagation.PropagateFault.TheVariants as propagates
-use Rattle.way_effects.specs.Ready.{IsReady}
+use Rattle.way_flags.specs.Ready.{IsReady}
 use Rattle.stepper.specs.Steps.{Standing}
 use Rattle.stepper.proofs.stepper.Stepper.fire.Goals as goal
 

@@ -1,5 +1,0 @@
-mod Laid
-mod Items
-mod Inherited
-mod Seen
-mod Ruled

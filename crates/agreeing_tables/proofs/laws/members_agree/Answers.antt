@@ -1,6 +1,0 @@
-use Rattle.agreeing_tables.proofs.Inherited.{members_same}
-use Rattle.agreeing_tables.proofs.laws.members_agree.Goals as goal
-
-pub returns : goal.returns
-returns c =
-    λ d e s b xs ys h k. members_same c.agreement_opens.ensures.kind d e s c.one_list_of_members.ensures b xs ys h k

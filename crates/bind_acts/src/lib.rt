@@ -1,6 +1,0 @@
-//! The bound instructions that written ones become.
-#![tactic(auto)]
-
-mod acting;
-
-pub use acting::acted;

@@ -1,5 +1,0 @@
-pub mod Marked
-pub mod Wayed
-pub mod Sited
-pub mod Whole
-pub mod Gathered

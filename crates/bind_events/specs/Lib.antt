@@ -1,4 +1,0 @@
-pub mod Bound
-pub mod Ways
-pub mod Hiding
-pub mod Gathering

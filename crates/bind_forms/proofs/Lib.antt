@@ -1,6 +1,0 @@
-pub mod Leafing
-pub mod Saying
-pub mod Rights
-pub mod FullForms
-pub mod Acting
-pub mod Settling

@@ -1,4 +1,0 @@
-pub mod Full
-pub mod Keeping
-pub mod Settled
-pub mod Typed

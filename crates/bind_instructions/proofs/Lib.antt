@@ -1,2 +1,0 @@
-pub mod PartForms
-pub mod RuleForms

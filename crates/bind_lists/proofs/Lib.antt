@@ -1,4 +1,0 @@
-pub mod DomainsKept
-pub mod Varied
-pub mod Asserted
-pub mod Observed

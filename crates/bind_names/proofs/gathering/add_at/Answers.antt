@@ -1,0 +1,14 @@
+use Rattle.std.proofs.Common.{Option, [], refl, subst}
+use Rattle.class_table.specs.declared.tables.Owned.{Owned}
+use Rattle.hierarchy.specs.Listing.{form_of}
+use Rattle.bind_names.specs.Gathering.{AddsMembers}
+use Rattle.bind_names.proofs.Gathered.{members_idle}
+use Rattle.bind_names.proofs.gathering.add_at.Goals as goal
+
+pub returns-in-None : goal.returns-in-None
+returns-in-None c = λ m units u st at mem.
+    let e = rw c.deref.ensures.value at (c.in-None.ensures m.declared) in
+    let events = c.args.events.now.items in
+    subst (λ (o : Option Owned). AddsMembers m units c.args.scopes.now.tree.now u (form_of o) events events)
+    (e st.are.is_tree.table.table.holds.bodies)
+    (members_idle m units c.args.scopes.now.tree.now u [] events (λ n t s q. refl))

@@ -1,0 +1,33 @@
+use Rattle.ar_base.proofs.Standing.{along_back}
+use Rattle.class_table.proofs.Taken.{item_stands}
+use Rattle.hierarchy.specs.Listing.{variables}
+use Rattle.bind_names.proofs.Varied.{along_at, first_none, first_next, first_all}
+use Rattle.bind_names.proofs.variable_list.variables.Goals as goal
+
+pub loop-place-init : goal.loop-place-init
+loop-place-init c = λ m units tied are pre. first_none m units c.args.tree.now tied c.new-variables.result.items
+    c.new-variables.ensures.items
+
+pub loop-place-preserved : goal.loop-place-preserved
+loop-place-preserved c = λ m units tied are pre.
+    let nodes = c.args.tree.now.variables.items in
+    let place = c.loop-place.place in
+    let s = item_stands nodes place c.node-item.result (rw c.deref-node-items.ensures.value at c.loop-place-test.true)
+    (rw c.deref-node-items.ensures.value at c.node-item.is) in
+    let w = along_back (variables m units) nodes tied.variables_are place c.node-item.result s in
+    let v = item_stands c.args.values.now.variables.items place c.in-Some.value.now
+    (rw c.deref.ensures.value at c.in-Some.ensures.lookup.3.0)
+    (rw c.deref.ensures.value at c.in-Some.ensures.lookup.1) in
+    let value = along_at (variables m units) c.args.values.now.variables.items are.variables_are place w.0
+    c.in-Some.value.now w.1 v in
+    let held = along_at nodes c.args.values.now.variables.items are.variables_held place c.node-item.result
+    c.in-Some.value.now s v in
+    first_next m units c.args.tree.now tied place w.0 c.node-item.result c.in_ok-variable.variable
+    c.loop-place.variables.items c.push.new.self.items w.1 s (c.loop-place.invariant m units tied are pre)
+    (c.in_ok-variable.ensures.bound m units w.0 tied pre w.2 value)
+    (c.in_ok-variable.ensures.sound m units w.0 tied w.2 held) c.in_ok-push.ensures.items
+
+pub returns : goal.returns
+returns c = λ m units tied are pre.
+    first_all m units c.args.tree.now tied c.loop-place.place c.loop-place.variables.items
+    (rw c.deref-node-items.ensures.value at c.loop-place-test.false) (c.loop-place.invariant m units tied are pre)

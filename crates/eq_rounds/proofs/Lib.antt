@@ -1,4 +1,0 @@
-mod Counting
-mod Chain
-pub mod Rounds
-pub mod Faults

@@ -1,5 +1,0 @@
-pub mod Expressions
-pub mod Domains
-pub mod Plans
-pub mod Lines
-pub mod Flats

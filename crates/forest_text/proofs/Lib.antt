@@ -1,4 +1,0 @@
-mod EdgeEvents
-mod LiveThere
-mod SameLines
-mod Pieces

@@ -1,6 +1,0 @@
-use Rattle.std.proofs.Common.{◌≡◌, ◌+◌, drop}
-use Rattle.forest_text.specs.Printed.{edge_count}
-use Rattle.forest_text.proofs.printing.edges_in.Given as goal
-
-abbrev pub invariant-loop-tree : goal.invariant-loop-tree
-invariant-loop-tree l = l.edges + edge_count (drop l.tree-index l.trees) ≡ edge_count l.trees

@@ -1,4 +1,0 @@
-pub mod Labels
-pub mod Units
-pub mod Values
-pub mod Showing

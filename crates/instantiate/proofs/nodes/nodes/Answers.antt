@@ -1,0 +1,52 @@
+use Rattle.std.proofs.Common.{◌≡◌, ◌<◌, ℕ, ◌++◌, ◌∷◌, [], List, length, None, take, sym, ◌∙◌, ap, subst, arith}
+use Rattle.std.specs.List.{flat_map}
+use Rattle.std.proofs.lemmas.List.{take_all, append-nil}
+use Rattle.std.proofs.lemmas.List.Concat.{flat_map-append}
+use Rattle.ar_base.specs.Lists.{Stands, Along}
+use Rattle.ar_base.specs.Lists.Along.{none as along_none}
+use Rattle.ar_base.proofs.Standing.{along_back, along_length, stands_get}
+use Rattle.class_table.proofs.Laid.{along_append}
+use Rattle.class_table.proofs.Taken.{take_next}
+use Rattle.hierarchy.specs.Units.{UnitPath, Thing}
+use Rattle.hierarchy.specs.Listing.{things_in}
+use Rattle.hierarchy.specs.declared.outline.Outline.{Outline}
+use Rattle.instantiate.specs.Nodes.{test_of, IsNodeSo}
+use Rattle.instantiate.proofs.OneName.{unit_nodes}
+use Rattle.instantiate.proofs.nodes.nodes.Goals as goal
+
+pub loop-place-init : goal.loop-place-init
+loop-place-init c = λ m units h known.
+    subst (Along (IsNodeSo m units (test_of c.args.listed)) []) (sym c.new-nodes.ensures.items) along_none
+
+pub loop-place-preserved : goal.loop-place-preserved
+loop-place-preserved c = λ m units h known.
+    let l : c.loop-place.place < length c.args.outlines.now = omega arith in
+    let none : Outline = record {
+      name = record { n = 0; of = record {} };
+      owner = None;
+      body = record { n = 0; of = record {} };
+      set_at = None;
+    } in
+    let s = stands_get c.args.outlines.now c.loop-place.place none l in
+    let w = along_back units c.args.outlines.now h.along c.loop-place.place _ s in
+    let n : c.new.result.n ≡ c.loop-place.place = omega (arith, c.in-Ok.ensures, c.new.ensures) in
+    let test = test_of c.args.listed in
+    let there = subst (λ (k : ℕ). Stands units k w.0) (sym n) w.1 in
+    let grown = c.in_ok-add_unit.ensures m w.0 h.table.table known w.2.body in
+    let things = ap (flat_map (things_in test m)) (take_next units c.loop-place.place w.0 w.1)
+    ∙ (flat_map-append (things_in test m) (take c.loop-place.place units) (w.0 ∷ [])
+    ∙ ap (λ (ts : List Thing). flat_map (things_in test m) (take c.loop-place.place units) ++ ts)
+    (append-nil (things_in test m w.0))) in
+    subst (λ (ts : List Thing). Along (IsNodeSo m units test) ts c.add_unit.new.nodes.items) (sym things)
+    (subst (Along (IsNodeSo m units test)
+    (flat_map (things_in test m) (take c.loop-place.place units) ++ things_in test m w.0)) (sym grown)
+    (along_append _ _ _ _ (c.loop-place.invariant m units h known)
+    (unit_nodes m units test c.new.result w.0 there h.table.kept)))
+
+pub returns : goal.returns
+returns c = λ m units h known.
+    let n = along_length units c.args.outlines.now h.along in
+    let e = take_all c.loop-place.place units (omega arith) in
+    subst (λ (us : List UnitPath). Along (IsNodeSo m units (test_of c.args.listed))
+    (flat_map (things_in (test_of c.args.listed) m) us) c.loop-place.nodes.items) e
+    (c.loop-place.invariant m units h known)

@@ -1,0 +1,219 @@
+//! The things of units, in the order of units and members.
+
+ghost use Rattle.std.specs.Prelude.{◌≡◌, ◌++◌, [], ◌∷◌, List, map, OnOk, IfOk, Some};
+ghost use Rattle.std.specs.List.{flat_map};
+ghost use Rattle.ar_base.specs.Lists.{Along};
+ghost use Rattle.ar_syntax.specs.declared.members.Member.{out-Member};
+ghost use Rattle.class_table.specs.Declaring.{Declared};
+ghost use Rattle.class_table.specs.Members.{names_of, named_at, owned_at as declared_at};
+ghost use Rattle.class_table.specs.Tables.{Holds, site_of};
+ghost use Rattle.hierarchy.specs.Models.{RootedModel, IsTableFor};
+ghost use Rattle.hierarchy.specs.Units.{UnitPath, body_of, names_at};
+ghost use Rattle.hierarchy.specs.Listing.{things_in};
+ghost use Rattle.hierarchy.specs.Tie.{AreOutlines};
+ghost use Rattle.unit_rules.specs.Typing.{KnowsPlaces};
+ghost use Rattle.instantiate.specs.Nodes.{test_of, declares_so, single_of, node_named, nodes_of, names_nodes, IsNodeSo};
+
+use ar_base::{BodyId, Memory, NameId, Place, UnitId};
+use ar_syntax::{Member, TypeForm};
+use class_table::{Classes, Owned};
+use hierarchy::{MemNode, Outline, Source};
+use std::alloc::Global;
+use unit_rules::owned_at;
+use unit_rules::TypePlaces;
+
+/// Which things are listed.
+#[derive(Clone, Copy)]
+pub(crate) enum Listed {
+    Variables,
+    Parameters,
+    Events,
+    Observers,
+}
+
+// The node of a member with this name.
+fn node(unit: UnitId, site: (BodyId, u32), name: NameId) -> MemNode
+    ensures { result ≡ node_named unit (site_of site) name }
+{
+    MemNode {
+        unit,
+        name,
+        source: Source {
+            body: site.0,
+            member: site.1,
+            setting: None,
+        },
+    }
+}
+
+// The name of a member that gives one thing of the kind.
+fn single(member: &Member, listed: Listed) -> Option<NameId>
+    ensures { result ≡ single_of listed (out-Member member.now) }
+{
+    match listed {
+        Listed::Variables => None,
+        Listed::Parameters => match member {
+            Member::Parameter(_, name, _, _) | Member::Kept(name, _, _) => Some(*name),
+            _ => None,
+        },
+        Listed::Events => match member {
+            Member::Event(name, _, _) => Some(*name),
+            _ => None,
+        },
+        Listed::Observers => match member {
+            Member::Observer(_, name, _, _) => Some(*name),
+            _ => None,
+        },
+    }
+}
+
+// Whether a declaration by this type gives things of the kind.
+fn declares(form: TypeForm, classes: &Classes, places: &TypePlaces, listed: Listed) -> bool
+    ensures { (d : Declared) → Holds d classes.now → KnowsPlaces classes.now.types.items places.now
+        → result ≡ declares_so listed d form }
+{
+    match listed {
+        Listed::Variables => places.is_domain(&classes.types, form),
+        Listed::Parameters | Listed::Events | Listed::Observers => false,
+    }
+}
+
+// Adds a node for each of these names.
+fn add_names(
+    nodes: &mut Vec<MemNode>,
+    unit: UnitId,
+    site: (BodyId, u32),
+    names: &[(NameId, Place)],
+) -> Result<(), Memory>
+    ensures { OnOk result (nodes.new.items ≡ nodes.old.items
+        ++ names_nodes unit (site_of site) names.now) }
+{
+    for (name, _) in names {
+        nodes.push(node(unit, site, *name))?;
+    }
+    Ok(())
+}
+
+// Adds the nodes of what a member gives of the kind.
+fn add_member(
+    nodes: &mut Vec<MemNode>,
+    unit: UnitId,
+    site: (BodyId, u32),
+    owned: &Owned,
+    classes: &Classes,
+    places: &TypePlaces,
+    listed: Listed,
+) -> Result<(), Memory>
+    ensures { (d : Declared) → Holds d classes.now → KnowsPlaces classes.now.types.items places.now
+        → OnOk result (nodes.new.items ≡ nodes.old.items
+        ++ nodes_of unit (test_of listed) (names_of d (site_of site) (Some owned.now))) }
+{
+    let member = match owned {
+        Owned::Nested(_, _, _) => return Ok(()),
+        Owned::Plain(member) => member,
+    };
+    if let Member::Declare(type_name, names, _) = member {
+        if declares(type_name.form, classes, places, listed) {
+            return add_names(nodes, unit, site, names);
+        }
+        return Ok(());
+    }
+    match single(member, listed) {
+        None => Ok(()),
+        Some(name) => {
+            nodes.push(node(unit, site, name))?;
+            Ok(())
+        }
+    }
+}
+
+// Adds the nodes of what the member at a site gives of the kind.
+fn add_site(
+    nodes: &mut Vec<MemNode>,
+    unit: UnitId,
+    site: (BodyId, u32),
+    classes: &Classes,
+    places: &TypePlaces,
+    listed: Listed,
+) -> Result<(), Memory>
+    ensures { (d : Declared) → Holds d classes.now → KnowsPlaces classes.now.types.items places.now
+        → OnOk result (nodes.new.items ≡ nodes.old.items
+        ++ nodes_of unit (test_of listed)
+        (names_of d (site_of site) (declared_at d (site_of site)))) }
+{
+    match owned_at(&classes.bodies, site) {
+        None => Ok(()),
+        Some(owned) => add_member(nodes, unit, site, owned, classes, places, listed),
+    }
+}
+
+// Adds the nodes of what the members at these sites give of the kind.
+fn add_sites(
+    nodes: &mut Vec<MemNode>,
+    unit: UnitId,
+    sites: &[(BodyId, u32)],
+    classes: &Classes,
+    places: &TypePlaces,
+    listed: Listed,
+) -> Result<(), Memory>
+    ensures { (d : Declared) → Holds d classes.now → KnowsPlaces classes.now.types.items places.now
+        → OnOk result (nodes.new.items ≡ nodes.old.items
+        ++ nodes_of unit (test_of listed) (named_at d (map site_of sites.now))) }
+{
+    for site in sites {
+        add_site(nodes, unit, *site, classes, places, listed)?;
+    }
+    Ok(())
+}
+
+// Adds the nodes of what the members of a unit give of the kind.
+fn add_unit(
+    nodes: &mut Vec<MemNode>,
+    unit: UnitId,
+    body: BodyId,
+    classes: &Classes,
+    places: &TypePlaces,
+    listed: Listed,
+) -> Result<(), Memory>
+    ensures { (m : RootedModel) (u : UnitPath) → IsTableFor m classes.now
+        → KnowsPlaces classes.now.types.items places.now
+        → body.n ≡ body_of m u
+        → OnOk result (nodes.new.items ≡ nodes.old.items
+        ++ nodes_of unit (test_of listed) (names_at m u)) }
+{
+    match classes.bodies.get(body.n as usize) {
+        None => Ok(()),
+        Some(found) => add_sites(nodes, unit, &found.all, classes, places, listed),
+    }
+}
+
+/// The nodes of all things of the kind, by unit and member.
+pub(crate) fn nodes(
+    alloc: Global,
+    classes: &Classes,
+    places: &TypePlaces,
+    outlines: &[Outline],
+    listed: Listed,
+) -> Result<Vec<MemNode>, Memory>
+    ensures { (m : RootedModel) (units : List UnitPath)
+        → AreOutlines m units classes.now outlines.now
+        → KnowsPlaces classes.now.types.items places.now
+        → IfOk result (λ v. Along (IsNodeSo m units (test_of listed))
+        (flat_map (things_in (test_of listed) m) units) v.items) }
+{
+    let mut nodes = Vec::new(alloc);
+    for (place, outline) in outlines.iter().enumerate() {
+        let Ok(number) = u32::try_from(place) else {
+            return Err(Memory {});
+        };
+        add_unit(
+            &mut nodes,
+            UnitId::new(number),
+            outline.body,
+            classes,
+            places,
+            listed,
+        )?;
+    }
+    Ok(nodes)
+}

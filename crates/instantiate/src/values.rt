@@ -1,0 +1,111 @@
+//! The values in force: those of the outermost unit that sets them.
+
+ghost use Rattle.std.specs.Prelude.{◌≡◌, List, map, Option, Some, IfOk};
+ghost use Rattle.ar_base.specs.Lists.{Stands};
+ghost use Rattle.class_table.specs.Members.{Site, NamedMember};
+ghost use Rattle.class_table.specs.Tables.{Holds};
+ghost use Rattle.hierarchy.specs.Models.{RootedModel};
+ghost use Rattle.hierarchy.specs.Units.{UnitPath, Thing};
+ghost use Rattle.hierarchy.specs.Settings.{word_of, set_by, outermost as outermost_of, target_in, declared_in};
+ghost use Rattle.ar_syntax.specs.declared.expressions.RawExpr.{RawExpr};
+ghost use Rattle.hierarchy.specs.Tie.{IsSetAt, IsNode, HasAttribute};
+ghost use Rattle.hierarchy.specs.Tie.{AreOutlines};
+ghost use Rattle.instantiate.specs.Values.{AreAttribute};
+
+use crate::targets::set_at;
+use ar_base::{Memory, UnitId};
+use ar_syntax::Word;
+use class_table::Classes;
+use hierarchy::{Attribute, MemNode, Outline, Source};
+
+// What the declaration of a unit sets for the target, which is read in the unit's owner.
+fn set_here(
+    classes: &Classes,
+    outline: &Outline,
+    owner: UnitId,
+    target: &[Word],
+) -> Result<Option<Attribute>, Memory>
+    ensures { (m : RootedModel) (units : List UnitPath) (above : UnitPath) (site : Option Site)
+        → Holds m.declared classes.now → IsSetAt site outline.now.set_at
+        → Stands units owner.n above
+        → IfOk result (AreAttribute units (set_by m above site (map word_of target.now))) }
+{
+    let Some(site) = outline.set_at else {
+        return Ok(None);
+    };
+    match set_at(classes, site, target) {
+        None => Ok(None),
+        Some(place) => match u32::try_from(place) {
+            Err(_) => Err(Memory {}),
+            Ok(setting) => Ok(Some(Attribute {
+                from: owner,
+                source: Source {
+                    body: site.0,
+                    member: site.1,
+                    setting: Some(setting),
+                },
+            })),
+        },
+    }
+}
+
+/// What the outermost unit sets for the target, which is named from inside the unit. No unit is deeper than there are
+/// units, so that the way up ends.
+pub(crate) fn outermost(
+    classes: &Classes,
+    outlines: &[Outline],
+    unit: UnitId,
+    mut target: Vec<Word>,
+) -> Result<Option<Attribute>, Memory>
+    ensures { (m : RootedModel) (units : List UnitPath) (u : UnitPath)
+        → AreOutlines m units classes.now outlines.now
+        → Stands units unit.n u
+        → IfOk result (AreAttribute units (outermost_of m u (map word_of target.items))) }
+{
+    let mut at = unit;
+    let mut found = None;
+    for _level in 0..outlines.len() {
+        let Some(outline) = outlines.get(at.n as usize) else {
+            return Ok(found);
+        };
+        let Some(owner) = outline.owner else {
+            return Ok(found);
+        };
+        if let Some(attribute) = set_here(classes, outline, owner, &target)? {
+            found = Some(attribute);
+        }
+        target.insert(0, Word::Name(outline.name))?;
+        at = owner;
+    }
+    Err(Memory {})
+}
+
+/// The value in force of a thing that is set by this target: what the outermost unit sets, else what its own member
+/// says, in the setting of this place, if in one.
+pub(crate) fn value_of(
+    classes: &Classes,
+    outlines: &[Outline],
+    node: MemNode,
+    target: Vec<Word>,
+    own: Option<u32>,
+) -> Result<Attribute, Memory>
+    ensures { (m : RootedModel) (units : List UnitPath) (t : Thing) (g : NamedMember)
+        (value : RawExpr)
+        → AreOutlines m units classes.now outlines.now → IsNode m units t g node
+        → target_in g.name g.kind ≡ Some (map word_of target.items)
+        → declared_in t.unit g.site g.kind
+        ≡ Some (record { unit = t.unit; site = g.site; setting = own; value = value })
+        → IfOk result (HasAttribute m units t) }
+{
+    match outermost(classes, outlines, node.unit, target)? {
+        Some(set) => Ok(set),
+        None => Ok(Attribute {
+            from: node.unit,
+            source: Source {
+                body: node.source.body,
+                member: node.source.member,
+                setting: own,
+            },
+        }),
+    }
+}

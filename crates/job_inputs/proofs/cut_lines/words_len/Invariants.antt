@@ -1,0 +1,11 @@
+use Rattle.std.proofs.Common.{◌≡◌, ℕ, ◌<◌, ◌≤◌, length, get_or, true}
+use Rattle.job_inputs.specs.Lines.{is_space_or_tab}
+use Rattle.job_inputs.proofs.cut_lines.words_len.Given as goal
+
+-- the bytes from here on belong to the run
+abbrev pub invariant-loop-n : goal.invariant-loop-n
+invariant-loop-n l = (l.n ≤ length l.bytes)
+    × ((k : ℕ) → l.n ≤ k → k < length l.bytes → is_space_or_tab (get_or l.bytes k 0) ≡ true)
+
+abbrev pub decreases-loop-n : goal.decreases-loop-n
+decreases-loop-n l = l.n

@@ -1,0 +1,12 @@
+pub mod Answers
+pub mod Chains
+pub mod CutLines
+pub mod CutLists
+pub mod CutReads
+pub mod Flat
+pub mod Labels
+pub mod Lines
+pub mod Naming
+pub mod Reads
+pub mod Scripts
+pub mod Wanting

@@ -1,0 +1,4 @@
+pub mod Definite
+pub mod Findings
+pub mod Named
+pub mod Readings

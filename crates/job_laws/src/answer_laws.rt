@@ -1,0 +1,190 @@
+//! What follows from the definitions of the stages of a job, and of its text.
+
+ghost use Rattle.std.specs.Prelude.{◌≡◌, ◌≢◌, ◌⊎◌, ℕ, true, List, ◌++◌, Option, Result, Ok, Err};
+ghost use Rattle.ar_base.specs.Breach.{IsBroken};
+ghost use Rattle.ar_base.specs.declared.faults.RuleFault.{RuleFault};
+ghost use Rattle.ar_base.specs.declared.places.Place.{Place};
+ghost use Rattle.unit_laws.specs.Tables.{AreSeenAlike};
+ghost use Rattle.class_table.specs.Declaring.{Declared, IsDeclared};
+ghost use Rattle.class_table.specs.Rules.{Breaks, text_rules};
+ghost use Rattle.hierarchy.specs.Models.{RootedModel};
+ghost use Rattle.ar_grammar.specs.Texts.{FitsNesting, Viable};
+ghost use Rattle.ar_grammar.specs.Words.{Tokens};
+ghost use Rattle.ar_io.specs.Outside.{Told};
+ghost use Rattle.ar_parser.specs.Models.{AreLexemes, Reads};
+ghost use Rattle.parser_laws.specs.Models.{SameModel};
+ghost use Rattle.ar_syntax.specs.declared.items.Model.{Model};
+ghost use Rattle.gts_flatten.specs.Elaborating.{Elaborated};
+ghost use Rattle.run_words.specs.declared.jobs.Job.{Job};
+ghost use Rattle.run_words.specs.declared.verbs.Verb.TheVariants.{Modules};
+ghost use Rattle.run_words.specs.Jobs.{IsJob};
+ghost use Rattle.altarica_run.specs.Elaborates.{Elaborates, Parses, Tables};
+ghost use Rattle.altarica_run.specs.Files.{files_of, Loaded, IsText};
+ghost use Rattle.altarica_run.specs.Follows.{Call, Gave, IsKnown, IsQuiet, Wrote};
+ghost use Rattle.altarica_run.specs.Refusals.{line_of, status_of};
+ghost use Rattle.altarica_run.specs.Stages.{Ready, Asks, Readies, Passes, lists_cuts};
+ghost use Rattle.altarica_run.specs.Tells.{Tells};
+ghost use Rattle.altarica_run.specs.declared.refusals.Refusal.{Refusal};
+ghost use Rattle.altarica_run.specs.declared.refusals.Refusal.TheVariants.{Rule};
+ghost use Rattle.altarica_run.specs.declared.status.Status.{Status};
+ghost use Rattle.altarica_run.specs.declared.status.Status.TheVariants as status;
+ghost use Rattle.job_laws.specs.Definite.{IsDefinite, SaysOf, AgreeButNodes};
+ghost use Rattle.job_laws.specs.Findings.{AreModulesOf, IsConflictOf};
+ghost use Rattle.job_laws.specs.Readings.{SameAnswer};
+
+use unit_laws::laws::{texts_are_seen_alike, texts_break_the_same_rules};
+use altarica_run::laws::{one_job, one_loading};
+use parser_laws::readings::{one_tree, trees_keep};
+use module_text::laws::combinations_are_cuts;
+use job_inputs::laws::one_list;
+
+/// A text has a reading or is refused, never both: two readings of it agree, and it is refused for one
+/// cause, at one place.
+pub fn one_reading_or_refusal()
+    ensures { (text : List ℕ) (x y : Result Model Refusal) → Parses text x → Parses text y
+        → SameAnswer SameModel x y }
+{
+    one_tree();
+}
+
+/// Where the first tokens of a text open no production inside so many others, some text of the grammar
+/// begins with them, of some nesting. So a text that is refused for its syntax is refused at the
+/// first token with which no text goes on, and its tokens before that one begin some text.
+pub fn fitting_fronts_are_viable()
+    ensures { (text : List ℕ) (front rest : Tokens) (names : List (List ℕ)) (end : Place)
+        → AreLexemes text (front ++ rest) names end → (n : ℕ) → FitsNesting n front
+        → Viable front }
+{}
+
+/// A text that has no tokens, no reading, or a production inside too many others is refused for that,
+/// with its line and status, by the stages of each job whose text it is, and by each call of such words
+/// over files of which something is told, unless something of the outside fails or memory is refused.
+pub fn unread_texts_are_refused()
+    ensures stages { (files : List ℕ → Told) → ((name : List ℕ) → IsKnown (files name))
+        → (job : Job) (texts : List (List ℕ)) (text : List ℕ) (r : Refusal)
+        → Loaded files (files_of job) (Ok texts) → IsText job texts text → Parses text (Err r)
+        → (x : Result Ready Refusal) → Passes files job x → x ≡ Err r }
+    ensures call { (c : Call) (s : Status) (job : Job) (texts : List (List ℕ)) (text : List ℕ)
+        (r : Refusal) → Gave c s → IsQuiet c → ((name : List ℕ) → IsKnown (c.files name))
+        → IsJob c.words job → Loaded c.files (files_of job) (Ok texts) → IsText job texts text
+        → Parses text (Err r)
+        → ((s ≡ status_of r) × Wrote c (line_of r)) ⊎ (s ≡ status.Memory) }
+{
+    one_job();
+    one_loading();
+    one_tree();
+}
+
+/// A text that the grammar reads is never answered with Syntax.
+pub fn read_texts_are_no_syntax_errors()
+    ensures { (c : Call) (s : Status) (job : Job) (texts : List (List ℕ)) (text : List ℕ) (m : Model)
+        → Gave c s → ((name : List ℕ) → IsKnown (c.files name)) → IsJob c.words job
+        → Loaded c.files (files_of job) (Ok texts) → IsText job texts text → Reads text m
+        → s ≢ status.Syntax }
+{
+    one_job();
+    one_loading();
+    one_tree();
+}
+
+/// However a text is read, the stage of the rules L1 to L5 has one answer: the text is seen alike from the
+/// main block that is asked for, or it is refused with one rule at one place, never both.
+pub fn one_table_or_refusal()
+    ensures { (text : List ℕ) (main : Option (List ℕ)) (x y : Model)
+        (a b : Result RootedModel RuleFault) → Reads text x → Reads text y → Tables main x a
+        → Tables main y b → SameAnswer (AreSeenAlike main) a b }
+{
+    texts_are_seen_alike();
+    texts_break_the_same_rules();
+}
+
+/// A text that is read and breaks a rule of L1 to L5 is refused with the least such rule at its earliest
+/// place, by the stages of each job whose text it is, and by each call of such words over files of which
+/// something is told, unless something of the outside fails or memory is refused.
+pub fn broken_rules_are_told()
+    ensures stages { (files : List ℕ → Told) → ((name : List ℕ) → IsKnown (files name))
+        → (job : Job) (texts : List (List ℕ)) (text : List ℕ) (m : Model) (d : Declared) (r : ℕ)
+        (p : Place) → Loaded files (files_of job) (Ok texts) → IsText job texts text → Reads text m
+        → IsDeclared m d → IsBroken text_rules (Breaks m job.main d) r p
+        → (x : Result Ready Refusal) → Passes files job x → x ≡ Err (Rule r p) }
+    ensures call { (c : Call) (s : Status) (job : Job) (texts : List (List ℕ)) (text : List ℕ)
+        (m : Model) (d : Declared) (r : ℕ) (p : Place) → Gave c s → IsQuiet c
+        → ((name : List ℕ) → IsKnown (c.files name)) → IsJob c.words job
+        → Loaded c.files (files_of job) (Ok texts) → IsText job texts text → Reads text m
+        → IsDeclared m d → IsBroken text_rules (Breaks m job.main d) r p
+        → ((s ≡ status.Rule) × Wrote c (line_of (Rule r p))) ⊎ (s ≡ status.Memory) }
+{
+    one_job();
+    one_loading();
+    one_tree();
+    texts_are_seen_alike();
+    texts_break_the_same_rules();
+}
+
+/// What the words, the script and the list of cuts of a job ask of a source is one thing, or they
+/// are refused in one way.
+pub fn one_request()
+    ensures { (x : Elaborated) → IsDefinite x → (job : Job) (texts : List (List ℕ))
+        (a b : Result Ready Refusal) → Asks job texts x a → Asks job texts x b → a ≡ b }
+{
+    one_list();
+}
+
+/// All stages of a job that come after its source have one answer: a job that passes them is not
+/// refused as well, and it is refused for one reason.
+pub fn one_readiness()
+    ensures { (x : Elaborated) → IsDefinite x → (job : Job) (texts : List (List ℕ))
+        (a b : Result Ready Refusal) → Readies job texts x a → Readies job texts x b → a ≡ b }
+{
+    one_list();
+}
+
+/// A job that has passed its stages tells one text and ends in one way, save that, where cuts are
+/// asked for, the line `nodes: N` may stand beside it.
+pub fn one_text()
+    ensures { (x : Elaborated) → IsDefinite x → (job : Job) (texts : List (List ℕ)) (w : Ready)
+        → Readies job texts x (Ok w) → (s t : List ℕ) (a b : Status)
+        → Tells job w s a → Tells job w t b → AgreeButNodes job s a t b }
+{}
+
+/// Of one source the words of a job say one text and end in one way, save that, where cuts are asked
+/// for, the line `nodes: N` may stand beside it.
+pub fn one_saying()
+    ensures { (x : Elaborated) → IsDefinite x → (job : Job) (texts : List (List ℕ))
+        (s t : List ℕ) (a b : Status) → SaysOf job texts x s a → SaysOf job texts x t b
+        → AgreeButNodes job s a t b }
+{
+    one_list();
+}
+
+/// The source of each text that the stages up to it pass is one of which words ask one thing: no
+/// two of its names have one text, and none of its things is listed twice.
+pub fn sources_are_definite()
+    ensures { (main : Option (List ℕ)) (text : List ℕ) (x : Elaborated)
+        → Elaborates main text (Ok x) → IsDefinite x }
+{
+    trees_keep();
+}
+
+/// A call of `modules` that ends well writes short forms that stand for the cuts: each choice of one
+/// set of the module for each unit of a form makes a cut with the form's events, and each cut comes
+/// from just one form and one choice.
+pub fn modules_stand_for_cuts()
+    ensures { (c : Call) (job : Job) → Gave c status.Done → IsJob c.words job
+        → job.command ≡ Modules → AreModulesOf c job }
+{
+    one_job();
+    trees_keep();
+    combinations_are_cuts();
+}
+
+/// A line `fault: ..` of a job that tells of cuts meets its fault: its labels are those of a least set
+/// that meets a conflict, and fired as they stand in the whole model, dropped events included, they
+/// meet this flow fault at the last of them, and none before.
+pub fn conflicts_are_met()
+    ensures { (c : Call) (job : Job) → Gave c status.Fault → IsJob c.words job
+        → lists_cuts job.command ≡ true → IsConflictOf c job }
+{
+    one_job();
+    trees_keep();
+}

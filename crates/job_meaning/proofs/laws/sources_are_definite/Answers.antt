@@ -1,5 +1,0 @@
-use Rattle.job_meaning.proofs.Sources.{text_definite}
-use Rattle.job_meaning.proofs.laws.sources_are_definite.Goals as goal
-
-pub returns : goal.returns
-returns c = λ main text x h. text_definite main text x (c.trees_keep.ensures text) h

@@ -1,3 +1,0 @@
-pub mod Definite
-pub mod Readings
-pub mod Findings

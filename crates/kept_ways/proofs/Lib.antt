@@ -1,5 +1,0 @@
-pub mod Reading
-mod LeastVariables
-mod Keeping
-mod FirstStates
-mod Marking

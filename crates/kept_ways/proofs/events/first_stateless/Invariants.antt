@@ -1,6 +1,0 @@
-use Rattle.std.proofs.Common.{◌<◌, ℕ}
-use Rattle.kept_ways.specs.Events.{IsStateless}
-use Rattle.kept_ways.proofs.events.first_stateless.Given as goal
-
-abbrev pub invariant-loop-unit : goal.invariant-loop-unit
-invariant-loop-unit l = (k : ℕ) → k < l.unit → IsStateless l.moving l.firsts k → ⊥

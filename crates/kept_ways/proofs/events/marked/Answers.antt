@@ -1,6 +1,0 @@
-use Rattle.kept_ways.proofs.Marking.{marks_more}
-use Rattle.kept_ways.proofs.events.marked.Goals as goal
-
-pub loop-event-preserved : goal.loop-event-preserved
-loop-event-preserved c = marks_more c.args.count c.args.dropped.now c.loop-event.event-index _ c.loop-event.marks.items
-    c.mark.new.marks.items c.loop-event-test.true c.loop-event.invariant c.mark.ensures

@@ -1,5 +1,0 @@
-use Rattle.kept_ways.specs.Kept.{Extends}
-use Rattle.kept_ways.proofs.kept.add_event.Given as goal
-
-abbrev pub invariant-loop-way : goal.invariant-loop-way
-invariant-loop-way l = Extends l.parts l.id l.event l.way-index l.initial.kept.items l.kept.items

@@ -1,7 +1,0 @@
-use Rattle.std.proofs.Common.{take}
-use Rattle.kept_ways.specs.Events.{IsLeast}
-use Rattle.kept_ways.specs.Kept.{OtherInAction}
-use Rattle.kept_ways.proofs.kept.least_action.Given as goal
-
-abbrev pub invariant-loop-way : goal.invariant-loop-way
-invariant-loop-way l = IsLeast (OtherInAction (take l.way-index l.kept)) l.least

@@ -1,5 +1,0 @@
-use Rattle.kept_ways.specs.Events.{AreFirstStates}
-use Rattle.kept_ways.proofs.states.first_states.Given as goal
-
-abbrev pub invariant-loop-n : goal.invariant-loop-n
-invariant-loop-n l = AreFirstStates l.parts l.n l.firsts.items

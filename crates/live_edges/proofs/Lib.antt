@@ -1,4 +1,0 @@
-mod Sorting
-mod Usable
-mod Gathering
-mod Noting

@@ -1,5 +1,0 @@
-use Rattle.live_edges.specs.Live.{AreLive}
-use Rattle.live_edges.proofs.listing.live_edges.Given as goal
-
-abbrev pub invariant-loop-n : goal.invariant-loop-n
-invariant-loop-n l = AreLive l.reaches l.n l.live.items

@@ -1,5 +1,0 @@
-use Rattle.live_edges.specs.Reaches.{AreReaches}
-use Rattle.live_edges.proofs.reaches.all_reached.Given as goal
-
-abbrev pub invariant-loop-n : goal.invariant-loop-n
-invariant-loop-n l = AreReaches l.parts l.kept l.n l.reaches.items

@@ -1,9 +1,0 @@
-use Rattle.live_edges.proofs.Noting.{sharing_start, shared_more}
-use Rattle.live_edges.proofs.sharing.shared.Goals as goal
-
-pub loop-one-init : goal.loop-one-init
-loop-one-init c = sharing_start c.args.count c.args.live.now c.in_ok-found.found c.in_ok-found.ensures
-
-pub loop-one-preserved : goal.loop-one-preserved
-loop-one-preserved c = shared_more c.args.count c.args.live.now c.loop-one.one-index _ c.loop-one.found c.note.new.found
-    c.loop-one-test.true c.loop-one.invariant c.in_ok-note.ensures

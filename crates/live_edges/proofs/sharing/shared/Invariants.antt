@@ -1,5 +1,0 @@
-use Rattle.live_edges.specs.Sharing.{IsSharing}
-use Rattle.live_edges.proofs.sharing.shared.Given as goal
-
-abbrev pub invariant-loop-one : goal.invariant-loop-one
-invariant-loop-one l = IsSharing l.count l.live l.one-index l.found

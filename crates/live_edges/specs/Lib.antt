@@ -1,4 +1,0 @@
-pub mod Rows
-pub mod Reaches
-pub mod Live
-pub mod Sharing

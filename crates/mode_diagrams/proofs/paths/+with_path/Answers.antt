@@ -1,0 +1,47 @@
+use Rattle.std.proofs.Common.{◌≡◌, ◌-◌, ◌<◌, suc, length, refl, arith}
+use Rattle.std.proofs.lemmas.Option.{slice_get_read}
+use Rattle.ar_base.specs.Lists.{Stands}
+use Rattle.ar_base.proofs.Results.{ok_map}
+use Rattle.zdd_nodes.specs.Nodes.{family}
+use Rattle.mode_diagrams.specs.Trees.{edges_of}
+use Rattle.mode_diagrams.proofs.Growing.{extends_none, extends_then}
+use Rattle.mode_diagrams.proofs.Pathing.{path_none, path_more}
+use Rattle.mode_diagrams.proofs.paths.+with_path.Goals as goal
+
+pub returns-then-mode-eq0-clause-grows : goal.returns-then-mode-eq0-clause-grows
+returns-then-mode-eq0-clause-grows t c = extends_none c.args.ops.now
+
+pub returns-then-mode-eq0-clause-sets : goal.returns-then-mode-eq0-clause-sets
+returns-then-mode-eq0-clause-sets t c =
+    path_none (edges_of c.args.tree.now) c.args.mode (family c.args.ops.now c.args.sets.n) c.if-mode-eq0.true
+
+pub with_path-requires : goal.with_path-requires
+with_path-requires t c =
+    let edges = edges_of c.args.tree.now in
+    let k = c.args.mode - 1 in
+    let inside : k < length edges = grind (arith, c.requires.mode, c.if-mode-eq0.false) in
+    let at : Stands edges k c.index-edge.result.now =
+    slice_get_read edges (length edges) k c.index-edge.result.now refl inside c.index-edge.ensures in
+    let low = c.requires.numbered.each k c.index-edge.result.now at in (
+      grind (arith, c.decreases, low, c.if-mode-eq0.false),
+      (c.requires.numbered, (omega (arith, low, inside), c.requires.sets_in)),
+    )
+
+pub returns-clause-grows : goal.returns-clause-grows
+returns-clause-grows t c =
+    extends_then c.args.ops.now c.with_path.new.ops c.with_event.new.ops c.in_ok-before.ensures.grows
+    c.with_event.ensures.grows
+
+pub returns-clause-sets : goal.returns-clause-sets
+returns-clause-sets t c =
+    let edges = edges_of c.args.tree.now in
+    let k = c.args.mode - 1 in
+    let inside : k < length edges = grind (arith, c.requires.mode, c.if-mode-eq0.false) in
+    let at : Stands edges k c.index-edge.result.now =
+    slice_get_read edges (length edges) k c.index-edge.result.now refl inside c.index-edge.ensures in
+    let up : c.args.mode ≡ suc k = grind (arith, c.if-mode-eq0.false) in
+    ok_map c.with_event.result
+    (λ n w. path_more edges k c.args.mode c.index-edge.result.now up at (family c.args.ops.now c.args.sets.n)
+    (family c.with_path.new.ops c.in_ok-before.before.n) (family c.with_event.new.ops n.n)
+    c.in_ok-before.ensures.sets w)
+    c.with_event.ensures.sets

@@ -1,0 +1,34 @@
+-- The families that were made, and the numbers that were copied.
+use Rattle.std.specs.Prelude.{◌≡◌, ◌⊎◌, ℕ, ◌+◌, Bool, true, ◌&&◌, eqb, List, length, Some}
+use Rattle.std.specs.Map.{lookup}
+use Rattle.ar_base.specs.Lists.{Stands}
+use Rattle.zdd_nodes.specs.Nodes.{NodeId, Stored, family, IsNumber}
+use Rattle.mode_nodes.specs.Diagrams as modes
+use Rattle.mode_diagrams.specs.declared.trees.NumberedTree.{NumberedTree}
+use Rattle.mode_diagrams.specs.declared.held.State.{State}
+use Rattle.mode_diagrams.specs.Sets.{HasSets, IsTrueFrom}
+
+-- whether two states are one
+abbrev pub state_eq : State → State → Bool
+state_eq a b = eqb a.place b.place && eqb a.diagram.n b.diagram.n
+
+-- every state that is held was held before or is this one, with this number
+pub record Remembers (k : State) (n : NodeId) (old new : List (State × NodeId)) : Type 0 where
+  pub each : (q : State) (m : NodeId) → lookup (state_eq q) new ≡ Some m
+      → (lookup (state_eq q) old ≡ Some m) ⊎ ((state_eq k q ≡ true) × (m ≡ n))
+
+-- n is the number of the state's family
+pub record IsFamilyOf (trees : List NumberedTree) (s : modes.Stored) (made : Stored) (k : State) (n : ℕ) : Type 0 where
+  pub in_store : IsNumber made n
+  pub sets : HasSets (IsTrueFrom trees k.place s k.diagram.n) (family made n)
+
+-- the same of each state that is held
+pub record AreHeld (trees : List NumberedTree) (s : modes.Stored) (made : Stored) (entries : List (State × NodeId))
+    : Type 0 where
+  pub each : (k : State) (n : NodeId) → lookup (state_eq k) entries ≡ Some n → IsFamilyOf trees s made k n.n
+
+-- for each number of the first store that of the same family in the second, or 0 where it is not copied yet
+pub record AreCopied (source made : Stored) (copies : List NodeId) : Type 0 where
+  pub long : length copies ≡ length source.families + 2
+  pub each : (k : ℕ) (n : NodeId) → Stands copies k n
+      → (n.n ≡ 0) ⊎ (IsNumber made n.n × (family made n.n ≡ family source k))

@@ -1,0 +1,8 @@
+//! The trees of a forest with their modes by number, and firable sets by the modes of the trees.
+
+ghost use Rattle.mode_diagrams.specs.Numbers.{FirableByModes};
+
+/// A set is firable in the trees exactly where it has the events on the paths to some modes of the numbered trees.
+pub fn firable_by_modes()
+    ensures { FirableByModes }
+{}

@@ -1,0 +1,113 @@
+//! The family of a diagram, tree by tree.
+
+ghost use Rattle.std.specs.Prelude.{◌≡◌, ◌≤◌, ◌+◌, ◌<◌, IfOk, length};
+ghost use Rattle.zdd_nodes.specs.Nodes.{family, IsNumber, IsSoundStore};
+ghost use Rattle.mode_nodes.specs.Diagrams.{IsNumber as IsDiagramNumber, IsFrom};
+ghost use Rattle.mode_diagrams.specs.Trees.{AreNumbered};
+ghost use Rattle.mode_diagrams.specs.Sets.{AreSmall, Extends, HasSets, IsTrueFrom, IsUnitWhere};
+ghost use Rattle.mode_diagrams.specs.Kept.{AreHeld};
+
+use crate::held::{Held, State};
+use crate::paths::with_path;
+use crate::NumberedTree;
+use mode_nodes::{DiagramId, Diagrams};
+use std::alloc::Global;
+use zdd_nodes::{NodeFault, NodeId, Store};
+use zdd_ops::Ops;
+
+/// The family of the sets of events on paths, in the trees from this place on, at whose modes the diagram is true: for
+/// each mode of the tree those of what is left of the diagram there, in the later trees, with the events on the path to
+/// the mode.
+fn family_from(
+    ops: &mut Ops,
+    held: &mut Held,
+    trees: &[NumberedTree],
+    diagrams: &Diagrams,
+    place: usize,
+    f: DiagramId,
+) -> Result<NodeId, NodeFault>
+    requires few { length trees.now ≤ 4294967295 }
+    requires numbered { AreNumbered trees.now }
+    requires small { AreSmall trees.now }
+    requires place_in { place ≤ length trees.now }
+    requires number { IsDiagramNumber diagrams.now f.n }
+    requires from { IsFrom diagrams.now.nodes place f.n }
+    requires held { AreHeld trees.now diagrams.now ops.old held.old }
+    ensures grows { Extends ops.old ops.new }
+    ensures held { AreHeld trees.now diagrams.now ops.new held.new }
+    ensures in_store { IfOk result (λ n. IsNumber ops.new n.n) }
+    ensures sets { IfOk result (λ n. HasSets (IsTrueFrom trees.now place diagrams.now f.n)
+        (family ops.new n.n)) }
+{
+    if place == trees.len() {
+        return Ok(unit_where(diagrams.holds_at_first(f)));
+    }
+    if f.n == 0 {
+        return Ok(NodeId::new(0));
+    }
+    let state = State {
+        place: place as u32,
+        diagram: f,
+    };
+    if let Some(number) = held.recall(state) {
+        return Ok(number);
+    }
+    let tree = &trees[place];
+    let mut sets = NodeId::new(0);
+    for mode in 0..tree.edges.len() + 1 {
+        let left = diagrams.branch(f, place as u32, mode as u32);
+        let later = family_from(ops, held, trees, diagrams, place + 1, left)?;
+        let here = with_path(ops, tree, mode as u32, later)?;
+        sets = ops.union(sets, here)?;
+    }
+    held.remember(state, sets)
+}
+
+// The family of the empty set alone, or the empty family.
+fn unit_where(holds: bool) -> NodeId
+    ensures { IsUnitWhere holds result.n }
+{
+    if holds {
+        NodeId::new(1)
+    } else {
+        NodeId::new(0)
+    }
+}
+
+/// A family in a store of its own, which may have families besides.
+#[derive(Drop)]
+pub struct Listed {
+    /// The store.
+    pub store: Store,
+    /// The number of the family.
+    pub root: NodeId,
+}
+
+// The most nodes that a store may have.
+const MOST_NODES: u32 = 16_777_216;
+
+/// The family of the sets of events on paths at whose modes the diagram is true. Full comes where more nodes were made on
+/// the way than a store may have, which says nothing of the family.
+pub fn list_sets(
+    alloc: Global,
+    trees: &[NumberedTree],
+    diagrams: &Diagrams,
+    f: DiagramId,
+) -> Result<Listed, NodeFault>
+    requires few { length trees.now ≤ 4294967295 }
+    requires numbered { AreNumbered trees.now }
+    requires small { AreSmall trees.now }
+    requires number { IsDiagramNumber diagrams.now f.n }
+    ensures sound { IfOk result (λ l. IsSoundStore l.store) }
+    ensures in_store { IfOk result (λ l. IsNumber l.store l.root.n) }
+    ensures sets { IfOk result (λ l. HasSets (IsTrueFrom trees.now 0 diagrams.now f.n)
+        (family l.store l.root.n)) }
+{
+    let mut ops = Ops::new(alloc, MOST_NODES);
+    let mut held = Held::new(alloc);
+    let root = family_from(&mut ops, &mut held, trees, diagrams, 0, f)?;
+    Ok(Listed {
+        store: ops.into_store(),
+        root,
+    })
+}

@@ -1,0 +1,60 @@
+//! The events of a path in front of the sets of a family.
+
+ghost use Rattle.std.specs.Prelude.{◌≡◌, ◌≤◌, IfOk, length};
+ghost use Rattle.zdd_nodes.specs.Nodes.{family, IsNumber};
+ghost use Rattle.mode_diagrams.specs.Trees.{edges_of, IsNumbered};
+ghost use Rattle.mode_diagrams.specs.Sets.{Extends, HasWith, HasPath};
+
+use ar_base::EventId;
+use crate::NumberedTree;
+use zdd_nodes::{NodeFault, NodeId};
+use zdd_ops::Ops;
+
+/// The family of the sets, each with the event.
+fn with_event(ops: &mut Ops, sets: NodeId, event: EventId) -> Result<NodeId, NodeFault>
+    requires { IsNumber ops.old sets.n }
+    ensures grows { Extends ops.old ops.new }
+    ensures in_store { IfOk result (λ n. IsNumber ops.new n.n) }
+    ensures sets { IfOk result (λ n. HasWith event.n (family ops.old sets.n) (family ops.new n.n)) }
+{
+    let none = NodeId::new(0);
+    let Some((first, lo, hi)) = ops.store().split(sets) else {
+        if sets.n == 0 {
+            return Ok(sets);
+        }
+        return ops.node(event, none, sets);
+    };
+    if event.n < first.n {
+        return ops.node(event, none, sets);
+    }
+    if event.n == first.n {
+        let both = ops.union(lo, hi)?;
+        return ops.node(event, none, both);
+    }
+    let lower = with_event(ops, lo, event)?;
+    let upper = with_event(ops, hi, event)?;
+    ops.node(first, lower, upper)
+}
+
+/// The family of the sets, each with the events on the path to the mode.
+pub(crate) fn with_path(
+    ops: &mut Ops,
+    tree: &NumberedTree,
+    mode: u32,
+    sets: NodeId,
+) -> Result<NodeId, NodeFault>
+    requires numbered { IsNumbered tree.now }
+    requires mode { mode ≤ length (edges_of tree.now) }
+    requires sets_in { IsNumber ops.old sets.n }
+    ensures grows { Extends ops.old ops.new }
+    ensures in_store { IfOk result (λ n. IsNumber ops.new n.n) }
+    ensures sets { IfOk result (λ n. HasPath (edges_of tree.now) mode (family ops.old sets.n)
+        (family ops.new n.n)) }
+{
+    if mode == 0 {
+        return Ok(sets);
+    }
+    let edge = tree.edges[mode as usize - 1];
+    let before = with_path(ops, tree, edge.from, sets)?;
+    with_event(ops, before, edge.event)
+}

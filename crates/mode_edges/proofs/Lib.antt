@@ -1,2 +1,0 @@
-mod Reaching
-mod Ending

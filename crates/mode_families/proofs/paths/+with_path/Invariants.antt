@@ -1,4 +1,0 @@
-use Rattle.mode_families.proofs.paths.+with_path.Given as goal
-
-abbrev pub decreases-with_path : goal.decreases-with_path
-decreases-with_path l = l.mode

@@ -1,0 +1,12 @@
+pub mod Adding
+pub mod Events
+pub mod Kept
+pub mod Live
+pub mod Modes
+pub mod Moves
+pub mod Named
+pub mod Reached
+pub mod Reaches
+pub mod Rows
+pub mod Sharing
+pub mod Wide

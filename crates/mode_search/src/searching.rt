@@ -1,0 +1,161 @@
+//! The modes that one variable reaches.
+
+ghost use Rattle.std.specs.Prelude.{◌<◌, length, IfOk, Contains};
+ghost use Rattle.ar_meaning.specs.Found.{IsAnswer};
+ghost use Rattle.domains.specs.Domains.{IsDomain, values_of};
+ghost use Rattle.gts_core.specs.Sound.{IsSound};
+ghost use Rattle.mode_search.specs.Reached.{AreInside, AreApart, IsMoveOf, IsReach, IsStart, Expands, AddsMove, AddsEdge};
+
+use ar_base::{EventId, Memory, VarId, WayId};
+use domains::{Domain, Value};
+use gts_core::{GtsParts, WayBody};
+use crate::KeptWay;
+use mode_trees::Edge;
+use crate::{Move, move_at};
+use std::alloc::Global;
+
+/// What a variable reaches.
+#[derive(Drop)]
+pub struct Reach {
+    /// The modes that are reached, from the initial one on, each once.
+    pub modes: Vec<Value>,
+    /// The edges from these modes, by the order of these and then by that of the ways.
+    pub edges: Vec<Edge>,
+    /// Whether a way can fire at one of these modes and does not give exactly one value of the domain there.
+    pub wrong: bool,
+    /// Whether an edge enters the initial mode, or one that an earlier edge enters.
+    pub again: bool,
+}
+
+/// The modes that a variable reaches from its initial value along the edges of these ways, and these edges. Each way is
+/// looked at once at each mode. The error is want of memory.
+pub fn reached(
+    alloc: Global,
+    parts: &GtsParts,
+    variable: VarId,
+    ways: &[KeptWay],
+) -> Result<Reach, Memory>
+    requires sound { IsSound parts.now }
+    requires variable { variable.n < length parts.now.variables.items }
+    requires inside { AreInside parts.now ways.now }
+    requires apart { AreApart ways.now }
+    ensures { IfOk result (IsReach parts.now variable.n ways.now) }
+{
+    let place = &parts.variables[variable.n as usize];
+    let mut found = start(alloc, place.value)?;
+    let mut next = 0;
+    while next < found.modes.len() {
+        let mode = found.modes[next];
+        expand(
+            alloc,
+            parts,
+            variable,
+            &place.domain,
+            ways,
+            mode,
+            &mut found,
+        )?;
+        next += 1;
+    }
+    Ok(found)
+}
+
+// The initial mode alone.
+fn start(alloc: Global, first: Value) -> Result<Reach, Memory>
+    ensures { IfOk result (IsStart first) }
+{
+    let mut modes = Vec::new(alloc);
+    modes.push(first)?;
+    Ok(Reach {
+        modes,
+        edges: Vec::new(alloc),
+        wrong: false,
+        again: false,
+    })
+}
+
+// Looks at each way at a mode.
+fn expand(
+    alloc: Global,
+    parts: &GtsParts,
+    variable: VarId,
+    domain: &Domain,
+    ways: &[KeptWay],
+    mode: Value,
+    found: &mut Reach,
+) -> Result<(), Memory>
+    requires domain { IsDomain domain.now }
+    requires inside { AreInside parts.now ways.now }
+    ensures { IfOk result (λ _. Expands parts.now variable.n (values_of domain.now) ways.now mode
+        (length ways.now) found.old found.new) }
+{
+    for way in ways {
+        let led = move_of(alloc, parts, variable, domain, way.way, mode)?;
+        add_move(*way, mode, led, found)?;
+    }
+    Ok(())
+}
+
+// Where a way leads from a mode.
+fn move_of(
+    alloc: Global,
+    parts: &GtsParts,
+    variable: VarId,
+    domain: &Domain,
+    way: WayId,
+    mode: Value,
+) -> Result<Move, Memory>
+    requires domain { IsDomain domain.now }
+    requires inside { way.n < length parts.now.ways.items }
+    ensures { IfOk result (IsMoveOf parts.now variable.n (values_of domain.now) way.n mode) }
+{
+    match &parts.ways[way.n as usize].body {
+        WayBody::Local(guard, action) => {
+            let led = move_at(alloc, variable, domain, mode, guard, action)?;
+            Ok(led)
+        }
+        WayBody::Sync(_) => Ok(Move::Still),
+    }
+}
+
+// Adds where a way leads from a mode.
+fn add_move(way: KeptWay, mode: Value, led: Move, found: &mut Reach) -> Result<(), Memory>
+    ensures { IfOk result (λ _. AddsMove way mode led found.old found.new) }
+{
+    match led {
+        Move::Still => Ok(()),
+        Move::Wrong => {
+            found.wrong = true;
+            Ok(())
+        }
+        Move::To(to) => add_edge(
+            Edge {
+                from: mode,
+                event: way.event,
+                way: way.way,
+                to,
+            },
+            found,
+        ),
+    }
+}
+
+// Adds an edge, and the mode that it enters where it was not reached before.
+fn add_edge(edge: Edge, found: &mut Reach) -> Result<(), Memory>
+    ensures { IfOk result (λ _. AddsEdge edge found.old found.new) }
+{
+    found.edges.push(edge)?;
+    if has(&found.modes, edge.to) {
+        found.again = true;
+        return Ok(());
+    }
+    found.modes.push(edge.to)?;
+    Ok(())
+}
+
+// Whether the value is one of these.
+fn has(values: &[Value], v: Value) -> bool
+    ensures { IsAnswer result (Contains values.now v) }
+{
+    values.contains(&v)
+}

@@ -1,5 +1,0 @@
-pub mod Added
-mod NamesNumbered
-mod LeastStates
-mod FactsAt
-mod Leading

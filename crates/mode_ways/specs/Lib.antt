@@ -1,4 +1,0 @@
-pub mod Adding
-pub mod Named
-pub mod Modes
-pub mod Moves

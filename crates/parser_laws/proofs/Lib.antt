@@ -1,0 +1,15 @@
+pub mod Agreeing
+pub mod ClosedForms
+pub mod ClosedMembers
+pub mod Firsts
+pub mod Keeping
+pub mod OneBody
+pub mod OneExpression
+pub mod OneInstruction
+pub mod OneMember
+pub mod OneModel
+pub mod OnePath
+pub mod OneUnread
+pub mod OpenedForms
+pub mod OpenedMembers
+pub mod SameNumbers

@@ -1,9 +1,0 @@
-pub mod Lines
-pub mod Labels
-pub mod Scripts
-pub mod Flat
-pub mod Reads
-pub mod CutLines
-pub mod CutLists
-pub mod Chains
-pub mod CutReads

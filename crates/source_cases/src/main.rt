@@ -1,0 +1,23 @@
+//! Worked examples of reading a text: source trees, tables of bodies, and trees of units. What it must print was written
+//! by hand from the texts, the grammar and the rules.
+#![tactic(auto)]
+
+mod made;
+mod reading_texts;
+mod readings;
+mod shown;
+mod table_texts;
+mod tables;
+mod tree_texts;
+mod trees;
+
+use readings::print_readings;
+use std::io;
+use tables::print_tables;
+use trees::print_trees;
+
+fn main(rt: HostRuntime) -> io::Result<()> {
+    print_readings(&rt)?;
+    print_tables(&rt)?;
+    print_trees(&rt)
+}

@@ -1,0 +1,44 @@
+-- The laws that carry what is drawn for a table to the system.
+use Rattle.std.specs.Prelude.{◌≡◌, ℕ, true, List}
+use Rattle.domains.specs.declared.Value.{Value}
+use Rattle.typed_expr.specs.Kinds.{HasKind}
+use Rattle.typed_expr.specs.declared.expr.Expr.{Expr, out-Expr}
+use Rattle.typed_expr.specs.declared.expr.ValueKind.{ValueKind}
+use Rattle.ar_meaning.specs.Systems.{System}
+use Rattle.ar_firing.specs.Forest.{ModeTree, IsForest}
+use Rattle.ar_firing.specs.Static.{IsKeyedStatic}
+use Rattle.gts_core.specs.Lawful.{IsLawful}
+use Rattle.mode_trees.specs.Views.{trees_of}
+use Rattle.mode_trees.specs.declared.forests.Forest.{Forest}
+use Rattle.zdd_families.specs.Families.{has}
+use Rattle.zdd_nodes.specs.Nodes.{IsNumber}
+use Rattle.eq_core.specs.Gates.{Table}
+use Rattle.firable_families.specs.Firable.{IsFirableOf}
+use Rattle.gate_diagrams.specs.Answers.{IsAnswer}
+use Rattle.gate_diagrams.specs.Needed.{NodesMay}
+use Rattle.gate_diagrams.specs.declared.answer.Drawn.{Drawn}
+use Rattle.table_steps.specs.Table.{IsTable}
+use Rattle.table_laws.specs.Drawn.{AreDrawn, sets_of, family_of}
+
+-- what is drawn for the table of a lawful static system by the trees of its forest, whatever the numbers of their ways,
+-- is what its firing orders mean: the conflict sets, where there are some, or else the cuts
+abbrev pub DrawnAreMeant : Type 0
+DrawnAreMeant = (sys : System ℕ) (dropped : List ℕ) (kinds : ℕ → ValueKind) (kind : ValueKind) (number : ℕ → ℕ)
+    (forest : Forest) (observer : Expr ℕ) (wanted : Value) (table : Table) (drawn : Drawn) → IsLawful sys.net kinds
+    → IsKeyedStatic sys dropped → IsForest sys dropped (trees_of number forest)
+    → HasKind kinds (out-Expr ℕ observer) kind → IsTable sys.net (trees_of number forest) observer wanted table
+    → IsAnswer (trees_of (λ n. n) forest) table drawn → AreDrawn sys dropped observer wanted drawn
+
+-- each drawn set is firable in the trees, and what is drawn has a number of its store
+abbrev pub DrawnAreFirable : Type 0
+DrawnAreFirable = (trees : List ModeTree) (table : Table) (drawn : Drawn) → IsAnswer trees table drawn
+    → ((s : List ℕ) → has (sets_of (family_of drawn)) s ≡ true → IsFirableOf trees s)
+
+abbrev pub DrawnAreStored : Type 0
+DrawnAreStored = (trees : List ModeTree) (table : Table) (drawn : Drawn) → IsAnswer trees table drawn
+    → IsNumber (family_of drawn).store (family_of drawn).root.n
+
+-- the numbers of ways change nothing in which nodes may be needed
+abbrev pub NodesByNumbers : Type 0
+NodesByNumbers = (number other : ℕ → ℕ) (forest : Forest) (table : Table) (limit : ℕ)
+    → NodesMay (trees_of number forest) table limit → NodesMay (trees_of other forest) table limit

@@ -1,7 +1,0 @@
-use Rattle.std.proofs.Common.{take}
-use Rattle.hierarchy.specs.declared.tree.VarNode.{VarNode}
-use Rattle.unit_index.specs.Indexed.{TellsNodes}
-use Rattle.unit_index.proofs.index.places_of_variables.Given as goal
-
-abbrev pub invariant-loop-place : goal.invariant-loop-place
-invariant-loop-place l = TellsNodes (λ (d : VarNode). d.node) (take l.place l.nodes) l.places

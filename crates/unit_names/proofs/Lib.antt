@@ -1,4 +1,0 @@
-pub mod Adding
-pub mod Nodes
-pub mod Named
-pub mod Ending

@@ -1,8 +1,0 @@
-use Rattle.unit_outcomes.proofs.Walking.{name_outcome, names_outcome}
-use Rattle.unit_outcomes.proofs.some_outcome.Goals as goal
-
-pub returns-clause-name : goal.returns-clause-name
-returns-clause-name c = λ m k f u x. name_outcome m k f u x
-
-pub returns-clause-names : goal.returns-clause-names
-returns-clause-names c = λ m k f u xs. names_outcome m k f u xs

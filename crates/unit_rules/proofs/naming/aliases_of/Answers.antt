@@ -1,0 +1,28 @@
+use Rattle.std.proofs.Common.{ℕ, List, [], map, sym, ◌∙◌, ap, subst}
+use Rattle.std.proofs.lemmas.List.{take_all}
+use Rattle.ar_base.specs.Numbers.{BodyId}
+use Rattle.ar_base.proofs.Standing.{stands_get}
+use Rattle.class_table.specs.Tables.{site_of}
+use Rattle.class_table.proofs.Taken.{map_next}
+use Rattle.unit_rules.specs.Naming.{Entry, AddsNames, none, alias_names, names_at_sites}
+use Rattle.unit_rules.proofs.Adding.{adds_more, sites_next}
+use Rattle.unit_rules.proofs.naming.aliases_of.Goals as goal
+
+pub loop-site-init : goal.loop-site-init
+loop-site-init c = λ d m units u k a s. subst (λ (new : List Entry). AddsNames m units u [] [] new)
+    (sym c.new-aliases.ensures.items) none
+
+pub loop-site-preserved : goal.loop-site-preserved
+loop-site-preserved c = λ d m units u k a s.
+    let first : BodyId × ℕ = (record { n = 0; of = record {} }, 0) in
+    let e = map_next site_of c.args.all.now c.loop-site.site-index _
+    (stands_get c.args.all.now c.loop-site.site-index first c.loop-site-test.true) in
+    subst (λ (xs : List ℕ). AddsNames m units u [] xs c.add_alias_at.new.aliases.items)
+    (sym (ap (names_at_sites alias_names d) e ∙ sites_next alias_names d _ _))
+    (adds_more _ (c.loop-site.invariant d m units u k a s) (c.in_ok-add_alias_at.ensures d m units u k a s))
+
+pub returns : goal.returns
+returns c = λ d m units u k a s.
+    subst (λ (ns : List (BodyId × ℕ)). AddsNames m units u [] (names_at_sites alias_names d (map site_of ns))
+    c.loop-site.aliases.items) (take_all c.loop-site.site-index c.args.all.now c.loop-site-test.false)
+    (c.loop-site.invariant d m units u k a s)

@@ -1,0 +1,24 @@
+use Rattle.std.proofs.Common.{◌≡◌, ◌<◌, ℕ, List, nat_eq, sym, subst, ap, arith, ◌∙◌, length}
+use Rattle.std.proofs.lemmas.List.{take_all, length-take-le}
+use Rattle.std.specs.HashMap as hash
+use Rattle.std.specs.Map.{lookup}
+use Rattle.ar_base.specs.Numbers.{NameId}
+use Rattle.class_table.specs.declared.tables.TypeBody.{TypeBody}
+use Rattle.class_table.proofs.Taken.{take_item}
+use Rattle.unit_rules.specs.Typing.{place_in}
+use Rattle.unit_rules.proofs.types.TypePlaces.new.Goals as goal
+
+pub loop-place-init : goal.loop-place-init
+loop-place-init c = λ x. ap (lookup (nat_eq x)) c.new.ensures.empty
+
+pub loop-place-preserved : goal.loop-place-preserved
+loop-place-preserved c =
+    let l : c.loop-place.place < length c.args.types.now = omega arith in
+    let e = take_item c.args.types.now c.loop-place.place c.index-types-place.result l c.index-types-place.is in
+    let n = length-take-le c.loop-place.place c.args.types.now (omega arith) in
+    subst (λ (ts : List (NameId × TypeBody)). (x : ℕ) → hash.get nat_eq c.add.new.self.places x ≡ place_in ts x) (sym e)
+    (c.in_ok-add.ensures _ _ n c.loop-place.invariant)
+
+pub returns : goal.returns
+returns c = let e = take_all c.loop-place.place c.args.types.now (omega arith) in
+    record { each = λ x. c.loop-place.invariant x ∙ ap (λ (ts : List (NameId × TypeBody)). place_in ts x) e }

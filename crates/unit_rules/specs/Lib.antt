@@ -1,0 +1,11 @@
+pub mod Counting
+pub mod Limits
+pub mod Naming
+pub mod Repeats
+pub mod Rules
+pub mod Searched
+pub mod Settables
+pub mod Sizes
+pub mod Statements
+pub mod Typing
+pub mod Wrong

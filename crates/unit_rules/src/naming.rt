@@ -1,0 +1,300 @@
+//! The units that the names of a unit lead to.
+
+ghost use Rattle.std.specs.Prelude.{ℕ, List, [], ◌∷◌, map, OnOk, IfOk};
+ghost use Rattle.std.specs.List.Sorted.{IsPermutation, IsNonDecreasingBy};
+ghost use Rattle.ar_base.specs.Lists.{Stands, Along};
+ghost use Rattle.ar_base.specs.declared.places.Place.{Place as PlaceOf};
+ghost use Rattle.ar_base.specs.Numbers.{NameId as Name};
+ghost use Rattle.class_table.specs.Declaring.{Declared};
+ghost use Rattle.class_table.specs.Members.{owned_at as declared_at};
+ghost use Rattle.class_table.specs.Tables.{IsBodyOf, site_of};
+ghost use Rattle.hierarchy.specs.Models.{RootedModel, IsKeptTable};
+ghost use Rattle.hierarchy.specs.Units.{UnitPath};
+ghost use Rattle.hierarchy.specs.Tie.{AreOutlines, IsOutline, IsUnit};
+ghost use Rattle.unit_walks.specs.Settling.{AreOutcomes};
+ghost use Rattle.unit_rules.specs.Naming.{Entry, AddsName, AddsNames, instance_names, inner_names, alias_names, names_if, names_at_sites};
+
+use crate::sites::owned_at;
+use ar_base::{BodyId, Memory, NameId, Place, UnitId};
+use ar_syntax::{Member, TypeForm};
+use class_table::{Body, Classes, Owned};
+use hierarchy::{Outline, UnitNode};
+use std::alloc::Global;
+use unit_walks::{Led, Walks};
+
+type Entries = Vec<(NameId, UnitId)>;
+
+// Adds the unit that a name leads to, if it leads to one.
+fn add(entries: &mut Entries, walks: &Walks, unit: UnitId, name: NameId) -> Result<(), Memory>
+    ensures { (m : RootedModel) (units : List UnitPath) (u : UnitPath)
+        → AreOutcomes m units walks.now
+        → Stands units unit.n u → OnOk result
+        (AddsName m units u name.n entries.old.items entries.new.items) }
+{
+    match walks.outcome(unit, name) {
+        Led::Unit(found) => entries.push((name, found))?,
+        Led::Nothing => {}
+        Led::Loops => {}
+    }
+    Ok(())
+}
+
+// Adds the units that these names lead to.
+fn add_all(
+    entries: &mut Entries,
+    walks: &Walks,
+    unit: UnitId,
+    names: &[(NameId, Place)],
+) -> Result<(), Memory>
+    ensures { (m : RootedModel) (units : List UnitPath) (u : UnitPath)
+        → AreOutcomes m units walks.now
+        → Stands units unit.n u
+        → OnOk result (AddsNames m units u entries.old.items
+        (map (λ (n : Name × PlaceOf). n.0.n) names.now) entries.new.items) }
+{
+    for (name, _) in names {
+        add(entries, walks, unit, *name)?;
+    }
+    Ok(())
+}
+
+// Adds the units that the names of a declaration lead to, where its type has a name.
+fn add_declared(
+    entries: &mut Entries,
+    walks: &Walks,
+    unit: UnitId,
+    form: TypeForm,
+    names: &[(NameId, Place)],
+) -> Result<(), Memory>
+    ensures { (m : RootedModel) (units : List UnitPath) (u : UnitPath)
+        → AreOutcomes m units walks.now
+        → Stands units unit.n u
+        → OnOk result (AddsNames m units u entries.old.items (instance_names form names.now)
+        entries.new.items) }
+{
+    match form {
+        TypeForm::Named(_) => add_all(entries, walks, unit, names),
+        TypeForm::Boolean => Ok(()),
+        TypeForm::Integer => Ok(()),
+    }
+}
+
+// Adds the unit of one name to a list that gets no other.
+fn add_one(entries: &mut Entries, walks: &Walks, unit: UnitId, name: NameId) -> Result<(), Memory>
+    ensures { (m : RootedModel) (units : List UnitPath) (u : UnitPath)
+        → AreOutcomes m units walks.now
+        → Stands units unit.n u
+        → OnOk result (AddsNames m units u entries.old.items (name.n ∷ []) entries.new.items) }
+{
+    add(entries, walks, unit, name)
+}
+
+// Adds the units in the unit that the names of a member lead to.
+fn add_inner(inner: &mut Entries, walks: &Walks, unit: UnitId, owned: &Owned) -> Result<(), Memory>
+    ensures { (m : RootedModel) (units : List UnitPath) (u : UnitPath)
+        → AreOutcomes m units walks.now
+        → Stands units unit.n u
+        → OnOk result (AddsNames m units u inner.old.items (inner_names owned.now)
+        inner.new.items) }
+{
+    let member = match owned {
+        Owned::Nested(name, _, _) => return add_one(inner, walks, unit, *name),
+        Owned::Plain(member) => member,
+    };
+    match member {
+        Member::Declare(type_name, names, _) => add_declared(
+            inner,
+            walks,
+            unit,
+            type_name.form,
+            names,
+        ),
+        Member::Clones(_, name, _) => add_one(inner, walks, unit, *name),
+        Member::Extends(_, _) => Ok(()),
+        Member::Block(_) => Ok(()),
+        Member::Embeds(_, _, _) => Ok(()),
+        Member::Parameter(_, _, _, _) => Ok(()),
+        Member::Kept(_, _, _) => Ok(()),
+        Member::Event(_, _, _) => Ok(()),
+        Member::Observer(_, _, _, _) => Ok(()),
+        Member::Hide(_) => Ok(()),
+        Member::Local(_, _, _, _) => Ok(()),
+        Member::Sync(_, _, _) => Ok(()),
+        Member::Assert(_) => Ok(()),
+    }
+}
+
+// The same of the member at a site.
+fn add_inner_at(
+    inner: &mut Entries,
+    bodies: &[Body],
+    walks: &Walks,
+    unit: UnitId,
+    site: (BodyId, u32),
+) -> Result<(), Memory>
+    ensures { (d : Declared) (m : RootedModel) (units : List UnitPath) (u : UnitPath)
+        → Along IsBodyOf bodies.now d.bodies
+        → AreOutcomes m units walks.now → Stands units unit.n u
+        → OnOk result (AddsNames m units u inner.old.items
+        (names_if inner_names (declared_at d (site_of site))) inner.new.items) }
+{
+    match owned_at(bodies, site) {
+        None => Ok(()),
+        Some(owned) => add_inner(inner, walks, unit, owned),
+    }
+}
+
+// Adds the unit that an alias names.
+fn add_alias(
+    aliases: &mut Entries,
+    walks: &Walks,
+    unit: UnitId,
+    owned: &Owned,
+) -> Result<(), Memory>
+    ensures { (m : RootedModel) (units : List UnitPath) (u : UnitPath)
+        → AreOutcomes m units walks.now
+        → Stands units unit.n u
+        → OnOk result (AddsNames m units u aliases.old.items (alias_names owned.now)
+        aliases.new.items) }
+{
+    let member = match owned {
+        Owned::Nested(_, _, _) => return Ok(()),
+        Owned::Plain(member) => member,
+    };
+    match member {
+        Member::Embeds(_, name, _) => add_one(aliases, walks, unit, *name),
+        Member::Extends(_, _) => Ok(()),
+        Member::Declare(_, _, _) => Ok(()),
+        Member::Block(_) => Ok(()),
+        Member::Clones(_, _, _) => Ok(()),
+        Member::Parameter(_, _, _, _) => Ok(()),
+        Member::Kept(_, _, _) => Ok(()),
+        Member::Event(_, _, _) => Ok(()),
+        Member::Observer(_, _, _, _) => Ok(()),
+        Member::Hide(_) => Ok(()),
+        Member::Local(_, _, _, _) => Ok(()),
+        Member::Sync(_, _, _) => Ok(()),
+        Member::Assert(_) => Ok(()),
+    }
+}
+
+// The same of the member at a site.
+fn add_alias_at(
+    aliases: &mut Entries,
+    bodies: &[Body],
+    walks: &Walks,
+    unit: UnitId,
+    site: (BodyId, u32),
+) -> Result<(), Memory>
+    ensures { (d : Declared) (m : RootedModel) (units : List UnitPath) (u : UnitPath)
+        → Along IsBodyOf bodies.now d.bodies
+        → AreOutcomes m units walks.now → Stands units unit.n u
+        → OnOk result (AddsNames m units u aliases.old.items
+        (names_if alias_names (declared_at d (site_of site))) aliases.new.items) }
+{
+    match owned_at(bodies, site) {
+        None => Ok(()),
+        Some(owned) => add_alias(aliases, walks, unit, owned),
+    }
+}
+
+// The units in a unit, by the names of its members.
+fn inner_of(
+    alloc: Global,
+    bodies: &[Body],
+    walks: &Walks,
+    unit: UnitId,
+    all: &[(BodyId, u32)],
+) -> Result<Entries, Memory>
+    ensures { (d : Declared) (m : RootedModel) (units : List UnitPath) (u : UnitPath)
+        → Along IsBodyOf bodies.now d.bodies
+        → AreOutcomes m units walks.now → Stands units unit.n u
+        → IfOk result (λ r. AddsNames m units u []
+        (names_at_sites inner_names d (map site_of all.now)) r.items) }
+{
+    let mut inner = Vec::new(alloc);
+    for site in all {
+        add_inner_at(&mut inner, bodies, walks, unit, *site)?;
+    }
+    Ok(inner)
+}
+
+// The units that have another name in a unit.
+fn aliases_of(
+    alloc: Global,
+    bodies: &[Body],
+    walks: &Walks,
+    unit: UnitId,
+    all: &[(BodyId, u32)],
+) -> Result<Entries, Memory>
+    ensures { (d : Declared) (m : RootedModel) (units : List UnitPath) (u : UnitPath)
+        → Along IsBodyOf bodies.now d.bodies
+        → AreOutcomes m units walks.now → Stands units unit.n u
+        → IfOk result (λ r. AddsNames m units u []
+        (names_at_sites alias_names d (map site_of all.now)) r.items) }
+{
+    let mut aliases = Vec::new(alloc);
+    for site in all {
+        add_alias_at(&mut aliases, bodies, walks, unit, *site)?;
+    }
+    Ok(aliases)
+}
+
+// The entries in the order of their names.
+fn in_order(mut entries: Entries) -> Result<Entries, Memory>
+    ensures same { IfOk result (λ r. IsPermutation entries.items r.items) }
+    ensures ordered { IfOk result (λ r. IsNonDecreasingBy (λ (e : Entry). e.0.n) r.items) }
+{
+    entries.sort_by_key(|entry| entry.0.n)?;
+    Ok(entries)
+}
+
+// A unit with the units that its names lead to.
+fn node_of(
+    alloc: Global,
+    classes: &Classes,
+    walks: &Walks,
+    unit: UnitId,
+    outline: &Outline,
+) -> Result<UnitNode, Memory>
+    ensures { (m : RootedModel) (units : List UnitPath) (u : UnitPath) → IsKeptTable m classes.now
+        → AreOutcomes m units walks.now → Stands units unit.n u → IsOutline m units u outline.now
+        → IfOk result (IsUnit m units u) }
+{
+    let Some(body) = classes.bodies.get(outline.body.n as usize) else {
+        return Err(Memory {});
+    };
+    let inner = inner_of(alloc, &classes.bodies, walks, unit, &body.all)?;
+    let aliases = aliases_of(alloc, &classes.bodies, walks, unit, &body.all)?;
+    Ok(UnitNode {
+        name: outline.name,
+        owner: outline.owner,
+        body: outline.body,
+        inner: in_order(inner)?,
+        aliases: in_order(aliases)?,
+    })
+}
+
+/// The units with the names that lead to units in each of them, from their outlines and from what the walks of names
+/// lead to. The only error is want of memory.
+pub fn name_units(
+    alloc: Global,
+    classes: &Classes,
+    outlines: &[Outline],
+    walks: &Walks,
+) -> Result<Vec<UnitNode>, Memory>
+    ensures { (m : RootedModel) (units : List UnitPath)
+        → AreOutlines m units classes.now outlines.now
+        → AreOutcomes m units walks.now → IfOk result
+        (λ nodes. Along (IsUnit m units) units nodes.items) }
+{
+    let mut nodes = Vec::new(alloc);
+    for (place, outline) in outlines.iter().enumerate() {
+        let Ok(number) = u32::try_from(place) else {
+            return Err(Memory {});
+        };
+        let node = node_of(alloc, classes, walks, UnitId::new(number), outline)?;
+        nodes.push(node)?;
+    }
+    Ok(nodes)
+}

@@ -1,0 +1,141 @@
+//! The first setting that sets nothing, or what an earlier one sets.
+
+ghost use Rattle.std.specs.Prelude.{◌≡◌, ◌↔◌, ℕ, false, List, IfOk, Some};
+ghost use Rattle.ar_base.specs.Lists.{Stands};
+ghost use Rattle.ar_syntax.specs.declared.members.Setting.{Setting as SettingOf};
+ghost use Rattle.class_table.specs.Earliest.{IsEarliest};
+ghost use Rattle.class_table.specs.declared.tables.Classes.{Classes as Table};
+ghost use Rattle.hierarchy.specs.Models.{RootedModel};
+ghost use Rattle.hierarchy.specs.Units.{UnitPath};
+ghost use Rattle.hierarchy.specs.Settings.{settings_of as settings_of_member};
+ghost use Rattle.hierarchy.specs.Tie.{AreOutlines, IsOutline};
+ghost use Rattle.unit_rules.specs.Rules.{BreaksSetting};
+ghost use Rattle.unit_walks.specs.Settling.{AreOutcomes};
+ghost use Rattle.unit_rules.specs.Settables.{AreSettables};
+ghost use Rattle.unit_rules.specs.Wrong.{IsSetBefore, BreaksAt, BreaksIn, BreaksUnit};
+
+use crate::repeats::Targets;
+use crate::settables::Settables;
+use crate::targets::is_target;
+use ar_base::{Memory, Place, UnitId};
+use ar_syntax::{Member, Setting};
+use class_table::earliest::earliest;
+use class_table::{Classes, Owned};
+use hierarchy::Outline;
+use std::alloc::Global;
+use crate::owned_at;
+use unit_walks::Walks;
+
+// The settings of a member: those of a declaration, else none.
+fn settings_of(owned: &Owned) -> &[Setting]
+    ensures { result.now ≡ settings_of_member (Some owned.now) }
+{
+    match owned {
+        Owned::Nested(_, _, _) => &[],
+        Owned::Plain(member) => match member {
+            Member::Declare(_, _, settings) => settings,
+            _ => &[],
+        },
+    }
+}
+
+// The place of this setting, which holds in the unit, if it is wrong; it is new where no earlier
+// one has its target.
+fn wrong_here(
+    settables: &Settables,
+    outlines: &[Outline],
+    walks: &Walks,
+    unit: UnitId,
+    setting: &Setting,
+    is_new: bool,
+) -> Option<Place>
+    ensures { (m : RootedModel) (units : List UnitPath) (classes : Table) (u : UnitPath)
+        → AreOutlines m units classes outlines.now → AreOutcomes m units walks.now
+        → AreSettables m units settables.now → Stands units unit.n u
+        → (settings : List SettingOf) (k : ℕ) → (is_new ≡ false) ↔ IsSetBefore settings k
+        → IsEarliest (BreaksAt m u settings k setting.now) result }
+{
+    if !is_new {
+        return Some(setting.at);
+    }
+    if !is_target(settables, outlines, walks, unit, &setting.target) {
+        return Some(setting.at);
+    }
+    None
+}
+
+// The earliest place of a wrong setting among these, which hold in the unit.
+fn wrong_among(
+    alloc: Global,
+    settables: &Settables,
+    outlines: &[Outline],
+    walks: &Walks,
+    unit: UnitId,
+    settings: &[Setting],
+) -> Result<Option<Place>, Memory>
+    ensures { (m : RootedModel) (units : List UnitPath) (classes : Table) (u : UnitPath)
+        → AreOutlines m units classes outlines.now → AreOutcomes m units walks.now
+        → AreSettables m units settables.now → Stands units unit.n u
+        → IfOk result (IsEarliest (BreaksIn m u settings.now)) }
+{
+    let mut targets = Targets::new(alloc);
+    let mut first = None;
+    for place in 0..settings.len() {
+        let setting = &settings[place];
+        let is_new = targets.meet(alloc, &setting.target)?;
+        let wrong = wrong_here(settables, outlines, walks, unit, setting, is_new);
+        first = earliest(first, wrong);
+    }
+    Ok(first)
+}
+
+// The earliest place of a wrong setting of the declaration whose settings hold in the unit.
+fn wrong_in(
+    alloc: Global,
+    settables: &Settables,
+    classes: &Classes,
+    outlines: &[Outline],
+    walks: &Walks,
+    unit: UnitId,
+    outline: &Outline,
+) -> Result<Option<Place>, Memory>
+    ensures { (m : RootedModel) (units : List UnitPath) (u : UnitPath)
+        → AreOutlines m units classes.now outlines.now → AreOutcomes m units walks.now
+        → AreSettables m units settables.now → Stands units unit.n u
+        → IsOutline m units u outline.now
+        → IfOk result (IsEarliest (BreaksUnit m u)) }
+{
+    let Some(site) = outline.set_at else {
+        return Ok(None);
+    };
+    match owned_at(&classes.bodies, site) {
+        None => Ok(None),
+        Some(owned) => wrong_among(alloc, settables, outlines, walks, unit, settings_of(owned)),
+    }
+}
+
+/// The earliest place where rule L9 is broken in these units: that of a setting whose words lead
+/// from its unit to nothing that they may set, or of one whose words an earlier setting of the same
+/// declaration has. None where there is no such setting. The only error is want of memory.
+pub fn first_wrong_setting(
+    alloc: Global,
+    classes: &Classes,
+    outlines: &[Outline],
+    walks: &Walks,
+) -> Result<Option<Place>, Memory>
+    ensures { (m : RootedModel) (units : List UnitPath)
+        → AreOutlines m units classes.now outlines.now
+        → AreOutcomes m units walks.now → IfOk result (IsEarliest (BreaksSetting m units)) }
+{
+    let settables = Settables::new(alloc, classes, outlines)?;
+    let mut found = None;
+    for (place, outline) in outlines.iter().enumerate() {
+        let Ok(number) = u32::try_from(place) else {
+            return Err(Memory {});
+        };
+        let unit = UnitId::new(number);
+        let wrong = wrong_in(alloc, &settables, classes, outlines, walks, unit, outline)?;
+        found = earliest(found, wrong);
+    }
+    Ok(found)
+}

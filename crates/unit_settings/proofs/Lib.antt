@@ -1,2 +1,0 @@
-pub mod Wrong
-pub mod Sited

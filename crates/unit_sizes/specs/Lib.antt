@@ -1,4 +1,0 @@
-pub mod Sizes
-pub mod Limits
-pub mod Counting
-pub mod Typing

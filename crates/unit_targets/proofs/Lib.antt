@@ -1,5 +1,0 @@
-pub mod Keeping
-pub mod Entries
-pub mod Leading
-pub mod Searched
-pub mod Meeting

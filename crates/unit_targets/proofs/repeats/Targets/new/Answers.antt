@@ -1,5 +1,0 @@
-use Rattle.unit_targets.proofs.Meeting.{met_none}
-use Rattle.unit_targets.proofs.repeats.Targets.new.Goals as goal
-
-pub returns : goal.returns
-returns c = λ settings. met_none settings _ c.new.ensures.empty

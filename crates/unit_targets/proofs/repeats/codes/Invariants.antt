@@ -1,8 +1,0 @@
-use Rattle.std.proofs.Common.{◌≡◌, map, take}
-use Rattle.hierarchy.specs.Settings.{word_of}
-use Rattle.unit_targets.specs.Repeats.{code_of}
-use Rattle.unit_targets.proofs.repeats.codes.Given as goal
-
--- the numbers of the words up to here
-abbrev pub invariant-loop-word : goal.invariant-loop-word
-invariant-loop-word l = l.codes.items ≡ map code_of (map word_of (take l.word-index l.words))

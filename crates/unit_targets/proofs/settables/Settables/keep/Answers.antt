@@ -1,5 +1,0 @@
-use Rattle.unit_targets.proofs.Keeping.{adds_one}
-use Rattle.unit_targets.proofs.settables.Settables.keep.Goals as goal
-
-pub returns : goal.returns
-returns c = let h = c.in_ok-insert.ensures.updates in adds_one c.args.body.n c.args.name.n c.args.settable _ _ h.1 h.2

@@ -1,3 +1,0 @@
-pub mod Settables
-pub mod Wrong
-pub mod Repeats

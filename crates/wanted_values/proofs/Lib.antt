@@ -1,2 +1,0 @@
-mod Observers
-mod Words

@@ -1,2 +1,0 @@
-pub mod Wanting
-pub mod Answers

@@ -1,8 +1,0 @@
-mod Meeting
-mod Growing
-mod Taking
-mod Acting
-mod Neighbours
-mod Pairing
-pub mod Writing
-mod Stepping

@@ -1,6 +1,0 @@
-use Rattle.std.proofs.Common.{◌≡◌, ◌++◌, take}
-use Rattle.way_effects.specs.Effects.{action_effects}
-use Rattle.way_effects.proofs.effects.add_reached.Given as goal
-
-abbrev pub invariant-loop-assign : goal.invariant-loop-assign
-invariant-loop-assign l = l.all.items ≡ l.initial.all.items ++ action_effects l.values (take l.assign-index l.action)

@@ -1,5 +1,0 @@
-use Rattle.way_effects.proofs.Pairing.{KeepBefore}
-use Rattle.way_effects.proofs.receiving.first_leaving.Given as goal
-
-abbrev pub invariant-loop-effect : goal.invariant-loop-effect
-invariant-loop-effect l = KeepBefore l.parts l.effects l.effect-index

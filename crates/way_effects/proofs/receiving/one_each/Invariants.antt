@@ -1,5 +1,0 @@
-use Rattle.way_effects.proofs.Pairing.{AreEach}
-use Rattle.way_effects.proofs.receiving.one_each.Given as goal
-
-abbrev pub invariant-loop-effect : goal.invariant-loop-effect
-invariant-loop-effect l = AreEach l.effects l.effect-index l.new.items

@@ -1,6 +1,0 @@
-use Rattle.std.proofs.Common.{take}
-use Rattle.way_effects.specs.Meeting.{Meets, IsTaken}
-use Rattle.way_effects.proofs.takers.meet_parts.Given as goal
-
-abbrev pub invariant-loop-must : goal.invariant-loop-must
-invariant-loop-must l = Meets (IsTaken (take l.must-index l.must-items) l.flags) l.initial.met l.met

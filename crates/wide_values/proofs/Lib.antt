@@ -1,2 +1,0 @@
-mod Allowing
-mod Assigning

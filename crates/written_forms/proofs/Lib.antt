@@ -1,0 +1,11 @@
+pub mod ActedForms
+pub mod Becoming
+pub mod Gathering
+pub mod KindsFound
+pub mod MisnamedForms
+pub mod MistypedForms
+pub mod OperandLists
+pub mod PartForms
+pub mod RightForms
+pub mod RuleForms
+pub mod TwoKinds

@@ -1,0 +1,183 @@
+use Rattle.std.proofs.Common.{◌++◌, ◌∷◌, [], List, Bool, arith, subst}
+use Rattle.ar_syntax.specs.declared.expressions.RawExpr.{RawExpr}
+use Rattle.ar_syntax.specs.declared.expressions.RawForm.TheOpen as raw
+use Rattle.ar_syntax.proofs.Opened as opened
+use Rattle.class_table.specs.Earliest.{IsEarliest}
+use Rattle.class_table.proofs.FirstPlaces.{earliest_both}
+use Rattle.class_table.proofs.Taken.{item_stands}
+use Rattle.class_table.proofs.Looping.{loop_start, loop_next, loop_end}
+use Rattle.written_forms.specs.Operands.{level_of, wanting, OfKind, Like, each_wanting, terms, tests, branches, first_branch}
+use Rattle.typed_expr.specs.declared.expr.ValueKind.TheVariants.{Truth, Whole}
+use Rattle.written_forms.specs.Wrong.{IsMisnamed, IsNamed, Among, MisnamedOperand}
+use Rattle.written_forms.proofs.Gathering.{none_among, one_among, both_among, mapped_to, mapped_back, paired_to, paired_back}
+use Rattle.written_forms.proofs.MisnamedForms as misnamed
+use Rattle.written_forms.proofs.misnaming.+misnamed.Goals as goal
+
+pub first_misnamed-returns-in-Truth : goal.first_misnamed-returns-in-Truth
+first_misnamed-returns-in-Truth g t c =
+    let may = (IsNamed (g.N.Naming.kind_at c.args.naming.now)) in
+    misnamed.misnamed_inside may c.args.expr.now _ _ (opened.form-truth _ _ c.in-Truth.is) (λ p e. cc)
+    (none_among (MisnamedOperand may))
+
+pub first_misnamed-returns-in-Whole : goal.first_misnamed-returns-in-Whole
+first_misnamed-returns-in-Whole g t c =
+    let may = (IsNamed (g.N.Naming.kind_at c.args.naming.now)) in
+    misnamed.misnamed_inside may c.args.expr.now _ _ (opened.form-whole _ _ c.in-Whole.is) (λ p e. cc)
+    (none_among (MisnamedOperand may))
+
+pub first_misnamed-returns-in-Real : goal.first_misnamed-returns-in-Real
+first_misnamed-returns-in-Real g t c =
+    let may = (IsNamed (g.N.Naming.kind_at c.args.naming.now)) in
+    misnamed.misnamed_inside may c.args.expr.now raw.Real _ (opened.form-real _ c.in-Real.is) (λ p e. cc)
+    (none_among (MisnamedOperand may))
+
+pub first_misnamed-returns-in-Not : goal.first_misnamed-returns-in-Not
+first_misnamed-returns-in-Not g t c =
+    let may = (IsNamed (g.N.Naming.kind_at c.args.naming.now)) in
+    let h = subst (λ (e : RawExpr). IsEarliest (IsMisnamed may (level_of e)) c.first_misnamed.result) c.deref.ensures
+    c.first_misnamed.ensures in
+    misnamed.misnamed_inside may c.args.expr.now (raw.Not c.in-Not.a) c.first_misnamed.result
+    (opened.form-not _ _ c.in-Not.is) (λ p e. cc)
+    (one_among (MisnamedOperand may) (wanting (OfKind Truth) c.in-Not.a.value) c.first_misnamed.result h)
+
+pub first_misnamed-returns-in-Minus : goal.first_misnamed-returns-in-Minus
+first_misnamed-returns-in-Minus g t c =
+    let may = (IsNamed (g.N.Naming.kind_at c.args.naming.now)) in
+    let h = subst (λ (e : RawExpr). IsEarliest (IsMisnamed may (level_of e)) c.first_misnamed-in-Minus.result)
+    c.deref-in-Minus.ensures c.first_misnamed-in-Minus.ensures in
+    misnamed.misnamed_inside may c.args.expr.now (raw.Minus c.in-Minus.a) c.first_misnamed-in-Minus.result
+    (opened.form-minus _ _ c.in-Minus.is) (λ p e. cc)
+    (one_among (MisnamedOperand may) (wanting (OfKind Whole) c.in-Minus.a.value) c.first_misnamed-in-Minus.result h)
+
+pub first_misnamed-returns-in-All : goal.first_misnamed-returns-in-All
+first_misnamed-returns-in-All g t c =
+    let may = (IsNamed (g.N.Naming.kind_at c.args.naming.now)) in
+    let h = subst (λ (es : List RawExpr). IsEarliest (Among (MisnamedOperand may) (each_wanting (OfKind Truth) es))
+    c.misnamed_in.result) c.deref-in-All.ensures.value (c.misnamed_in.ensures (OfKind Truth)) in
+    misnamed.misnamed_inside may c.args.expr.now (raw.All c.in-All.es) c.misnamed_in.result
+    (opened.form-all _ _ c.in-All.is) (λ p e. cc) h
+
+pub first_misnamed-returns-in-Any : goal.first_misnamed-returns-in-Any
+first_misnamed-returns-in-Any g t c =
+    let may = (IsNamed (g.N.Naming.kind_at c.args.naming.now)) in
+    let h = subst (λ (es : List RawExpr). IsEarliest (Among (MisnamedOperand may) (each_wanting (OfKind Truth) es))
+    c.misnamed_in-in-Any.result) c.deref-in-Any.ensures.value (c.misnamed_in-in-Any.ensures (OfKind Truth)) in
+    misnamed.misnamed_inside may c.args.expr.now (raw.Any c.in-Any.es) c.misnamed_in-in-Any.result
+    (opened.form-any _ _ c.in-Any.is) (λ p e. cc) h
+
+pub first_misnamed-returns-in-Product : goal.first_misnamed-returns-in-Product
+first_misnamed-returns-in-Product g t c =
+    let may = (IsNamed (g.N.Naming.kind_at c.args.naming.now)) in
+    let h = subst (λ (es : List RawExpr). IsEarliest (Among (MisnamedOperand may) (each_wanting (OfKind Whole) es))
+    c.misnamed_in-in-Product.result) c.deref-in-Product.ensures.value
+    (c.misnamed_in-in-Product.ensures (OfKind Whole)) in
+    misnamed.misnamed_inside may c.args.expr.now (raw.Product c.in-Product.es) c.misnamed_in-in-Product.result
+    (opened.form-product _ _ c.in-Product.is) (λ p e. cc) h
+
+pub first_misnamed-returns-in-Least : goal.first_misnamed-returns-in-Least
+first_misnamed-returns-in-Least g t c =
+    let may = (IsNamed (g.N.Naming.kind_at c.args.naming.now)) in
+    let h = subst (λ (es : List RawExpr). IsEarliest (Among (MisnamedOperand may) (each_wanting (OfKind Whole) es))
+    c.misnamed_in-in-Least.result) c.deref-in-Least.ensures.value
+    (c.misnamed_in-in-Least.ensures (OfKind Whole)) in
+    misnamed.misnamed_inside may c.args.expr.now (raw.Least c.in-Least.es) c.misnamed_in-in-Least.result
+    (opened.form-least _ _ c.in-Least.is) (λ p e. cc) h
+
+pub first_misnamed-returns-in-Greatest : goal.first_misnamed-returns-in-Greatest
+first_misnamed-returns-in-Greatest g t c =
+    let may = (IsNamed (g.N.Naming.kind_at c.args.naming.now)) in
+    let h = subst (λ (es : List RawExpr). IsEarliest (Among (MisnamedOperand may) (each_wanting (OfKind Whole) es))
+    c.misnamed_in-in-Greatest.result) c.deref-in-Greatest.ensures.value
+    (c.misnamed_in-in-Greatest.ensures (OfKind Whole)) in
+    misnamed.misnamed_inside may c.args.expr.now (raw.Greatest c.in-Greatest.es) c.misnamed_in-in-Greatest.result
+    (opened.form-greatest _ _ c.in-Greatest.is) (λ p e. cc) h
+
+pub first_misnamed-returns-in-Count : goal.first_misnamed-returns-in-Count
+first_misnamed-returns-in-Count g t c =
+    let may = (IsNamed (g.N.Naming.kind_at c.args.naming.now)) in
+    let h = subst (λ (es : List RawExpr). IsEarliest (Among (MisnamedOperand may) (each_wanting (OfKind Truth) es))
+    c.misnamed_in-in-Count.result) c.deref-in-Count.ensures.value
+    (c.misnamed_in-in-Count.ensures (OfKind Truth)) in
+    misnamed.misnamed_inside may c.args.expr.now (raw.Count c.in-Count.es) c.misnamed_in-in-Count.result
+    (opened.form-count _ _ c.in-Count.is) (λ p e. cc) h
+
+pub first_misnamed-returns-in-Sum : goal.first_misnamed-returns-in-Sum
+first_misnamed-returns-in-Sum g t c =
+    let may = (IsNamed (g.N.Naming.kind_at c.args.naming.now)) in
+    let h = subst (λ (ps : List (Bool × RawExpr)). IsEarliest (Among (MisnamedOperand may) (terms ps))
+    c.misnamed_terms.result) c.deref-in-Sum.ensures.value c.misnamed_terms.ensures in
+    misnamed.misnamed_inside may c.args.expr.now (raw.Sum c.in-Sum.parts) c.misnamed_terms.result
+    (opened.form-sum _ _ c.in-Sum.is) (λ p e. cc) h
+
+pub first_misnamed-returns-in-Compare : goal.first_misnamed-returns-in-Compare
+first_misnamed-returns-in-Compare g t c =
+    let may = (IsNamed (g.N.Naming.kind_at c.args.naming.now)) in
+    let h = subst (λ (e : RawExpr). IsEarliest (IsMisnamed may (level_of e)) c.first_misnamed-in-Compare.result)
+    c.deref-in-Compare.ensures c.first_misnamed-in-Compare.ensures in
+    let k = subst (λ (e : RawExpr). IsEarliest (IsMisnamed may (level_of e)) c.first_misnamed-in-Compare-2.result)
+    c.deref-in-Compare-2.ensures c.first_misnamed-in-Compare-2.ensures in
+    misnamed.misnamed_sides may c.args.expr.now _ c.in-Compare.a c.in-Compare.b _ _ c.earlier.result
+    (opened.form-compare _ _ _ _ c.in-Compare.is) h k c.earlier.ensures
+
+pub first_misnamed-returns-in-Choose : goal.first_misnamed-returns-in-Choose
+first_misnamed-returns-in-Choose g t c =
+    let may = (IsNamed (g.N.Naming.kind_at c.args.naming.now)) in
+    let first = first_branch c.in-Choose.cases.items c.in-Choose.other.value in
+    let h = subst (λ (cs : List (RawExpr × RawExpr)). IsEarliest
+    (Among (MisnamedOperand may) (tests cs ++ branches first cs)) c.misnamed_cases.result)
+    c.deref-in-Choose.ensures.value (c.misnamed_cases.ensures first) in
+    let k = subst (λ (e : RawExpr). IsEarliest (IsMisnamed may (level_of e)) c.first_misnamed-in-Choose.result)
+    c.deref-in-Choose-2.ensures c.first_misnamed-in-Choose.ensures in
+    misnamed.misnamed_inside may c.args.expr.now (raw.Choose c.in-Choose.cases c.in-Choose.other)
+    c.earlier-in-Choose.result (opened.form-choice _ _ _ c.in-Choose.is) (λ p e. cc)
+    (both_among (MisnamedOperand may) (tests c.in-Choose.cases.items ++ branches first c.in-Choose.cases.items)
+    (wanting (Like first) c.in-Choose.other.value ∷ []) _ _ c.earlier-in-Choose.result h
+    (one_among (MisnamedOperand may) (wanting (Like first) c.in-Choose.other.value) _ k) c.earlier-in-Choose.ensures)
+
+pub misnamed_in-loop-e-init : goal.misnamed_in-loop-e-init
+misnamed_in-loop-e-init g t c = loop_start _ _
+
+pub misnamed_in-loop-e-preserved : goal.misnamed_in-loop-e-preserved
+misnamed_in-loop-e-preserved g t c =
+    let s = item_stands c.args.es.now c.loop-e.e-index c.e-item.result (omega arith) c.e-item.is in
+    loop_next _ _ _ _ _ _ _ s c.loop-e.invariant c.first_misnamed.ensures c.earlier-found.ensures
+
+pub misnamed_in-returns : goal.misnamed_in-returns
+misnamed_in-returns g t c = λ d.
+    let may = (IsNamed (g.N.Naming.kind_at c.args.naming.now)) in
+    loop_end _ _ _ _ _ (omega arith) (mapped_to (MisnamedOperand may) (wanting d) c.args.es.now)
+    (mapped_back (MisnamedOperand may) (wanting d) c.args.es.now) c.loop-e.invariant
+
+pub misnamed_terms-loop-e-init : goal.misnamed_terms-loop-e-init
+misnamed_terms-loop-e-init g t c = loop_start _ _
+
+pub misnamed_terms-loop-e-preserved : goal.misnamed_terms-loop-e-preserved
+misnamed_terms-loop-e-preserved g t c =
+    let s = item_stands c.args.parts.now c.loop-e.e-index c.loop-e-item.result (omega arith) c.loop-e-item.is in
+    loop_next _ _ _ _ _ _ _ s c.loop-e.invariant c.first_misnamed.ensures c.earlier-found.ensures
+
+pub misnamed_terms-returns : goal.misnamed_terms-returns
+misnamed_terms-returns g t c =
+    let may = (IsNamed (g.N.Naming.kind_at c.args.naming.now)) in
+    let f = λ (p : Bool × RawExpr). wanting (OfKind Whole) p.1 in
+    loop_end _ _ _ _ _ (omega arith) (mapped_to (MisnamedOperand may) f c.args.parts.now)
+    (mapped_back (MisnamedOperand may) f c.args.parts.now) c.loop-e.invariant
+
+pub misnamed_cases-loop-test-init : goal.misnamed_cases-loop-test-init
+misnamed_cases-loop-test-init g t c = loop_start _ _
+
+pub misnamed_cases-loop-test-preserved : goal.misnamed_cases-loop-test-preserved
+misnamed_cases-loop-test-preserved g t c =
+    let s = item_stands c.args.cases.now c.loop-test.test-index c.loop-test-item.result (omega arith)
+    c.loop-test-item.is in
+    loop_next _ _ _ _ _ _ _ s c.loop-test.invariant
+    (earliest_both _ _ _ c.first_misnamed.ensures c.first_misnamed-in-loop-test.ensures c.earlier-here.ensures)
+    c.earlier-found.ensures
+
+pub misnamed_cases-returns : goal.misnamed_cases-returns
+misnamed_cases-returns g t c = λ first.
+    let may = (IsNamed (g.N.Naming.kind_at c.args.naming.now)) in
+    let f = λ (p : RawExpr × RawExpr). wanting (OfKind Truth) p.0 in
+    let h = λ (p : RawExpr × RawExpr). wanting (Like first) p.1 in
+    loop_end _ _ _ _ _ (omega arith) (paired_to (MisnamedOperand may) f h c.args.cases.now)
+    (paired_back (MisnamedOperand may) f h c.args.cases.now) c.loop-test.invariant

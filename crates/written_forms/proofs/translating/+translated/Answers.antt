@@ -1,0 +1,175 @@
+use Rattle.std.proofs.Common.{List, Bool, sym, subst}
+use Rattle.ar_syntax.specs.declared.expressions.RawExpr.{RawExpr}
+use Rattle.written_forms.specs.Translating.{BecomesBy, All_become_by, Parts_become_by, Cases_become_by}
+use Rattle.written_forms.proofs.Becoming as becoming
+use Rattle.written_forms.proofs.translating.+translated.Goals as goal
+
+pub translated-returns-in-Truth : goal.translated-returns-in-Truth
+translated-returns-in-Truth g t c =
+    let leaves = (g.L.Leaves.leaf_at c.args.leaves.now) in
+    becoming.truth_becomes leaves c.args.expr.now c.in-Truth.b c.in-Truth.is
+
+pub translated-returns-in-Whole : goal.translated-returns-in-Whole
+translated-returns-in-Whole g t c =
+    let leaves = (g.L.Leaves.leaf_at c.args.leaves.now) in
+    becoming.whole_becomes leaves c.args.expr.now c.in-Whole.n c.whole_expression.result c.in-Whole.is
+    c.whole_expression.ensures
+
+pub translated-returns-in-Real : goal.translated-returns-in-Real
+translated-returns-in-Real g t c =
+    let leaves = (g.L.Leaves.leaf_at c.args.leaves.now) in
+    becoming.real_becomes leaves c.args.expr.now c.in-Real.is
+
+pub translated-returns-in-Path : goal.translated-returns-in-Path
+translated-returns-in-Path g t c =
+    let leaves = (g.L.Leaves.leaf_at c.args.leaves.now) in
+    becoming.path_becomes leaves c.args.expr.now c.in-Path.path c.leaf.result c.leaf_expression.result c.in-Path.is
+    c.leaf.ensures c.leaf_expression.ensures
+
+pub translated-returns-in_ok-new-in-Not : goal.translated-returns-in_ok-new-in-Not
+translated-returns-in_ok-new-in-Not g t c =
+    let leaves = (g.L.Leaves.leaf_at c.args.leaves.now) in
+    let k : BecomesBy leaves c.in-Not.a.value c.in_ok-operand-in-Not.operand =
+    subst (λ z. BecomesBy leaves z c.in_ok-operand-in-Not.operand) c.deref.ensures
+    c.in_ok-operand-in-Not.ensures in
+    becoming.not_becomes leaves c.args.expr.now c.in-Not.a c.in_ok-new-in-Not.field-0 c.in-Not.is
+    (subst (λ z. BecomesBy leaves c.in-Not.a.value z) (sym c.in_ok-new-in-Not.ensures.ok) k)
+
+pub translated-returns-in_ok-taken_away-in-Minus : goal.translated-returns-in_ok-taken_away-in-Minus
+translated-returns-in_ok-taken_away-in-Minus g t c =
+    let leaves = (g.L.Leaves.leaf_at c.args.leaves.now) in
+    let k : BecomesBy leaves c.in-Minus.a.value c.in_ok-operand-in-Minus.operand =
+    subst (λ z. BecomesBy leaves z c.in_ok-operand-in-Minus.operand) c.deref-in-Minus.ensures
+    c.in_ok-operand-in-Minus.ensures in
+    becoming.minus_becomes leaves c.args.expr.now c.in-Minus.a c.in_ok-taken_away-in-Minus.field-0
+    c.in_ok-operand-in-Minus.operand c.in-Minus.is k c.in_ok-taken_away-in-Minus.ensures
+
+pub translated-returns-in_ok-right-in-Compare : goal.translated-returns-in_ok-right-in-Compare
+translated-returns-in_ok-right-in-Compare g t c =
+    let leaves = (g.L.Leaves.leaf_at c.args.leaves.now) in
+    let k : BecomesBy leaves c.in-Compare.a.value c.in_ok-first-in-Compare.first =
+    subst (λ z. BecomesBy leaves z c.in_ok-first-in-Compare.first) c.deref-in-Compare.ensures
+    c.in_ok-first-in-Compare.ensures in
+    let l : BecomesBy leaves c.in-Compare.b.value c.in_ok-second-in-Compare.second =
+    subst (λ z. BecomesBy leaves z c.in_ok-second-in-Compare.second) c.deref-in-Compare-2.ensures
+    c.in_ok-second-in-Compare.ensures in
+    becoming.compare_becomes leaves c.args.expr.now c.in-Compare.relation c.relation_by.result c.in-Compare.a
+    c.in-Compare.b c.in_ok-left-in-Compare.left c.in_ok-right-in-Compare.right c.in-Compare.is c.relation_by.ensures
+    (subst (λ z. BecomesBy leaves c.in-Compare.a.value z) (sym c.in_ok-left-in-Compare.ensures.ok) k)
+    (subst (λ z. BecomesBy leaves c.in-Compare.b.value z) (sym c.in_ok-right-in-Compare.ensures.ok) l)
+
+pub translated-returns-in_ok-terms_translated-in-Sum : goal.translated-returns-in_ok-terms_translated-in-Sum
+translated-returns-in_ok-terms_translated-in-Sum g t c =
+    let leaves = (g.L.Leaves.leaf_at c.args.leaves.now) in
+    becoming.sum_becomes leaves c.args.expr.now c.in-Sum.parts c.in_ok-terms_translated-in-Sum.field-0
+    (subst (λ (z : List (Bool × RawExpr)). Parts_become_by leaves z c.in_ok-terms_translated-in-Sum.field-0.items)
+    c.deref-in-Sum.ensures.value c.in_ok-terms_translated-in-Sum.ensures) c.in-Sum.is
+
+pub translated-returns-in_ok-new-in-Choose : goal.translated-returns-in_ok-new-in-Choose
+translated-returns-in_ok-new-in-Choose g t c =
+    let leaves = (g.L.Leaves.leaf_at c.args.leaves.now) in
+    let k : BecomesBy leaves c.in-Choose.other.value c.in_ok-last-in-Choose.last =
+    subst (λ z. BecomesBy leaves z c.in_ok-last-in-Choose.last) c.deref-in-Choose-2.ensures
+    c.in_ok-last-in-Choose.ensures in
+    becoming.choice_becomes leaves c.args.expr.now c.in-Choose.choices c.in-Choose.other c.in_ok-cases-in-Choose.cases
+    c.in_ok-new-in-Choose.field-0
+    (subst (λ (z : List (RawExpr × RawExpr)). Cases_become_by leaves z c.in_ok-cases-in-Choose.cases.items)
+    c.deref-in-Choose.ensures.value c.in_ok-cases-in-Choose.ensures)
+    (subst (λ z. BecomesBy leaves c.in-Choose.other.value z) (sym c.in_ok-new-in-Choose.ensures.ok) k) c.in-Choose.is
+
+pub translated-returns-in_ok-all_translated-in-All : goal.translated-returns-in_ok-all_translated-in-All
+translated-returns-in_ok-all_translated-in-All g t c =
+    let leaves = (g.L.Leaves.leaf_at c.args.leaves.now) in
+    becoming.all_becomes leaves c.args.expr.now c.in-All.es c.in_ok-all_translated-in-All.field-0
+    (subst (λ (z : List RawExpr). All_become_by leaves z c.in_ok-all_translated-in-All.field-0.items)
+    c.deref-in-All.ensures.value c.in_ok-all_translated-in-All.ensures) c.in-All.is
+
+pub translated-returns-in_ok-all_translated-in-Any : goal.translated-returns-in_ok-all_translated-in-Any
+translated-returns-in_ok-all_translated-in-Any g t c =
+    let leaves = (g.L.Leaves.leaf_at c.args.leaves.now) in
+    becoming.any_becomes leaves c.args.expr.now c.in-Any.es c.in_ok-all_translated-in-Any.field-0
+    (subst (λ (z : List RawExpr). All_become_by leaves z c.in_ok-all_translated-in-Any.field-0.items)
+    c.deref-in-Any.ensures.value c.in_ok-all_translated-in-Any.ensures) c.in-Any.is
+
+pub translated-returns-in_ok-all_translated-in-Product : goal.translated-returns-in_ok-all_translated-in-Product
+translated-returns-in_ok-all_translated-in-Product g t c =
+    let leaves = (g.L.Leaves.leaf_at c.args.leaves.now) in
+    becoming.product_becomes leaves c.args.expr.now c.in-Product.es c.in_ok-all_translated-in-Product.field-0
+    (subst (λ (z : List RawExpr). All_become_by leaves z c.in_ok-all_translated-in-Product.field-0.items)
+    c.deref-in-Product.ensures.value c.in_ok-all_translated-in-Product.ensures) c.in-Product.is
+
+pub translated-returns-in_ok-all_translated-in-Least : goal.translated-returns-in_ok-all_translated-in-Least
+translated-returns-in_ok-all_translated-in-Least g t c =
+    let leaves = (g.L.Leaves.leaf_at c.args.leaves.now) in
+    becoming.least_becomes leaves c.args.expr.now c.in-Least.es c.in_ok-all_translated-in-Least.field-0
+    (subst (λ (z : List RawExpr). All_become_by leaves z c.in_ok-all_translated-in-Least.field-0.items)
+    c.deref-in-Least.ensures.value c.in_ok-all_translated-in-Least.ensures) c.in-Least.is
+
+pub translated-returns-in_ok-all_translated-in-Greatest : goal.translated-returns-in_ok-all_translated-in-Greatest
+translated-returns-in_ok-all_translated-in-Greatest g t c =
+    let leaves = (g.L.Leaves.leaf_at c.args.leaves.now) in
+    becoming.greatest_becomes leaves c.args.expr.now c.in-Greatest.es c.in_ok-all_translated-in-Greatest.field-0
+    (subst (λ (z : List RawExpr). All_become_by leaves z c.in_ok-all_translated-in-Greatest.field-0.items)
+    c.deref-in-Greatest.ensures.value c.in_ok-all_translated-in-Greatest.ensures) c.in-Greatest.is
+
+pub translated-returns-in_ok-all_translated-in-Count : goal.translated-returns-in_ok-all_translated-in-Count
+translated-returns-in_ok-all_translated-in-Count g t c =
+    let leaves = (g.L.Leaves.leaf_at c.args.leaves.now) in
+    becoming.count_becomes leaves c.args.expr.now c.in-Count.es c.in_ok-all_translated-in-Count.field-0
+    (subst (λ (z : List RawExpr). All_become_by leaves z c.in_ok-all_translated-in-Count.field-0.items)
+    c.deref-in-Count.ensures.value c.in_ok-all_translated-in-Count.ensures) c.in-Count.is
+
+pub all_translated-loop-e-init : goal.all_translated-loop-e-init
+all_translated-loop-e-init g t c =
+    let leaves = (g.L.Leaves.leaf_at c.args.leaves.now) in
+    becoming.all_start leaves c.new-out.result.items c.new-out.ensures.items
+
+pub all_translated-loop-e-preserved : goal.all_translated-loop-e-preserved
+all_translated-loop-e-preserved g t c =
+    let leaves = (g.L.Leaves.leaf_at c.args.leaves.now) in
+    becoming.all_next leaves c.args.es.now c.loop-e.e-index c.e-item.result c.in_ok-next.next c.loop-e.out.items
+    c.push.new.self.items c.loop-e-test.true c.e-item.is c.loop-e.invariant c.in_ok-next.ensures
+    c.in_ok-push.ensures.items
+
+pub all_translated-returns : goal.all_translated-returns
+all_translated-returns g t c =
+    let leaves = (g.L.Leaves.leaf_at c.args.leaves.now) in
+    becoming.all_read leaves (All_become_by leaves) c.args.es.now c.loop-e.e-index c.loop-e.out.items
+    c.loop-e-test.false c.loop-e.invariant
+
+pub terms_translated-loop-plus-init : goal.terms_translated-loop-plus-init
+terms_translated-loop-plus-init g t c =
+    let leaves = (g.L.Leaves.leaf_at c.args.leaves.now) in
+    becoming.parts_start leaves c.new-out.result.items c.new-out.ensures.items
+
+pub terms_translated-loop-plus-preserved : goal.terms_translated-loop-plus-preserved
+terms_translated-loop-plus-preserved g t c =
+    let leaves = (g.L.Leaves.leaf_at c.args.leaves.now) in
+    becoming.parts_next leaves c.args.parts.now c.loop-plus.plus-index c.loop-plus-item.result c.in_ok-next.next
+    c.loop-plus.out.items c.push.new.self.items c.loop-plus-test.true c.loop-plus-item.is c.loop-plus.invariant
+    c.in_ok-next.ensures c.in_ok-push.ensures.items
+
+pub terms_translated-returns : goal.terms_translated-returns
+terms_translated-returns g t c =
+    let leaves = (g.L.Leaves.leaf_at c.args.leaves.now) in
+    becoming.all_read leaves (Parts_become_by leaves) c.args.parts.now c.loop-plus.plus-index c.loop-plus.out.items
+    c.loop-plus-test.false c.loop-plus.invariant
+
+pub cases_translated-loop-test-init : goal.cases_translated-loop-test-init
+cases_translated-loop-test-init g t c =
+    let leaves = (g.L.Leaves.leaf_at c.args.leaves.now) in
+    becoming.cases_start leaves c.new-out.result.items c.new-out.ensures.items
+
+pub cases_translated-loop-test-preserved : goal.cases_translated-loop-test-preserved
+cases_translated-loop-test-preserved g t c =
+    let leaves = (g.L.Leaves.leaf_at c.args.leaves.now) in
+    becoming.cases_next leaves c.args.choices.now c.loop-test.test-index c.loop-test-item.result c.in_ok-test.test
+    c.in_ok-value.value c.loop-test.out.items c.push.new.self.items c.loop-test-test.true c.loop-test-item.is
+    c.loop-test.invariant
+    c.in_ok-test.ensures c.in_ok-value.ensures c.in_ok-push.ensures.items
+
+pub cases_translated-returns : goal.cases_translated-returns
+cases_translated-returns g t c =
+    let leaves = (g.L.Leaves.leaf_at c.args.leaves.now) in
+    becoming.all_read leaves (Cases_become_by leaves) c.args.choices.now c.loop-test.test-index c.loop-test.out.items
+    c.loop-test-test.false c.loop-test.invariant

@@ -1,0 +1,102 @@
+//! The bound instructions that written ones become.
+
+ghost use Rattle.std.specs.Prelude.{◌≡◌, IfOk};
+ghost use Rattle.ar_syntax.specs.declared.instructions.Instr.{out-Instr};
+ghost use Rattle.ar_syntax.specs.declared.instructions.Instr.TheOpen.{Tie as TieForm};
+ghost use Rattle.written_forms.specs.Acting.{ActsAs, All_act, SetsTo, SetsBoth, IsConditional};
+
+use ar_base::{Memory, Place, VarId};
+use ar_syntax::{Instr, Path};
+use crate::{Leaf, Leaves, translated};
+use gts_core::Act;
+use std::alloc::Global;
+use typed_expr::Expr;
+
+/// The bound instruction that a written one becomes, where its paths stand for these variables and
+/// values.
+///
+/// A `:=:` becomes its two assignments, the one to its left path first. What assigns or ties a path
+/// that stands for a value becomes nothing. The error is want of memory.
+#[cycle(acts)]
+pub fn acted<L: Leaves>(alloc: Global, instr: &Instr, leaves: &L) -> Result<Act, Memory>
+    requires { L.is_sound leaves.now }
+    ensures { IfOk result (ActsAs (L.leaf_at leaves.now) (out-Instr instr.now)) }
+{
+    match instr {
+        Instr::Skip => Ok(Act::Skip),
+        Instr::Assign(path, value) => match leaves.leaf(path) {
+            Leaf::Constant(_) => Ok(Act::Skip),
+            Leaf::Variable(target) => {
+                let bound = translated(alloc, value, leaves)?;
+                Ok(Act::Set(target, bound, path.at))
+            }
+        },
+        Instr::Tie(left, right) => tied(alloc, left, right, leaves),
+        Instr::If(test, first, second) => {
+            let bound = translated(alloc, test, leaves)?;
+            let here = acted(alloc, first, leaves)?;
+            match second {
+                None => conditional(alloc, bound, here, Act::Skip),
+                Some(other) => {
+                    let there = acted(alloc, other, leaves)?;
+                    conditional(alloc, bound, here, there)
+                }
+            }
+        }
+        Instr::All(instrs) => Ok(Act::All(all_acted(alloc, instrs, leaves)?)),
+    }
+}
+
+// What several instructions become, one after the other.
+#[cycle(acts)]
+fn all_acted<L: Leaves>(alloc: Global, instrs: &[Instr], leaves: &L) -> Result<Vec<Act>, Memory>
+    requires { L.is_sound leaves.now }
+    ensures { IfOk result (λ v. All_act (L.leaf_at leaves.now) instrs.now v.items) }
+{
+    let mut out = Vec::new(alloc);
+    for instr in instrs {
+        let next = acted(alloc, instr, leaves)?;
+        out.push(next)?;
+    }
+    Ok(out)
+}
+
+// What a `:=:` becomes.
+fn tied<L: Leaves>(alloc: Global, left: &Path, right: &Path, leaves: &L) -> Result<Act, Memory>
+    requires { L.is_sound leaves.now }
+    ensures { IfOk result (ActsAs (L.leaf_at leaves.now) (TieForm left.now right.now)) }
+{
+    match leaves.leaf(left) {
+        Leaf::Constant(_) => Ok(Act::Skip),
+        Leaf::Variable(first) => match leaves.leaf(right) {
+            Leaf::Constant(_) => Ok(Act::Skip),
+            Leaf::Variable(second) => both(alloc, first, left.at, second, right.at),
+        },
+    }
+}
+
+// The two assignments of a `:=:`.
+fn both(alloc: Global, first: VarId, at: Place, second: VarId, other: Place) -> Result<Act, Memory>
+    ensures { IfOk result (SetsBoth first at second other) }
+{
+    let mut acts = Vec::new(alloc);
+    acts.push(set_to(first, at, second))?;
+    acts.push(set_to(second, other, first))?;
+    Ok(Act::All(acts))
+}
+
+// The assignment of a variable to another one.
+fn set_to(target: VarId, at: Place, value: VarId) -> Act
+    ensures { SetsTo target at value result }
+{
+    Act::Set(target, Expr::Variable(value), at)
+}
+
+// The conditional of a test and two branches.
+fn conditional(alloc: Global, test: Expr<VarId>, first: Act, second: Act) -> Result<Act, Memory>
+    ensures { IfOk result (IsConditional test first second) }
+{
+    let here = Box::new(alloc, first)?;
+    let there = Box::new(alloc, second)?;
+    Ok(Act::If(test, here, there))
+}

@@ -1,0 +1,35 @@
+//! What follows from the definitions of kinds and of what expressions become.
+
+ghost use Rattle.std.specs.Prelude.{◌≡◌, Option, Some};
+ghost use Rattle.ar_base.specs.Numbers.{VarId};
+ghost use Rattle.ar_base.specs.declared.places.Place.{Place};
+ghost use Rattle.ar_syntax.specs.declared.expressions.RawExpr.{RawExpr};
+ghost use Rattle.ar_syntax.specs.declared.paths.Path.{Path};
+ghost use Rattle.typed_expr.specs.Kinds.{HasKind};
+ghost use Rattle.typed_expr.specs.declared.expr.Expr.{Expr, out-Expr};
+ghost use Rattle.typed_expr.specs.declared.expr.ValueKind.{ValueKind};
+ghost use Rattle.written_forms.specs.Operands.{RawLevel, level_of, OfKind};
+ghost use Rattle.written_forms.specs.Forms.{HasForm};
+ghost use Rattle.written_forms.specs.Full.{IsFull};
+ghost use Rattle.written_forms.specs.Wrong.{Names, IsNamed, IsMisnamed, IsMistyped};
+ghost use Rattle.written_forms.specs.Translating.{leaf_level, BecomesBy};
+ghost use Rattle.written_forms.specs.declared.naming.Leaf.{Leaf};
+
+/// An expression has at most one kind by its form.
+pub fn one_kind()
+    ensures { (kinds : Path → Option ValueKind) (e : RawLevel) (j k : ValueKind)
+        → HasForm (Names kinds) e j
+        → HasForm (Names kinds) e k → j ≡ k }
+{}
+
+/// An expression without empty lists of operands, in which each path names something and nothing
+/// has a wrong kind where this kind is wanted of the whole, becomes an expression of that kind,
+/// where what stands for a path has its kind.
+pub fn right_expressions()
+    ensures { (kinds : Path → Option ValueKind) (leaves : Path → Leaf) (sorts : VarId → ValueKind)
+        → ((p : Path) (k : ValueKind) → kinds p ≡ Some k → HasKind sorts (leaf_level (leaves p)) k)
+        → (e : RawExpr) (f : Expr VarId) (k : ValueKind) → IsFull (level_of e)
+        → ((at : Place) → IsMisnamed (IsNamed kinds) (level_of e) at → ⊥)
+        → ((at : Place) → IsMistyped (Names kinds) (OfKind k) e at → ⊥) → BecomesBy leaves e f
+        → HasKind sorts (out-Expr VarId f) k }
+{}

@@ -1,4 +1,5 @@
 """The usual cause of a syntax refusal, said of what stands at its place. Not proved."""
+from grammar import COMPARISONS
 from tokens import RESERVED
 
 VALUE = ("(", "-", "count", "false", "main", "max", "min", "name", "owner", "real", "switch", "true", "whole")
@@ -104,6 +105,10 @@ def _of_semicolon(fault):
 def _of_declaration(fault):
     at, before = fault.at, fault.before
     form = fault.open[-1][0] if fault.open else ""
+    if at.kind == "-" and before.kind == "name" and adjacent(before, at):
+        return "a name has letters, digits and `_`: `-` is no part of it"
+    if at.kind == "." and before.kind == "whole" and fault.wanted == {","}:
+        return "the ends of a range have a comma between them, as `domain N [0, 3]`"
     if before.kind in ("owner", "main") and "." in fault.wanted:
         return "a path ends with a name: `%s` alone names nothing, as in `%s.NAME`" % (before.kind, before.kind)
     if at.kind == "(" and ";" in fault.wanted and "(" not in fault.wanted:
@@ -154,6 +159,10 @@ def _of_section(fault, after):
         return "no `;` follows the `}` of a list of instructions: each instruction in it ends with its own `;`"
     if at.kind == "=" and ":=" in fault.wanted:
         return "an assignment is written `:=`; `=` is for declarations alone"
+    if at.kind == "." and form == "transition of an event" and ":" in fault.wanted:
+        return "a transition names an event of its own unit, without a path: it is written in the unit that declares the event"
+    if at.kind == ":=" and form == "transition of an event" and ":" in fault.wanted:
+        return "the assignments of one transition are in braces, as `e: GUARD -> { a := 1; b := 2; }`"
     if at.kind == "(" and form == "transition of an event" and ":" in fault.wanted:
         return "the attributes of an event are written where it is declared, as `event e (delay = ..);`"
     return None
@@ -166,6 +175,8 @@ def _of_expression(fault, after):
     if "else" in fault.wanted and "and" in fault.wanted and at.kind in (";", "end", ")", "}", ","):
         return "an `if` in an expression has an `else`, so that it always has a value"
     if "and" in fault.wanted:
+        if at.kind in COMPARISONS:
+            return "a comparison has two sides: two comparisons are joined by `and`, as `0 < n and n < 3`"
         if at.kind == "=":
             if after is not None and after.kind == ">" and adjacent(at, after):
                 return "there is no `=>`: it is written `not a or b`"

@@ -26,12 +26,11 @@ use check_text::print_check;
 use cut_check::{Verdict, verdicts};
 use cut_text::PrintFault;
 use cut_text::laws::edges_of_forests;
-use table_laws::drawn_sets;
 use gate_diagrams::{Drawn, Family};
 use gts_core::laws::lawful_systems;
 use min_cuts::Lister;
 use std::alloc::Global;
-use table_laws::table_agrees;
+use table_laws::{drawn_sets, table_agrees};
 use zdd_nodes::{room_for_families, stored_sections};
 
 /// Writes what is to be said of each line of the list, and the cuts that it lacks.

@@ -23,13 +23,12 @@ use cut_text::laws::{
     conflicts_of_the_source, cuts_of_the_source, edges_of_forests, lines_of_the_source_replay,
 };
 use cut_text::{PrintFault, print_conflict, print_cuts};
-use table_laws::drawn_sets;
 use gate_diagrams::{Drawn, Family, diagrams};
 use gts_core::laws::lawful_systems;
 use min_cuts::{Lister, counts};
 use run_words::Verb;
 use std::alloc::Global;
-use table_laws::{ordered_table, table_agrees};
+use table_laws::{drawn_sets, ordered_table, table_agrees};
 use zdd_nodes::{NodeFault, room_for_families, stored_sections};
 
 /// Writes the cuts, or what the command tells of them; or the first conflict where there is one; or

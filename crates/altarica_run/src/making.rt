@@ -18,12 +18,12 @@ use crate::stages::Prepared;
 use crate::status::Status;
 use ar_io::{Sink, SinkFailed};
 use cut_text::PrintFault;
-use table_laws::drawn_sets;
 use gate_diagrams::{Drawn, Family};
 use gts_core::GtsParts;
 use gts_core::laws::lawful_systems;
 use min_cuts::{Counted, counts};
 use std::alloc::Global;
+use table_laws::drawn_sets;
 use zdd_nodes::{room_for_families, stored_sections};
 
 /// Writes how large the made model is, how many cuts it has, and how large the largest is.

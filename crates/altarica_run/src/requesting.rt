@@ -15,10 +15,9 @@ use crate::stops::Stop;
 use crate::tabling::wanted_of;
 use ar_base::{Count, EventId, Text};
 use gts_core::Chain;
+use job_inputs::{Command, ScriptFault, Wanted, observer_named, read_cuts, read_script};
 use run_words::{Job, Verb};
-use job_inputs::{Command, ScriptFault, read_cuts, read_script};
 use std::alloc::Global;
-use job_inputs::{Wanted, observer_named};
 
 /// What the words, the script, the list and the command ask of a system.
 #[derive(Drop)]

@@ -15,13 +15,13 @@ use crate::stages::Prepared;
 use crate::status::Status;
 use ar_io::Sink;
 use cut_text::PrintFault;
-use table_laws::drawn_sets;
 use gate_diagrams::{Drawn, Family};
 use gate_modules::shorten;
 use gts_core::laws::lawful_systems;
 use module_text::laws::modules_of_the_source;
 use module_text::print_modules;
 use std::alloc::Global;
+use table_laws::drawn_sets;
 use zdd_nodes::{room_for_families, stored_sections};
 
 /// Writes the modules of the cuts, and the cuts in short.

@@ -3,11 +3,9 @@
 use crate::refusals::Refusal;
 use ar_base::{Count, Memory, RuleFault};
 use ar_parser::ParseFault;
-use job_inputs::ListFault;
+use job_inputs::{ListFault, ScriptFault, WantedFault};
 use run_words::JobFault;
-use job_inputs::ScriptFault;
 use tree_equations::EqFault;
-use job_inputs::WantedFault;
 
 /// A refusal, or want of memory.
 #[derive(Drop)]

@@ -13,12 +13,12 @@ use crate::stops::Stop;
 use ar_base::Text;
 use eq_core::{Equations, Operand};
 use gts_core::Gts;
+use job_inputs::{Wanted, read_wanted};
 use mode_trees::Forest;
 use std::alloc::Global;
 use table_text::event_texts;
 use table_text::laws::tables_of_the_source;
 use tree_equations::equations;
-use job_inputs::{Wanted, read_wanted};
 
 /// The gate table of a system, and what its events are called.
 #[derive(Drop)]

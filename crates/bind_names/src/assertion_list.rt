@@ -17,9 +17,8 @@ ghost use Rattle.bind_names.specs.ListBound.{AreBoundAssertions};
 
 use ar_base::{BodyId, Memory, UnitId};
 use ar_syntax::{Instr, Member};
-use bind_values::assertion;
 use bind_scopes::Scopes;
-use bind_values::Values;
+use bind_values::{Values, assertion};
 use class_table::{Body, Owned};
 use gts_core::Act;
 use hierarchy::UnitNode;

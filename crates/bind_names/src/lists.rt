@@ -7,11 +7,11 @@ ghost use Rattle.bind_scopes.specs.Scopes.{HasScopes};
 ghost use Rattle.bind_values.specs.Settled.{AreSettled};
 ghost use Rattle.bind_names.specs.Whole.{IsBoundOf};
 
+use crate::{
+    assertions, event_paths, events, observers, prefixes, symbol_texts, unit_paths, variables,
+};
 use ar_base::Memory;
-use crate::events;
-use crate::{assertions, observers, variables};
 use bind_scopes::Scopes;
-use crate::{event_paths, prefixes, symbol_texts, unit_paths};
 use bind_values::Values;
 use source_meaning::Bound;
 use std::alloc::Global;

@@ -11,12 +11,11 @@ ghost use Rattle.bind_scopes.specs.Scopes.{HasScopes};
 ghost use Rattle.bind_values.specs.Settled.{AreSettled};
 ghost use Rattle.bind_names.specs.ListBound.{IsBoundObserver};
 
+use crate::thing_path;
 use ar_base::{Memory, Text};
-use bind_values::expression;
 use bind_rules::observed_at;
 use bind_scopes::Scopes;
-use crate::thing_path;
-use bind_values::Values;
+use bind_values::{Values, expression};
 use gts_core::Observer;
 use hierarchy::MemNode;
 use std::alloc::Global;

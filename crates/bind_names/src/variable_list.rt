@@ -9,8 +9,8 @@ ghost use Rattle.hierarchy.specs.Units.{UnitPath, Thing};
 ghost use Rattle.bind_values.specs.Values.{AreValues, IsValue};
 ghost use Rattle.bind_names.specs.ListBound.{AreBoundVariables, IsBoundVariable, IsSoundVariable};
 
-use ar_base::{Memory, Text};
 use crate::thing_path;
+use ar_base::{Memory, Text};
 use bind_values::Values;
 use domains::Value;
 use gts_core::{Variable, copy_domain};

@@ -17,9 +17,8 @@ ghost use Rattle.bind_names.specs.Gathering.{NamesEvent};
 
 use ar_base::{EventId, Memory, NameId, UnitId};
 use ar_syntax::{Instr, Member, Part, RawExpr};
-use bind_values::{action as bind_action, expression};
 use bind_scopes::Scopes;
-use bind_values::Values;
+use bind_values::{Values, action as bind_action, expression};
 use gts_core::DeclaredWay;
 use std::alloc::Global;
 

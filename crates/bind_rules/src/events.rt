@@ -13,8 +13,8 @@ ghost use Rattle.bind_rules.specs.Breaking.{IsNoEvent, HasNoEvent, IsNoOwnEvent,
 use crate::rules::Rule;
 use ar_base::{NameId, Place, UnitId};
 use ar_syntax::{Member, Part, Path, PathStart};
-use written_forms::earlier;
 use bind_scopes::Scopes;
+use written_forms::earlier;
 
 // The place of the path, where it names no event.
 fn no_event(scopes: &Scopes<'_>, unit: UnitId, path: &Path) -> Option<Place>

@@ -17,10 +17,11 @@ ghost use Rattle.bind_rules.specs.Breaking.{BreaksExpression, BreaksAction, Brea
 use crate::rules::Rule;
 use ar_base::{Place, UnitId};
 use ar_syntax::{Instr, RawExpr};
-use written_forms::{first_misnamed, first_mistyped};
-use written_forms::{ActionRule, AssertionRule, KindRule, NameRule, first_breach};
 use bind_scopes::{Scope, Scopes, Sort, UnitNames};
 use typed_expr::ValueKind;
+use written_forms::{
+    ActionRule, AssertionRule, KindRule, NameRule, first_breach, first_misnamed, first_mistyped,
+};
 
 /// The earliest place at which an expression of this scope in a unit, of which a kind is wanted,
 /// breaks the rule; none where there is no such unit.

@@ -19,12 +19,12 @@ use crate::expressions::{in_action, in_assertion, in_expression};
 use crate::rules::Rule;
 use ar_base::{BodyId, Place, UnitId};
 use ar_syntax::Member;
-use written_forms::earlier;
 use bind_scopes::{Scope, Scopes};
 use class_table::Owned;
 use hierarchy::UnitNode;
 use typed_expr::ValueKind;
 use unit_rules::owned_at;
+use written_forms::earlier;
 
 // The earliest place at which the member breaks the rule.
 fn in_member<'a>(scopes: &'a Scopes<'a>, rule: Rule, unit: UnitId, member: &Member) -> Option<Place>

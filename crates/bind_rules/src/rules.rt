@@ -11,8 +11,8 @@ ghost use Rattle.bind_rules.specs.Breaking.{BreaksTree};
 use crate::members::in_units;
 use crate::values::{in_observers, in_parameters, in_variables};
 use ar_base::Place;
-use written_forms::earlier;
 use bind_scopes::Scopes;
+use written_forms::earlier;
 
 /// A rule that is tested in a whole tree.
 #[derive(Clone, Copy)]

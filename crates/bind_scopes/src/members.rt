@@ -15,8 +15,7 @@ use ar_syntax::{Member, TypeForm};
 use class_table::{Body, Classes, Owned, TypeBody};
 use std::alloc::Global;
 use std::collections::HashSet;
-use unit_rules::owned_at;
-use unit_rules::TypePlaces;
+use unit_rules::{TypePlaces, owned_at};
 
 /// Names by the numbers of bodies.
 pub(crate) type Names = HashSet<(u32, u32)>;

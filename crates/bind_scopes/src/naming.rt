@@ -9,10 +9,9 @@ use crate::scopes::{Named, Scope, Scopes};
 use crate::sites::is_flow_at;
 use ar_base::UnitId;
 use ar_syntax::Path;
-use written_forms::Naming;
-use written_forms::Targets;
 use hierarchy::{Tree, VarNode};
 use typed_expr::ValueKind;
+use written_forms::{Naming, Targets};
 
 /// Which variables are told from the others.
 #[derive(Clone, Copy)]

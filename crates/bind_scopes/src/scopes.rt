@@ -15,6 +15,7 @@ ghost use Rattle.hierarchy.specs.Tie.{IsTreeOf, AnswersThing};
 ghost use Rattle.bind_scopes.specs.Scopes.{AreScopes, HasScopes, IsNamedIn, IsScope, named_in, scoped_in, allowed as allowed_in, name_in, first_named, symbol_by, is_read_in};
 ghost use Rattle.bind_scopes.specs.Searching.{parameter_in};
 
+use crate::Index;
 use crate::kinds::kind_of_domain;
 use crate::members::{Names, names_of_members};
 use crate::sites::is_read;
@@ -25,7 +26,6 @@ use hierarchy::Tree;
 use std::alloc::Global;
 use std::collections::HashMap;
 use typed_expr::ValueKind;
-use crate::Index;
 use unit_rules::TypePlaces;
 
 /// What a path in an expression names.

@@ -24,13 +24,13 @@ ghost use Rattle.bind_values.specs.Values.{AreNamesKept, IsValue, IsParameterVal
 use crate::leaves::UnitLeaves;
 use ar_base::{Memory, VarId};
 use ar_syntax::RawExpr;
-use written_forms::translated;
 use bind_scopes::{Scopes, is_same_value, written};
 use domains::Value;
 use hierarchy::{Attribute, ParNode};
 use std::alloc::Global;
 use std::collections::HashMap;
 use typed_expr::{Env, ValueKind, eval_total};
+use written_forms::translated;
 
 // The values that were computed, each with what it is the value of.
 type Known = HashMap<(u32, u32), (Attribute, Value)>;

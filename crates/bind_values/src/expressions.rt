@@ -12,13 +12,13 @@ ghost use Rattle.bind_values.specs.Settled.{AreSettled};
 ghost use Rattle.bind_values.specs.Typed.{IsTypedIn};
 
 use crate::full::is_full;
+use crate::{UnitLeaves, Values};
 use ar_base::{Memory, UnitId, VarId};
 use ar_syntax::RawExpr;
-use written_forms::translated;
 use bind_scopes::Scopes;
-use crate::{UnitLeaves, Values};
 use std::alloc::Global;
 use typed_expr::Expr;
+use written_forms::translated;
 
 /// The expression that a guard or the value of an observer of this unit becomes: variables by their
 /// numbers, and the values of parameters and symbols. The error is want of memory.

@@ -18,13 +18,13 @@ ghost use Rattle.bind_values.specs.Settled.{AreSettled};
 ghost use Rattle.bind_values.specs.Typed.{IsSoundIn};
 
 use crate::full::has_full;
+use crate::{UnitLeaves, Values};
 use ar_base::{Memory, UnitId};
 use ar_syntax::Instr;
-use written_forms::acted;
 use bind_scopes::Scopes;
-use crate::{UnitLeaves, Values};
 use gts_core::Act;
 use std::alloc::Global;
+use written_forms::acted;
 
 /// The instruction that the action of a transition of this unit becomes. The error is want of
 /// memory.

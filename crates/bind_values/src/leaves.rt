@@ -6,9 +6,9 @@ ghost use Rattle.bind_values.specs.Leaves.{leaf_of, leaf_in, IsInTree};
 
 use ar_base::UnitId;
 use ar_syntax::Path;
-use written_forms::{Leaf, Leaves};
 use bind_scopes::{Named, Scopes};
 use domains::Value;
+use written_forms::{Leaf, Leaves};
 
 /// What paths stand for in the expressions of a unit: variables by their numbers, and the values of
 /// parameters and symbols.

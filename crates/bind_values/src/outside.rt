@@ -14,10 +14,10 @@ ghost use Rattle.bind_values.specs.Values.{IsValue, IsParameterValue, IsDomainAt
 
 use crate::leaves::known;
 use ar_base::Place;
-use written_forms::earlier;
 use bind_scopes::{Scopes, written};
 use domains::{Domain, Value};
 use hierarchy::{Attribute, ParNode, VarNode};
+use written_forms::earlier;
 
 // Whether the domain has the value.
 fn holds(domain: &Domain, value: Value) -> bool

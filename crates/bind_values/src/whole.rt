@@ -16,10 +16,10 @@ ghost use Rattle.bind_values.specs.declared.leaves.UnitLeaves.{UnitLeaves};
 use crate::computing::{parameter_values, variable_values};
 use crate::outside::{outside_parameters, outside_variables};
 use ar_base::{Memory, Place};
-use written_forms::earlier;
 use bind_scopes::Scopes;
 use domains::Value;
 use std::alloc::Global;
+use written_forms::earlier;
 
 /// The values of a tree, which hold before anything happens.
 #[derive(Drop)]

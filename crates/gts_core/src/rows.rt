@@ -7,9 +7,9 @@ ghost use Rattle.domains.specs.declared.Value.TheVariants.{Truth, Whole, Symbol}
 ghost use Rattle.gts_core.specs.Sound.{IsSound};
 ghost use Rattle.gts_core.specs.Rows.{AreDomains};
 
+use crate::GtsParts;
 use ar_base::{Memory, VarId};
 use domains::{Domain, Value};
-use crate::GtsParts;
 use std::alloc::Global;
 use typed_expr::{Env, ValueKind};
 

@@ -5,12 +5,12 @@ ghost use Rattle.hierarchy.specs.Listing.{Unfolded};
 ghost use Rattle.hierarchy.specs.Tie.{IsTreeOf};
 ghost use Rattle.instantiate.specs.Settled.{IsSettled};
 
+use crate::{events, observers, parameters, variables};
 use ar_base::Memory;
 use class_table::Classes;
 use hierarchy::{Outline, Tree};
 use std::alloc::Global;
 use unit_rules::name_units;
-use crate::{events, observers, parameters, variables};
 use unit_walks::Walks;
 
 /// The units of a main block, with what their names lead to.

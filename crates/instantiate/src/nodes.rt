@@ -19,8 +19,7 @@ use ar_syntax::{Member, TypeForm};
 use class_table::{Classes, Owned};
 use hierarchy::{MemNode, Outline, Source};
 use std::alloc::Global;
-use unit_rules::owned_at;
-use unit_rules::TypePlaces;
+use unit_rules::{TypePlaces, owned_at};
 
 /// Which things are listed.
 #[derive(Clone, Copy)]

@@ -25,8 +25,7 @@ use class_table::{Classes, Owned};
 use domains::Domain;
 use hierarchy::{Attribute, MemNode, Outline, ParNode};
 use std::alloc::Global;
-use unit_rules::owned_at;
-use unit_rules::TypePlaces;
+use unit_rules::{TypePlaces, owned_at};
 
 // The type of a member that is a parameter; a parameter Real has none.
 fn type_of(owned: &Owned) -> Option<Option<TypeForm>>

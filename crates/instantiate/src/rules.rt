@@ -12,9 +12,7 @@ use ar_base::{Place, RuleFault};
 use class_table::Classes;
 use hierarchy::Outline;
 use std::alloc::Global;
-use unit_rules::{first_looping, first_lost};
-use unit_rules::first_wrong_declaration;
-use unit_rules::first_wrong_setting;
+use unit_rules::{first_looping, first_lost, first_wrong_declaration, first_wrong_setting};
 use unit_walks::Walks;
 
 // The rule is refused where it is broken somewhere.

@@ -22,8 +22,7 @@ use ar_syntax::Word;
 use class_table::Classes;
 use hierarchy::{MemNode, Outline, VarNode};
 use std::alloc::Global;
-use unit_rules::{is_state, owned_at};
-use unit_rules::TypePlaces;
+use unit_rules::{TypePlaces, is_state, owned_at};
 
 // The last word of the target of a state variable or a flow.
 fn last_word(is_state: bool) -> Word

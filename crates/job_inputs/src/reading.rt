@@ -4,10 +4,10 @@ ghost use Rattle.gts_flatten.specs.Elaborating.{Elaborated};
 ghost use Rattle.job_inputs.specs.Flat.{IsOfTree};
 ghost use Rattle.job_inputs.specs.Naming.{AnswersEvents};
 
+use crate::{event_named, first_piece};
 use ar_base::{EventId, Memory};
 use gts_core::Gts;
 use hierarchy::Tree;
-use crate::{event_named, first_piece};
 use std::alloc::{AllocFailed, Global};
 
 /// Why a list gives no events.

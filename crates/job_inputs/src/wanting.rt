@@ -5,12 +5,12 @@ ghost use Rattle.gts_flatten.specs.Elaborating.{Elaborated};
 ghost use Rattle.job_inputs.specs.Flat.{IsOfTree};
 ghost use Rattle.job_inputs.specs.Answers.{AnswersObserver, AnswersWanted};
 
+use crate::names_of;
 use crate::values::value_of;
 use ar_base::{Memory, Text, UnitId};
 use domains::Value;
 use gts_core::Gts;
 use hierarchy::{First, Tree, observer_at};
-use crate::names_of;
 use std::alloc::Global;
 
 /// An observer, and a value of its type.

@@ -32,11 +32,11 @@ ghost use Rattle.job_laws.specs.Definite.{IsDefinite, SaysOf, AgreeButNodes};
 ghost use Rattle.job_laws.specs.Findings.{AreModulesOf, IsConflictOf};
 ghost use Rattle.job_laws.specs.Readings.{SameAnswer};
 
-use unit_laws::laws::{texts_are_seen_alike, texts_break_the_same_rules};
 use altarica_run::laws::{one_job, one_loading};
-use parser_laws::readings::{one_tree, trees_keep};
-use module_text::laws::combinations_are_cuts;
 use job_inputs::laws::one_list;
+use module_text::laws::combinations_are_cuts;
+use parser_laws::readings::{one_tree, trees_keep};
+use unit_laws::laws::{texts_are_seen_alike, texts_break_the_same_rules};
 
 /// A text has a reading or is refused, never both: two readings of it agree, and it is refused for one
 /// cause, at one place.

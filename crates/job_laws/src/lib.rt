@@ -7,4 +7,3 @@
 pub mod answer_laws;
 pub mod flat_laws;
 pub mod word_laws;
-

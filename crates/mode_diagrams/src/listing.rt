@@ -7,9 +7,9 @@ ghost use Rattle.mode_diagrams.specs.Trees.{AreNumbered};
 ghost use Rattle.mode_diagrams.specs.Sets.{AreSmall, Extends, HasSets, IsTrueFrom, IsUnitWhere};
 ghost use Rattle.mode_diagrams.specs.Kept.{AreHeld};
 
+use crate::NumberedTree;
 use crate::held::{Held, State};
 use crate::paths::with_path;
-use crate::NumberedTree;
 use mode_nodes::{DiagramId, Diagrams};
 use std::alloc::Global;
 use zdd_nodes::{NodeFault, NodeId, Store};

@@ -5,9 +5,9 @@ ghost use Rattle.std.specs.List.{All};
 ghost use Rattle.mode_trees.specs.Views.{tree_of};
 ghost use Rattle.mode_diagrams.specs.Numbers.{AreNumbersOf, HasFewEdges, IsNumberOf, IsModeNumber};
 
+use crate::{NumberedEdge, NumberedTree};
 use ar_base::Memory;
 use domains::Value;
-use crate::{NumberedEdge, NumberedTree};
 use mode_trees::ModeTree;
 use std::alloc::Global;
 

@@ -5,8 +5,8 @@ ghost use Rattle.zdd_nodes.specs.Nodes.{family, IsNumber};
 ghost use Rattle.mode_diagrams.specs.Trees.{edges_of, IsNumbered};
 ghost use Rattle.mode_diagrams.specs.Sets.{Extends, HasWith, HasPath};
 
-use ar_base::EventId;
 use crate::NumberedTree;
+use ar_base::EventId;
 use zdd_nodes::{NodeFault, NodeId};
 use zdd_ops::Ops;
 

@@ -10,9 +10,9 @@ ghost use Rattle.gts_core.specs.Sound.{IsSound};
 ghost use Rattle.mode_search.specs.Events.{IsLeast, AreFirstStates};
 ghost use Rattle.mode_search.specs.Kept.{IsKeptOf, IsNoKept, AreKept, Continues, Extends, OtherInGuard, OtherInAction, items_of, least_with};
 
+use crate::{WayMode, way_mode};
 use ar_base::{EventId, Memory, VarId, WayId};
 use gts_core::{Event, GtsParts, WayBody};
-use crate::{WayMode, way_mode};
 use std::alloc::Global;
 
 /// A way of an event that is not dropped.

@@ -3,8 +3,8 @@
 ghost use Rattle.std.specs.Prelude.{◌≡◌, ◌<◌, ◌++◌, ◌^◌, length, map, IfOk};
 ghost use Rattle.mode_search.specs.Live.{AreEdgesApart, AreLive, live_at};
 
-use ar_base::{Memory, VarId};
 use crate::Reach;
+use ar_base::{Memory, VarId};
 use mode_trees::Edge;
 use std::alloc::Global;
 

@@ -6,10 +6,9 @@ ghost use Rattle.mode_search.specs.Events.{IsLeast};
 ghost use Rattle.mode_search.specs.Reaches.{AreListed, AreReaches, IsWrongAt, IsAgainAt};
 
 use crate::rows::rows;
+use crate::{KeptWay, Reach, reached};
 use ar_base::{Memory, VarId};
 use gts_core::GtsParts;
-use crate::KeptWay;
-use crate::{Reach, reached};
 use std::alloc::Global;
 
 /// What each variable reaches from its initial value along the edges of the visible ones of these ways of which it is the

@@ -3,8 +3,8 @@
 ghost use Rattle.std.specs.Prelude.{◌≡◌, ◌<◌, [], length, IfOk};
 ghost use Rattle.mode_search.specs.Rows.{AreRows, AreBelow, Puts};
 
-use ar_base::Memory;
 use crate::KeptWay;
+use ar_base::Memory;
 use std::alloc::Global;
 
 // For each variable the visible ways of which it is the mode variable, in order.

@@ -13,8 +13,7 @@ ghost use Rattle.mode_search.specs.Wide.{IsSomeWide, IsWideFlow, IsWideObserver,
 ghost use Rattle.ar_base.specs.Least.{least_with};
 
 use ar_base::{Memory, VarId};
-use gts_core::{Domains, domains_of};
-use gts_core::{Assign, GtsParts};
+use gts_core::{Assign, Domains, GtsParts, domains_of};
 use std::alloc::Global;
 use typed_expr::{Expr, possible_values};
 

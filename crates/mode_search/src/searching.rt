@@ -6,12 +6,11 @@ ghost use Rattle.domains.specs.Domains.{IsDomain, values_of};
 ghost use Rattle.gts_core.specs.Sound.{IsSound};
 ghost use Rattle.mode_search.specs.Reached.{AreInside, AreApart, IsMoveOf, IsReach, IsStart, Expands, AddsMove, AddsEdge};
 
+use crate::{KeptWay, Move, move_at};
 use ar_base::{EventId, Memory, VarId, WayId};
 use domains::{Domain, Value};
 use gts_core::{GtsParts, WayBody};
-use crate::KeptWay;
 use mode_trees::Edge;
-use crate::{Move, move_at};
 use std::alloc::Global;
 
 /// What a variable reaches.

@@ -7,9 +7,9 @@ ghost use Rattle.mode_trees.specs.declared.forests.Edge.{Edge};
 ghost use Rattle.mode_trees.specs.Below.{IsBelow};
 ghost use Rattle.mode_trees.specs.Paths.{IsWithin, Leaves, IsNextOrNone, earlier_of, GetsBelow};
 
+use crate::Edge;
 use ar_base::Memory;
 use domains::Value;
-use crate::Edge;
 use std::alloc::Global;
 
 /// The edges of this list below the first mode, each before those below the mode that it enters, those that leave

@@ -2,10 +2,10 @@
 //! item, a member a line. Behind it stand texts, each with its answer: how many items it has, or where it is refused.
 //! What it must print was written by hand from the texts and the grammar.
 
-use ar_parser::{ParseFault, parse};
-use ar_syntax::{Item, Model, Unit};
 use crate::reading_texts::print_cases;
 use crate::shown::{show_domain, show_member, show_name, show_place};
+use ar_parser::{ParseFault, parse};
+use ar_syntax::{Item, Model, Unit};
 use std::{fs, io};
 
 /// The room for the text, in bytes.

@@ -1,13 +1,13 @@
 //! Worked examples of the table of a model's bodies: for each text its table, or the rule that it breaks and where.
 //! What it must print was written by hand from the rules.
 
+use crate::table_texts::CASES;
 use ar_base::{NameId, RuleFault};
 use ar_parser::parse;
 use class_table::{Body, Classes, Owned, TypeBody, table};
 use domains::Domain;
 use std::alloc::AllocError;
 use std::io;
-use crate::table_texts::CASES;
 
 /// The room for a text, in bytes.
 const ROOM: usize = 65_536;

@@ -1,14 +1,16 @@
 //! Worked examples of the tree of units: for each text its tree, the limit that it passes, or the rule that it breaks and
 //! where. What it must print was written by hand from the rules.
 
+use crate::made::{
+    blocks_inside, classes_of, clones_twice, empty_units, twice_each, wide_observers,
+};
+use crate::tree_texts::CASES;
 use ar_base::{Count, NameId, RuleFault, UnitId};
 use ar_parser::parse;
 use class_table::table;
 use hierarchy::{Attribute, MemNode, ParNode, Source, Tree, UnitNode, VarNode};
 use instantiate::instantiate;
-use crate::made::{blocks_inside, classes_of, clones_twice, empty_units, twice_each, wide_observers};
 use std::io;
-use crate::tree_texts::CASES;
 
 /// The room for a text, in bytes.
 const ROOM: usize = 1_048_576;

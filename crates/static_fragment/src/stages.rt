@@ -14,13 +14,11 @@ use crate::showing::{at_event, at_unit, at_variable, at_whole, at_wide};
 use ar_base::{EventId, VarId};
 use gts_core::GtsParts;
 use mode_search::{
-    KeptWay, first_joint, first_stateless, first_states, kept_ways, least_action, least_guard,
-    marked, moving_units,
+    KeptWay, Reach, Sharing, all_reached, first_joint, first_stateless, first_states, first_wide,
+    kept_ways, least_action, least_again, least_guard, least_wrong, live_edges, marked,
+    moving_units, shared,
 };
-use mode_search::{Sharing, all_reached, least_again, least_wrong, live_edges, shared};
-use mode_search::Reach;
 use std::alloc::Global;
-use mode_search::first_wide;
 
 // What is read of the units.
 #[derive(Drop)]

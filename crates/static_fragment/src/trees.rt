@@ -11,8 +11,7 @@ ghost use Rattle.static_fragment.specs.Trees.{AreTreesBelow, HasTree, GetsTree};
 use ar_base::{Memory, VarId};
 use gts_core::{GtsParts, Variable};
 use mode_search::Reach;
-use mode_trees::{Forest, ModeTree};
-use mode_trees::edges_below;
+use mode_trees::{Forest, ModeTree, edges_below};
 use std::alloc::Global;
 
 // The trees of the state variables of units that move, by number.

@@ -24,8 +24,7 @@ use flow_changes::{Present, make_present, propagate_from, restore};
 use flow_propagate::{Plan, PropagateFault};
 use gts_core::{Gts, GtsParts, Valuation};
 use std::alloc::Global;
-use way_flags::{ReceiveFault, received};
-use way_flags::{WayIndex, is_set, renew};
+use way_flags::{ReceiveFault, WayIndex, is_set, received, renew};
 
 /// What the state variables receive where a way is fired, or the fault of the way or of what they receive.
 pub(crate) fn next_values(

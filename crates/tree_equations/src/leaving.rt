@@ -14,9 +14,8 @@ ghost use Rattle.tree_equations.specs.Leaving.{MayGiveOutside};
 
 use crate::index::Index;
 use ar_base::Memory;
-use gts_core::{Domains, domains_of};
 use domains::{Domain, Value};
-use gts_core::{Assign, GtsParts, Variable};
+use gts_core::{Assign, Domains, GtsParts, Variable, domains_of};
 use std::alloc::Global;
 use typed_expr::eval_set;
 

@@ -11,8 +11,8 @@ ghost use Rattle.class_table.specs.Rules.{Breaks};
 ghost use Rattle.hierarchy.specs.Models.{RootedModel, IsRootedIn};
 ghost use Rattle.unit_laws.specs.Tables.{AreSeenAlike, SameTable};
 
-use parser_laws::readings::{agreement_opens, one_tree};
 use class_table::{one_declared, one_list_of_members};
+use parser_laws::readings::{agreement_opens, one_tree};
 
 /// Models that agree declare tables that agree: the same bodies with members that agree, the same types,
 /// symbols and top-level blocks, all in one order.

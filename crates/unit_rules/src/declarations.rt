@@ -16,13 +16,13 @@ ghost use Rattle.unit_rules.specs.Typing.{KnowsPlaces};
 ghost use Rattle.unit_rules.specs.Rules.{BreaksDeclaration};
 ghost use Rattle.unit_rules.specs.Searched.{BreaksOne, forms_of, IsFirstIn};
 
+use crate::TypePlaces;
 use ar_base::{BodyId, Memory, Place};
 use ar_syntax::{Member, Setting, Word};
 use class_table::earliest::earliest;
 use class_table::{Body, Classes, Owned};
 use hierarchy::Outline;
 use std::alloc::Global;
-use crate::TypePlaces;
 
 /// Whether these are the settings of a state variable: one, called `init`.
 pub fn is_state(settings: &[Setting]) -> bool

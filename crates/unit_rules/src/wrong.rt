@@ -14,6 +14,7 @@ ghost use Rattle.unit_walks.specs.Settling.{AreOutcomes};
 ghost use Rattle.unit_rules.specs.Settables.{AreSettables};
 ghost use Rattle.unit_rules.specs.Wrong.{IsSetBefore, BreaksAt, BreaksIn, BreaksUnit};
 
+use crate::owned_at;
 use crate::repeats::Targets;
 use crate::settables::Settables;
 use crate::targets::is_target;
@@ -23,7 +24,6 @@ use class_table::earliest::earliest;
 use class_table::{Classes, Owned};
 use hierarchy::Outline;
 use std::alloc::Global;
-use crate::owned_at;
 use unit_walks::Walks;
 
 // The settings of a member: those of a declaration, else none.

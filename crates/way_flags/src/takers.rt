@@ -7,11 +7,11 @@ ghost use Rattle.gts_core.specs.Sound.{IsSound};
 ghost use Rattle.way_flags.specs.Taking.{AreTakers, takes_part};
 ghost use Rattle.way_flags.specs.Meeting.{AreMet, IsAlone, IsIn, Meets, MeetsParts};
 
+use crate::is_set;
 use ar_base::{Memory, WayId};
 use gts_core::{GtsParts, WayBody};
 use std::alloc::Global;
 use std::collections::BTreeSet;
-use crate::is_set;
 
 /// Ways that were met, each once, and the set of their numbers.
 #[derive(Drop)]

@@ -5,9 +5,9 @@ ghost use Rattle.ar_syntax.specs.declared.instructions.Instr.{out-Instr};
 ghost use Rattle.ar_syntax.specs.declared.instructions.Instr.TheOpen.{Tie as TieForm};
 ghost use Rattle.written_forms.specs.Acting.{ActsAs, All_act, SetsTo, SetsBoth, IsConditional};
 
+use crate::{Leaf, Leaves, translated};
 use ar_base::{Memory, Place, VarId};
 use ar_syntax::{Instr, Path};
-use crate::{Leaf, Leaves, translated};
 use gts_core::Act;
 use std::alloc::Global;
 use typed_expr::Expr;

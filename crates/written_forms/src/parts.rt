@@ -5,9 +5,9 @@ ghost use Rattle.ar_syntax.specs.declared.instructions.Instr.{out-Instr};
 ghost use Rattle.class_table.specs.Earliest.{IsEarliest};
 ghost use Rattle.written_forms.specs.Parts.{InstrForm, BreaksInside, BreaksInOne};
 
+use crate::earlier;
 use ar_base::Place;
 use ar_syntax::Instr;
-use crate::earlier;
 
 /// A rule that an instruction can break by itself, apart from the instructions in it.
 pub trait Rule {

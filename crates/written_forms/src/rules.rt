@@ -7,9 +7,9 @@ ghost use Rattle.class_table.specs.Earliest.{IsEarliest};
 ghost use Rattle.written_forms.specs.Wrong.{IsNamed, Names};
 ghost use Rattle.written_forms.specs.Breaches.{IsSort, IsTarget, IsNoTargetAt, AreOtherKinds, IsSortAt, MisnamesItself, MistypesItself, MisplacedInAction, MisplacedInAssertion};
 
+use crate::{Naming, differ, earlier, first_misnamed, first_mistyped};
 use ar_base::Place;
 use ar_syntax::{Instr, Path};
-use crate::{Naming, differ, earlier, first_misnamed, first_mistyped};
 use typed_expr::ValueKind;
 
 /// What paths name where an instruction stands.

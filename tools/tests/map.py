@@ -23,8 +23,8 @@ PAGES = """ARCHITECTURE CONTRIBUTING DECISIONS DECISIONS_CUTS DEFINITIONS EDITS 
 MOST_WORDS = 12
 
 # Names that no source has: of other files, of packages, of the kit, and for what a reader is to add.
-OTHER = set("""HANDLES RT_JOBS FILE PATH N KIND PROGRAM graphviz chromium vim zsh groff rt Debug find_ read_ write_ first_ _text
-    _cases _laws KeepsS9 BreaksS9""".split())
+OTHER = set("""HANDLES RT_JOBS FILE PATH N KIND PROGRAM graphviz chromium vim zsh groff rt Debug find_ read_ write_ first_
+    _text _cases _laws KeepsS9 BreaksS9""".split())
 
 CRATES = pathlib.Path("crates")
 IDENTIFIER = r"[A-Za-z_]\w*"
@@ -46,9 +46,11 @@ def page_of(name):
     return text_of(f"docs/{name}.md")
 
 
+@functools.lru_cache(None)
 def sources(crate="*", folders=("src", "specs", "proofs")):
     """The files of a crate, or of all."""
-    return [it for folder in folders for ending in ("rt", "antt") for it in CRATES.glob(f"{crate}/{folder}/**/*.{ending}")]
+    endings = [(folder, ending) for folder in folders for ending in ("rt", "antt")]
+    return [it for folder, ending in endings for it in CRATES.glob(f"{crate}/{folder}/**/*.{ending}")]
 
 
 def declares(path, name):
@@ -68,7 +70,9 @@ def words():
     for it in sources(folders=("src", "specs", "proofs", "must-fail")) + [*CRATES.glob("*/must-fail/*.edit")]:
         found |= {it.stem} | set(re.findall(IDENTIFIER, text_of(it)))
     for it in [*pathlib.Path("tools").glob("**/*"), pathlib.Path("altarica")]:
-        found |= {it.stem} | (set(re.findall(IDENTIFIER, text_of(it))) if it.is_file() and it.suffix in ("", ".py", ".sh") else set())
+        found.add(it.stem)
+        if it.is_file() and it.suffix in ("", ".py", ".sh"):
+            found |= set(re.findall(IDENTIFIER, text_of(it)))
     return found
 
 
@@ -114,7 +118,8 @@ class Block:
         self.named = [crate] if crate else []
 
     def faults(self):
-        found = [f"`{name}` follows itself" for name in re.findall(r"`(\w+)`(?:,| and|, and) `\1`", self.text) if name in crates()]
+        twice = re.findall(r"`(\w+)`(?:,| and|, and) `\1`", self.text)
+        found = [f"`{name}` follows itself" for name in twice if name in crates()]
         for token in re.findall(r"`([^`]+)`", self.text):
             fault = self.fault_of(token)
             if fault:
@@ -280,7 +285,8 @@ def edits():
         if function.split("::")[-1] not in functions_of(crate):
             faults.append(f"{crate} has no function {function}")
         named = "".join(text_of(it) for it in sources(crate, ("src",)))
-        faults += [f"{crate} has no clause {it}" for it in clause if not re.search(rf"\bensures {it} \{{|\binvariant {it} \{{", named)]
+        lost = [it for it in clause if not re.search(rf"\b(ensures|invariant) {it} \{{", named)]
+        faults += [f"{crate} has no clause {it}" for it in lost]
     faults += [f"{it} is on the page or in its folder alone" for it in sorted(there ^ shown)]
     point("docs/EDITS.md has each edit that must be refused, with its function", faults)
 
@@ -308,8 +314,8 @@ def promises():
         elif crate and text.startswith("  - "):
             front = re.sub(r"\([^)]*\)", "", text.replace("::", "\0").partition(":")[0]).replace("\0", "::")
             for name in re.findall(r"`([\w:]+)`", front):
-                parts = name.split("::")
-                if parts[-1] not in functions_of(crate) and not any(declares(it, parts[-1]) for it in sources(crate, ("src",))):
+                last = name.split("::")[-1]
+                if not any(declares(it, last) for it in sources(crate, ("src",))):
                     faults.append(f"line {number}: {crate} has no {name}")
     faults += [f"{it} has two items" for it in sorted(set(seen)) if seen.count(it) > 1]
     point("docs/PROMISES_BY_CRATE.md has each crate once, with functions of it", faults)

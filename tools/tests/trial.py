@@ -138,7 +138,7 @@ def lines_of(words):
 def cuts(name):
     """Says why the cuts of a model are not those that were found by hand."""
     words, wanted = CUTS[name]
-    *sets, count = lines_of([PROGRAM, words[0], f"{TRIAL}/{name}.alt", *words[1:]])
+    *sets, count = lines_of([PROGRAM, words[0], f"{TRIAL}/{name}.alt", *words[1:]]) or ["nothing"]
     got = {frozenset(it.strip("{}").split(", ")) for it in sets}
     by_hand = {frozenset(it.split(", ")) for it in wanted}
     return "" if got == by_hand and count == f"count {len(wanted)}" else f"{count}, and by hand {len(wanted)}"

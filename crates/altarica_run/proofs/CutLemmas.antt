@@ -104,7 +104,7 @@ module _ {old new : SinkState} (told : List ℕ → Status → Type 0) (text : L
       subst (λ (z : Result Status PrintFault). IsWritten told old new (status_printed z)) (sym (i ∙ ap Err j)) (go e h)
     where
       go : (e : PrintFault) → Prints old new text (Err e) → IsWritten told old new (status_printed (Err e))
-      go print.Write h = cut is h.cut h.rose
+      go print.Write h = cut is h.front h.rose
       go print.Memory h = nothing h
 
 -- memory was refused before anything was written

@@ -1,7 +1,7 @@
 -- How a call ends, as the calls in it answer.
 use Rattle.std.proofs.Common.{◌≡◌, ℕ, List, Ok, sym, ap, subst}
 use Rattle.ar_io.specs.Outside.{Told}
-use Rattle.ar_io.specs.Writing.{SinkState, Appended, Cut}
+use Rattle.ar_io.specs.Writing.{SinkState, Appended, WroteFront}
 use Rattle.run_words.specs.declared.jobs.Job.{Job}
 use Rattle.run_words.specs.Jobs.{IsJob}
 use Rattle.altarica_run.specs.Answers.{IsUntouched}
@@ -45,7 +45,7 @@ module _ (files : List ℕ → Told) (rose : List ℕ → Type 0) (words : List 
       subst (λ (z : Status). EndsSo files rose words old new z) (sym t.1)
       (says.not_read job is l k (subst (λ (z : List ℕ). Appended old.bytes new.bytes z) t.0 a) same)
   not_read_told kind name job is l k s (cut t c r) =
-      says.not_written (says.not_read job is l k) r (subst (λ (z : List ℕ). Cut old.bytes new.bytes z) t.0 c)
+      says.not_written (says.not_read job is l k) r (subst (λ (z : List ℕ). WroteFront old.bytes new.bytes z) t.0 c)
   not_read_told kind name job is l k s (nothing e) = says.no_memory e
 
   -- the line of what the words say was written

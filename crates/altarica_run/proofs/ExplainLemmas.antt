@@ -121,7 +121,7 @@ module _ (job : Job) (w : Ready) (p : Prepared) (is : IsReady job w p) (e : job.
       where
         go : (f : ReplayFault) → AnswersSettle (naming_of_parts p.system) flat commands old new (Err f)
             → IsWritten (Tells job w) old new (status_explained (Err f))
-        go fault.Write h = cut (fault_told h.0 h.1) h.2.cut h.2.rose
+        go fault.Write h = cut (fault_told h.0 h.1) h.2.front h.2.rose
         go fault.Memory h = nothing h
 
   -- the observer, where there is one
@@ -202,7 +202,7 @@ module _ (job : Job) (w : Ready) (p : Prepared) (is : IsReady job w p) (e : job.
           where
             go : (f : ReplayFault) → Explains old new Text (Err f)
                 → IsWritten (Tells job w) old new (status_explained (Err f))
-            go fault.Write h = cut (explained_told run_settles h.0 h.1) h.2.cut h.2.rose
+            go fault.Write h = cut (explained_told run_settles h.0 h.1) h.2.front h.2.rose
             go fault.Memory h = nothing h
 
 -- where the run settles, the valuation is a state of the system and has flows

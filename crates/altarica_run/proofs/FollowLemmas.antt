@@ -3,8 +3,8 @@ use Rattle.std.proofs.Common.{◌≡◌, ◌⊎◌, inl, inr, ℕ, Bool, true, f
 use Rattle.ar_base.specs.Stages.{Where}
 use Rattle.ar_base.specs.Stages as then
 use Rattle.ar_io.specs.Outside.{Told}
-use Rattle.ar_io.specs.Writing.{SinkState, Cut}
-use Rattle.ar_io.proofs.Writing.{cut_nothing}
+use Rattle.ar_io.specs.Writing.{SinkState, WroteFront}
+use Rattle.ar_io.proofs.Writing.{front_nothing}
 use Rattle.job_inputs.specs.Scripts.{Why, IsNoCommand, LacksWay, NamesNoEvent}
 use Rattle.replayer.specs.declared.replaying.End.TheVariants as end
 use Rattle.run_words.specs.declared.jobs.Job.{Job}
@@ -227,26 +227,26 @@ module _ (c : Call) where
 
   -- What the sink holds
 
-  whole_front : (text : List ℕ) → Wrote c text → Cut c.old c.new text
+  whole_front : (text : List ℕ) → Wrote c text → WroteFront c.old c.new text
   whole_front text a = λ bytes e. (text, record { rest = []; joined = append-nil text }, a bytes e)
 
   fronts : (s : Status) → EndsSo c.files (RoseAt c) c.words (sink_before c) (sink_after c) s → IsPrefix c
-  fronts s (says.says {text = text} h a q) = record { text = text; begins = says.said h; cut = whole_front text a }
+  fronts s (says.says {text = text} h a q) = record { text = text; begins = says.said h; front = whole_front text a }
   fronts s (says.not_read {kind} {name} job is l r a q) =
       record {
         text = line_of (NotRead kind);
         begins = says.not_read job is l r;
-        cut = whole_front (line_of (NotRead kind)) a;
+        front = whole_front (line_of (NotRead kind)) a;
       }
-  fronts s (says.not_written {text = text} b r h) = record { text = text; begins = b; cut = h }
+  fronts s (says.not_written {text = text} b r h) = record { text = text; begins = b; front = h }
   fronts s (says.no_memory e) =
       record {
         text = [];
         begins = says.nothing;
-        cut = cut_nothing c.old c.new (ap (λ (z : SinkState). z.bytes) e);
+        front = front_nothing c.old c.new (ap (λ (z : SinkState). z.bytes) e);
       }
   fronts s (says.replay_stopped {text = text} job is e h k q) =
-      record { text = text; begins = says.said h; cut = k }
+      record { text = text; begins = says.said h; front = k }
 
   pub prefix_of : (s : Status) → Gave c s → IsPrefix c
   prefix_of s g = fronts s g.ends

@@ -43,7 +43,7 @@ text_written {old} {new} told text ends s r e t w = subst (λ (z : Status). IsWr
   where
     go : (r : Result (Unit {0}) SinkFailed) → Writes old new text r → IsWritten told old new (status_written ends r)
     go (Ok x) w = whole t w.whole w.kept
-    go (Err e) w = cut t w.cut w.rose
+    go (Err e) w = cut t w.front w.rose
 
 -- How much is declared
 

@@ -1,7 +1,7 @@
 -- Calls, and what may follow of one in single statements.
 use Rattle.std.specs.Prelude.{ℕ, List, Option}
 use Rattle.ar_io.specs.Outside.{Told, Bytes, Absent, Untold, Rose}
-use Rattle.ar_io.specs.Writing.{SinkState, Appended, Cut}
+use Rattle.ar_io.specs.Writing.{SinkState, Appended, WroteFront}
 use Rattle.altarica_run.specs.Answers.{Answers, IsUntouched}
 use Rattle.run_words.specs.declared.jobs.Job.{Job}
 use Rattle.altarica_run.specs.Refusals.{line_of}
@@ -77,4 +77,4 @@ pub record IsSaid (c : Call) (status : Status) : Type 0 where
 pub record IsPrefix (c : Call) : Type 0 where
   pub text : List ℕ
   pub begins : Begins c.files (RoseAt c) c.words text
-  pub cut : Cut c.old c.new text
+  pub front : WroteFront c.old c.new text

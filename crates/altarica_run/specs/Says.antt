@@ -1,7 +1,7 @@
 -- What words say: their text and how they end, and how a call of them may end.
 use Rattle.std.specs.Prelude.{◌≡◌, ℕ, List, [], Ok, Err}
 use Rattle.ar_io.specs.Outside.{Told, Rose}
-use Rattle.ar_io.specs.Writing.{SinkState, Appended, Cut}
+use Rattle.ar_io.specs.Writing.{SinkState, Appended, WroteFront}
 use Rattle.run_words.specs.declared.jobs.Job.{Job}
 use Rattle.run_words.specs.declared.verbs.Verb.TheVariants.{Replay}
 use Rattle.run_words.specs.Jobs.{IsJob}
@@ -50,10 +50,10 @@ pub data EndsSo (files : List ℕ → Told) (rose : List ℕ → Type 0) (words 
       → Appended old.bytes new.bytes (line_of (NotRead kind)) → new.faults ≡ old.faults
       → EndsSo files rose words old new status.Read
   not_written : {text : List ℕ} → Begins files rose words text → Rose old.faults new.faults
-      → Cut old.bytes new.bytes text
+      → WroteFront old.bytes new.bytes text
       → EndsSo files rose words old new status.Write
   no_memory : new ≡ old → EndsSo files rose words old new status.Memory
   replay_stopped : {text : List ℕ} {ends : Status} (job : Job) → IsJob words job → job.command ≡ Replay
-      → Says files words text ends → Cut old.bytes new.bytes text
+      → Says files words text ends → WroteFront old.bytes new.bytes text
       → new.faults ≡ old.faults
       → EndsSo files rose words old new status.Memory

@@ -1,7 +1,7 @@
 -- What the calls that write the text of a job answer.
 use Rattle.std.specs.Prelude.{◌≡◌, ℕ, List, Result, Ok, Err}
 use Rattle.ar_io.specs.Outside.{Rose}
-use Rattle.ar_io.specs.Writing.{SinkState, Appended, Cut}
+use Rattle.ar_io.specs.Writing.{SinkState, Appended, WroteFront}
 use Rattle.ar_io.specs.declared.outside.SinkFailed.{SinkFailed}
 use Rattle.cut_text.specs.declared.faults.PrintFault.{PrintFault}
 use Rattle.cut_text.specs.declared.faults.PrintFault.TheVariants as print
@@ -43,14 +43,14 @@ pub data IsWritten (told : List ℕ → Status → Type 0) (old new : SinkState)
   whole : {text : List ℕ} {ends : Status} → told text ends → Appended old.bytes new.bytes text
       → new.faults ≡ old.faults
       → IsWritten told old new ends
-  cut : {text : List ℕ} {ends : Status} → told text ends → Cut old.bytes new.bytes text → Rose old.faults new.faults
-      → IsWritten told old new Write
+  cut : {text : List ℕ} {ends : Status} → told text ends → WroteFront old.bytes new.bytes text
+      → Rose old.faults new.faults → IsWritten told old new Write
   nothing : new ≡ old → IsWritten told old new Memory
 
 -- such a text of a job; a replay writes as it goes, so where memory is refused to it some first bytes may stand, though
 -- the sink met no fault
 pub data IsWrittenFor (job : Job) (told : List ℕ → Status → Type 0) (old new : SinkState) : Status → Type 0 where
   written : {ends : Status} → IsWritten told old new ends → IsWrittenFor job told old new ends
-  stopped : {text : List ℕ} {ends : Status} → job.command ≡ Replay → told text ends → Cut old.bytes new.bytes text
-      → new.faults ≡ old.faults
+  stopped : {text : List ℕ} {ends : Status} → job.command ≡ Replay → told text ends
+      → WroteFront old.bytes new.bytes text → new.faults ≡ old.faults
       → IsWrittenFor job told old new Memory

@@ -3,6 +3,12 @@
 ghost use Rattle.std.specs.Prelude.{◌≡◌};
 ghost use Rattle.ar_base.specs.Counts.{limit_of};
 
+/// The most nodes that may be asked for.
+pub const MOST_NODES: u32 = 16_777_216;
+
+/// How many nodes there may be where no number is asked for.
+pub const USUAL_NODES: u32 = 1_000_000;
+
 /// What is counted and limited, in the order in which the limits are listed.
 #[derive(Clone, Copy)]
 pub enum Count {

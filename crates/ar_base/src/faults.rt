@@ -30,20 +30,23 @@ impl<T: Drop> From<AllocFailed<T>> for Memory {
     }
 }
 
-/// A cap that the program's own tables have, beside the limits of models. Only a text whose tables
-/// would pass 4,194,304 results of one step, 16,777,216 entries or 2^32 things of a kind reaches one;
-/// it is answered as where memory is refused, since the table that it needs is not made.
+/// A cap of the program's own tables, beside the limits of models. Only a text whose table would pass
+/// the number of its case reaches one. It is answered as where memory is refused, since the table
+/// that the answer needs is not made.
 #[derive(Clone, Copy)]
 pub enum Cap {
     /// Members of all bodies, inherited ones again in each body that has them: 16,777,216.
     Members,
-    /// Entries of the tables of names and of walks over all units: 16,777,216.
+    /// Entries of one table of walks: names that may lead to units, over all bodies; names that are
+    /// looked at in units; units that walks come to. Each table has at most 16,777,216, the last
+    /// one the main block beside them.
     WalkEntries,
-    /// Parameters of all units: 2^32 - 1.
+    /// Parameters of all units: 4,294,967,295.
     Parameters,
-    /// Observers of all units: 2^32 - 1.
+    /// Observers of all units: 4,294,967,295.
     Observers,
-    /// Results of one step over sets of values, or pairs of values that one comparison of sets looks at.
+    /// Results of one step of a sum, a product or another fold over sets of values, each value so
+    /// far with each value of the next operand: 8,388,608.
     Results,
 }
 

@@ -9,7 +9,7 @@ mod places;
 mod table;
 mod texts;
 
-pub use counts::Count;
+pub use counts::{Count, MOST_NODES, USUAL_NODES};
 pub use faults::{Cap, Memory, RuleFault, keep};
 pub use numbers::{
     AssignId, AssignKind, BodyId, BodyKind, EventId, EventKind, GateId, GateKind, Id, NameId,

@@ -7,7 +7,7 @@ use Rattle.std.proofs.lemmas.Bool.{cases_lt}
 use Rattle.ar_io.specs.Gathering.{Holds}
 use Rattle.ar_io.specs.Writing.{SinkState, Writes, Leaves}
 use Rattle.ar_io.specs.declared.outside.SinkFailed.{SinkFailed}
-use Rattle.ar_io.proofs.Writing.{writes_on, writes_cut, writes_as}
+use Rattle.ar_io.proofs.Writing.{writes_on, writes_front, writes_as}
 
 -- what waited is handed on, and then a long piece
 pub handed_both : {a b c : SinkState} (room piece left : List ℕ) (r : Result (Unit {0}) SinkFailed) → left ≡ []
@@ -36,7 +36,7 @@ module _ (s s' : SinkState) (t t' piece room : List ℕ) (same : s' ≡ s) (grow
   -- after a failure nothing more is handed on
   pub holds_later : (n : SinkState) (b : Bool) → b ≡ true → Holds s n t room b → Holds s' n t' room b
   holds_later n false i h = cc
-  holds_later n true i h = texts n room true (writes_cut t piece h)
+  holds_later n true i h = texts n room true (writes_front t piece h)
 
   -- a hand-over fails
   pub holds_fails : (n m : SinkState) (left : List ℕ) (b : Bool) → b ≡ false → Holds s n t room b
@@ -85,7 +85,7 @@ module _ (s n : SinkState) (t : List ℕ) where
   known_ok h = record {
     whole = λ bytes e. ∥∥₁_elim h (hlevel props) (λ (w : Writes s n t (Ok tt)). w.whole bytes e);
     kept = ∥∥₁_elim h (hlevel props) (λ (w : Writes s n t (Ok tt)). w.kept);
-    cut = tt;
+    front = tt;
     rose = tt;
     rises = ∥∥₁_elim h (hlevel props) (λ (w : Writes s n t (Ok tt)). w.rises);
   }
@@ -97,21 +97,21 @@ module _ (s n : SinkState) (t : List ℕ) where
   known_err h = record {
     whole = tt;
     kept = tt;
-    cut = λ bytes e.
+    front = λ bytes e.
         let front : List ℕ = drop (length bytes) (unwrap_or n.bytes []) in
-        let is : (w : Writes s n t (Err (record {}))) → front ≡ (w.cut bytes e).0 = λ w.
-        first_bytes bytes (w.cut bytes e).0 (unwrap_or n.bytes [])
-        (ap (λ (o : Option (List ℕ)). unwrap_or o []) (w.cut bytes e).2) in (
+        let is : (w : Writes s n t (Err (record {}))) → front ≡ (w.front bytes e).0 = λ w.
+        first_bytes bytes (w.front bytes e).0 (unwrap_or n.bytes [])
+        (ap (λ (o : Option (List ℕ)). unwrap_or o []) (w.front bytes e).2) in (
           front,
           record {
             rest = drop (length front) t;
             joined = ∥∥₁_elim h (hlevel props) (λ (w : Writes s n t (Err (record {}))).
                 let i = is w in
-                let j : front ++ (w.cut bytes e).1.rest ≡ t = ap (λ (z : List ℕ). z ++ (w.cut bytes e).1.rest) i ∙ (w.cut bytes e).1.joined in
-                ap (λ (z : List ℕ). front ++ z) (first_bytes front (w.cut bytes e).1.rest t (sym j)) ∙ j);
+                let j : front ++ (w.front bytes e).1.rest ≡ t = ap (λ (z : List ℕ). z ++ (w.front bytes e).1.rest) i ∙ (w.front bytes e).1.joined in
+                ap (λ (z : List ℕ). front ++ z) (first_bytes front (w.front bytes e).1.rest t (sym j)) ∙ j);
           },
           ∥∥₁_elim h (hlevel props) (λ (w : Writes s n t (Err (record {}))).
-              (w.cut bytes e).2 ∙ ap (λ (z : List ℕ). Some (bytes ++ z)) (sym (is w))),
+              (w.front bytes e).2 ∙ ap (λ (z : List ℕ). Some (bytes ++ z)) (sym (is w))),
         );
     rose = elim (cases_lt s.faults n.faults) [
       | inl l ↦ inl l

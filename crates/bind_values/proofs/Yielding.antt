@@ -12,7 +12,7 @@ use Rattle.domains.specs.declared.Value.{Value}
 use Rattle.domains.specs.declared.Value.TheVariants as val
 use Rattle.typed_expr.specs.Kinds.{kind_of}
 use Rattle.typed_expr.specs.Total.{value_of, all_true, one_true, first_true}
-use Rattle.typed_expr.specs.Values.{truth_of}
+use Rattle.domains.specs.Values.{truth_of}
 use Rattle.typed_expr.specs.Yields.{Level, Yields, Some_yields, All_yield, Picks, Picks_parts, Takes}
 use Rattle.typed_expr.specs.Yields as y
 use Rattle.typed_expr.specs.declared.expr.Expr.{Expr, out-Expr}

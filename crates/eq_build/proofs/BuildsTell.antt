@@ -2,7 +2,8 @@
 use Rattle.std.proofs.Common.{◌≡◌, ℕ, ℤ, ◌<◌, pos, Bool, List, [], ◌∷◌, fold, length, Box, Vec, Global, refl, sym, ap, ◌∙◌, subst, arith}
 use Rattle.domains.specs.declared.Value.{Value}
 use Rattle.domains.specs.declared.Value.TheVariants as v
-use Rattle.typed_expr.specs.Values.{truth_of, whole_of, lesser, greater, multiplied, counted, least_of, greatest_of}
+use Rattle.domains.specs.Values.{truth_of, whole_of}
+use Rattle.typed_expr.specs.Values.{lesser, greater, multiplied, counted, least_of, greatest_of}
 use Rattle.typed_expr.specs.Yields.{Level, Yields, Takes, Picks}
 use Rattle.typed_expr.specs.Yields as y
 use Rattle.typed_expr.specs.Kinds.{kind_of, HasKind, Each, Each_part, Each_case}

@@ -4,7 +4,8 @@ use Rattle.ar_base.specs.Lists.{IsOneOf}
 use Rattle.ar_base.proofs.Standing.{one_cases, one_first, one_rest, one_none, one_left, one_right, one_split}
 use Rattle.domains.specs.declared.Value.{Value}
 use Rattle.domains.specs.declared.Value.TheVariants.{Truth, Whole}
-use Rattle.typed_expr.specs.Values.{truth_of, whole_of, added}
+use Rattle.domains.specs.Values.{truth_of, whole_of}
+use Rattle.typed_expr.specs.Values.{added}
 use Rattle.typed_expr.specs.Yields.{Level, Yields, Some_yields, All_yield, Picks, Picks_parts, Takes}
 use Rattle.typed_expr.specs.Yields as y
 use Rattle.typed_expr.specs.declared.expr.Expr.{Expr, out-Expr}

@@ -3,10 +3,10 @@ use Rattle.std.specs.Prelude.{◌≡◌, Bool, true, false, not, if◌then◌els
 use Rattle.std.specs.List.{fold}
 use Rattle.ar_base.specs.Lists.{IsOneOf}
 use Rattle.domains.specs.Same.{is_same}
-use Rattle.domains.specs.Values.{is_before}
+use Rattle.domains.specs.Values.{is_before, truth_of, whole_of}
 use Rattle.domains.specs.declared.Value.{Value}
 use Rattle.domains.specs.declared.Value.TheVariants.{Truth, Whole}
-use Rattle.typed_expr.specs.Values.{is_related, truth_of, whole_of, added, multiplied, lesser, greater, counted}
+use Rattle.typed_expr.specs.Values.{is_related, added, multiplied, lesser, greater, counted}
 use Rattle.eq_core.specs.Gates.{Operand, Always, Never, EventIs, GateIs, Gate, Made, all_of, any_of}
 use Rattle.eq_build.specs.declared.steps.Step.{Step}
 use Rattle.eq_build.specs.declared.steps.Step.TheVariants.{Part, Times, Lesser, Greater, Counted, Compared}

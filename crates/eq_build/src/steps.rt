@@ -1,8 +1,8 @@
 //! What two values make.
 
 ghost use Rattle.std.specs.Prelude.{◌≡◌};
-ghost use Rattle.domains.specs.Values.{is_before};
-ghost use Rattle.typed_expr.specs.Values.{truth_of, whole_of, is_related};
+ghost use Rattle.domains.specs.Values.{is_before, truth_of, whole_of};
+ghost use Rattle.typed_expr.specs.Values.{is_related};
 ghost use Rattle.eq_build.specs.Entries.{result_of};
 
 use domains::{Value, add, multiply, subtract};

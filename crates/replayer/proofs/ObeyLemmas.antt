@@ -3,7 +3,7 @@ use Rattle.std.proofs.Common.{◌≡◌, ◌<◌, ℕ, List, [], ◌∷◌, ◌+
 use Rattle.ar_base.specs.Texts.{line}
 use Rattle.ar_io.specs.Writing.{SinkState, Writes}
 use Rattle.ar_io.specs.declared.outside.SinkFailed.{SinkFailed}
-use Rattle.ar_io.proofs.Writing.{cut_longer, cut_nothing}
+use Rattle.ar_io.proofs.Writing.{front_longer, front_nothing}
 use Rattle.domains.specs.declared.Value.{Value}
 use Rattle.ar_meaning.specs.Systems as s
 use Rattle.ar_meaning.specs.Runs.{Command, Fire, Back, Show, Enabled}
@@ -33,7 +33,7 @@ use Rattle.replayer.proofs.ListLemmas.{some_answers, is_list}
 use Rattle.text_pieces.proofs.Ways.{way_named, label_alike}
 
 module _ (p : GtsParts) (sound : IsSound p) (sys : s.System ℕ) (views : Views p sys) where
-  -- A text that is cut
+  -- A text of which first bytes are written
 
   -- the run goes on behind the text
   pub on_cut : {before any : Standing} {c : Command} {old new : SinkState} {e : SinkFailed} (below : List (List Value))
@@ -49,14 +49,14 @@ module _ (p : GtsParts) (sound : IsSound p) (sys : s.System ℕ) (views : Views 
         text = text ++ f.text;
         end = f.end;
         follows = on cs f.text f.end f.follows;
-        cut = cut_longer text f.text w.cut;
+        front = front_longer text f.text w.front;
       }) w.rose
 
   -- the run stops behind the text
   pub stop_cut : {before any : Standing} {c : Command} {old new : SinkState} {e : SinkFailed} (text : List ℕ)
       → ((cs : List Command) → Follows (naming_of_parts p) sys before.below before.values (c ∷ cs) text Fault)
       → Writes old new text (Err e) → Answers (naming_of_parts p) sys before any c old new (Err Write)
-  stop_cut text stop w = write (λ cs h. record { text = text; end = Fault; follows = stop cs; cut = w.cut }) w.rose
+  stop_cut text stop w = write (λ cs h. record { text = text; end = Fault; follows = stop cs; front = w.front }) w.rose
 
   -- nothing is written
   pub out_of_memory : {before any : Standing} {c : Command} {old : SinkState} → AreTotal p before.below
@@ -69,7 +69,7 @@ module _ (p : GtsParts) (sound : IsSound p) (sys : s.System ℕ) (views : Views 
         text = f.text;
         end = f.end;
         follows = f.follows;
-        cut = cut_longer [] f.text (cut_nothing old.bytes old.bytes refl);
+        front = front_longer [] f.text (front_nothing old.bytes old.bytes refl);
       }) refl
 
   -- Commands

@@ -3,7 +3,7 @@ use Rattle.std.proofs.Common.{◌≡◌, ℕ, List, [], ◌∷◌, ◌++◌, cod
 use Rattle.ar_base.specs.Texts.{line}
 use Rattle.ar_io.specs.Writing.{SinkState, Writes}
 use Rattle.ar_io.specs.declared.outside.SinkFailed.{SinkFailed}
-use Rattle.ar_io.proofs.Writing.{cut_longer, cut_more, cut_nothing, writes_on, rose_after}
+use Rattle.ar_io.proofs.Writing.{front_longer, front_more, front_nothing, writes_on, rose_after}
 use Rattle.domains.specs.declared.Value.{Value}
 use Rattle.ar_meaning.specs.Systems as s
 use Rattle.ar_meaning.specs.Runs.{Command, FiresWays, Start, StartFails}
@@ -68,13 +68,13 @@ module _ {names : Naming} {sys : s.System ℕ} {all : List Command} where
       let b = broken rest (subst (λ (z : List Command). FiresWays sys z) e p.fires) in
       answers.write (p.rest b.text b.end
       (subst (λ (z : List Command). Follows names sys at.below at.values z b.text b.end) (sym e) b.follows))
-      (cut_more old.bytes now.bytes new.bytes p.text b.text p.writes.whole b.cut)
+      (front_more old.bytes now.bytes new.bytes p.text b.text p.writes.whole b.front)
       (rose_after old.faults now.faults new.faults p.writes.rises rose)
   obeyed_err {at = at} c left rest {old = old} {now = now} {new = new} Memory e p (memory broken kept) =
       let b = broken rest (subst (λ (z : List Command). FiresWays sys z) e p.fires) in
       answers.memory (p.rest b.text b.end
       (subst (λ (z : List Command). Follows names sys at.below at.values z b.text b.end) (sym e) b.follows))
-      (cut_more old.bytes now.bytes new.bytes p.text b.text p.writes.whole b.cut) (kept ∙ p.writes.kept)
+      (front_more old.bytes now.bytes new.bytes p.text b.text p.writes.whole b.front) (kept ∙ p.writes.kept)
 
 module _ (p : GtsParts) (sound : IsSound p) (sys : s.System ℕ) (views : Views p sys) where
   -- Starts
@@ -104,7 +104,7 @@ module _ (p : GtsParts) (sound : IsSound p) (sys : s.System ℕ) (views : Views 
   started_cut t cs start total fires w =
       let f = going p sound sys views [] t cs (total_none p) total fires in
       answers.write (starts_so p sound sys views t (own_start t start) total cs f.text f.end f.follows)
-      (cut_longer (start_text t) f.text w.cut) w.rose
+      (front_longer (start_text t) f.text w.front) w.rose
 
   abbrev fault_line : FlowFault → List ℕ
   fault_line f = line (codes "fault: start: " ++ flow_fault_text (naming_of_parts p) f)
@@ -120,14 +120,14 @@ module _ (p : GtsParts) (sound : IsSound p) (sys : s.System ℕ) (views : Views 
       → {old new : SinkState} {e : SinkFailed} → Writes old new (fault_line f) (Err e)
       → AnswersReplay (naming_of_parts p) sys cs old new (Err Write)
   no_start_cut f cs fails w = answers.write
-      (no_start_so p sound sys views f (subst (λ (n : s.Net ℕ). StartFails n f) (sym views.net) fails) cs) w.cut w.rose
+      (no_start_so p sound sys views f (subst (λ (n : s.Net ℕ). StartFails n f) (sym views.net) fails) cs) w.front w.rose
 
   -- want of memory before anything is written
   pub no_memory : (cs : List Command) → FiresWays sys cs → (old : SinkState)
       → AnswersReplay (naming_of_parts p) sys cs old old (Err Memory)
   no_memory cs fires old =
       let f = some_replay p sound sys views cs fires in
-      answers.memory f.replay (cut_longer [] f.text (cut_nothing old.bytes old.bytes refl)) refl
+      answers.memory f.replay (front_longer [] f.text (front_nothing old.bytes old.bytes refl)) refl
 
   -- Ends
 
@@ -151,5 +151,5 @@ module _ (p : GtsParts) (sound : IsSound p) (sys : s.System ℕ) (views : Views 
       answers.write
       (q.rest (end_text at) Done (subst (λ (z : List Command). Follows (naming_of_parts p) sys at.below at.values z
       (end_text at) Done) (sym e) (ends_so p sound sys views at.below at.values)))
-      (cut_more old.bytes now.bytes new.bytes q.text (end_text at) q.writes.whole w.cut)
+      (front_more old.bytes now.bytes new.bytes q.text (end_text at) q.writes.whole w.front)
       (rose_after old.faults now.faults new.faults q.writes.rises w.rose)

@@ -4,7 +4,7 @@ use Rattle.ar_base.specs.Lists.{IsOneOf}
 use Rattle.ar_base.specs.Texts.{line}
 use Rattle.ar_io.specs.declared.outside.SinkFailed.{SinkFailed}
 use Rattle.ar_io.specs.Outside.{Rose}
-use Rattle.ar_io.specs.Writing.{SinkState, Cut, Writes}
+use Rattle.ar_io.specs.Writing.{SinkState, WroteFront, Writes}
 use Rattle.domains.specs.declared.Value.{Value}
 use Rattle.ar_meaning.specs.Systems.{System}
 use Rattle.ar_meaning.specs.Runs.{Command, Moment, Goes, FiresWays}
@@ -40,7 +40,7 @@ pub record IsBroken (names : Naming) (sys : System ℕ) (below : List (List Valu
   pub text : List ℕ
   pub end : End
   pub follows : Follows names sys below t (c ∷ cs) text end
-  pub cut : Cut old.bytes new.bytes text
+  pub front : WroteFront old.bytes new.bytes text
 
 -- what one command answers: its text was written and the run goes on from the new standing, or ends in a fault; or the
 -- first bytes of what follows were written, where the sink's count of faults rose or memory was refused; the count is
@@ -72,7 +72,7 @@ pub record IsPlayed (names : Naming) (sys : System ℕ) (all : List Command) (at
 abbrev pub refusal_text : GtsParts → ℕ → StepFault → List ℕ
 refusal_text p n f = line (codes "fault: " ++ (way_label p n ++ (codes ": " ++ step_text p f)))
 
--- the fault is want of memory, and nothing is written; or it is another one, whose line is written or cut
+-- the fault is want of memory, and nothing is written; or it is another one, whose line is written, or first bytes of it
 pub data IsRefusal (p : GtsParts) (n : ℕ) (f : StepFault) (old new : SinkState) : Result End ReplayFault → Type 0 where
   memory : f ≡ fault.Memory → old ≡ new → IsRefusal p n f old new (Err Memory)
   told : (f ≡ fault.Memory → ⊥) → Writes old new (refusal_text p n f) (Ok tt) → IsRefusal p n f old new (Ok Fault)

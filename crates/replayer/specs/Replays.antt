@@ -1,7 +1,7 @@
 -- The text of a replay, and how it ends.
 use Rattle.std.specs.Prelude.{◌≡◌, ℕ, List, [], ◌∷◌, Result, Ok, Err}
 use Rattle.ar_io.specs.Outside.{Rose}
-use Rattle.ar_io.specs.Writing.{SinkState, Appended, Cut}
+use Rattle.ar_io.specs.Writing.{SinkState, Appended, WroteFront}
 use Rattle.ar_meaning.specs.Systems.{System}
 use Rattle.ar_meaning.specs.Runs.{Command, Moment, Starts, Start_fails, Fires, Fire_fails, Goes_back, No_step, Shows, Lists, Ends, Runs}
 use Rattle.ar_meaning.specs.TraceText.{Naming, TraceText}
@@ -38,9 +38,9 @@ pub data AnswersReplay {V : Type 0} (names : Naming) (sys : System V) (cs : List
   whole : {text : List ℕ} {end : End} → IsReplay names sys cs text end → Appended old.bytes new.bytes text
       → new.faults ≡ old.faults
       → AnswersReplay names sys cs old new (Ok end)
-  write : {text : List ℕ} {end : End} → IsReplay names sys cs text end → Cut old.bytes new.bytes text
+  write : {text : List ℕ} {end : End} → IsReplay names sys cs text end → WroteFront old.bytes new.bytes text
       → Rose old.faults new.faults
       → AnswersReplay names sys cs old new (Err Write)
-  memory : {text : List ℕ} {end : End} → IsReplay names sys cs text end → Cut old.bytes new.bytes text
+  memory : {text : List ℕ} {end : End} → IsReplay names sys cs text end → WroteFront old.bytes new.bytes text
       → new.faults ≡ old.faults
       → AnswersReplay names sys cs old new (Err Memory)

@@ -3,7 +3,8 @@ use Rattle.std.proofs.Common.{◌≡◌, ℕ, ◌+◌, ◌<◌, ℤ, pos, Bool, 
 use Rattle.std.proofs.lemmas.List.{at_drop_more, at_drop_all, take_more, map-append}
 use Rattle.std.proofs.lemmas.List.Sums.{fold_push}
 use Rattle.domains.specs.declared.Value.{Value}
-use Rattle.typed_expr.specs.Values.{truth_of, whole_of, added, multiplied, lesser, greater, counted}
+use Rattle.domains.specs.Values.{truth_of, whole_of}
+use Rattle.typed_expr.specs.Values.{added, multiplied, lesser, greater, counted}
 use Rattle.typed_expr.specs.Folds.{fold_of, next_of}
 use Rattle.typed_expr.specs.Total.{value_of, value_step, first_true}
 use Rattle.typed_expr.specs.declared.expr.Expr.{Expr}

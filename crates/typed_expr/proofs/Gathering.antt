@@ -4,12 +4,12 @@ use Rattle.std.proofs.lemmas.List.{take_more, take_all, take-append-drop}
 use Rattle.std.specs.List.Sorted.{IsPermutation}
 use Rattle.std.proofs.lemmas.List.Elements.{Contains-append_left, Contains-append_right, Contains-append_cases, Contains-push, Contains-push_cases}
 use Rattle.std.proofs.lemmas.List.Sorted.{Contains-permutation, IsPermutation-sym}
-use Rattle.domains.specs.Values.{IsAscending}
+use Rattle.domains.specs.Values.{IsAscending, whole_of}
 use Rattle.domains.specs.declared.Value.{Value}
 use Rattle.domains.specs.declared.Value.TheVariants.{Truth, Whole}
 use Rattle.domains.proofs.Members.{contains-head, contains-cons, contains-cases, nothing-in, contains-one}
 use Rattle.domains.proofs.Order.{ascends-from, ascends-length}
-use Rattle.typed_expr.specs.Values.{whole_of, is_related}
+use Rattle.typed_expr.specs.Values.{is_related}
 use Rattle.typed_expr.specs.Folds.{next_of}
 use Rattle.typed_expr.specs.Sets.{HasExactly, HasMoreThan, AtLimit, KeepsLimit, Gathers, Stopped, Adds, Inserts, Refuses}
 use Rattle.typed_expr.specs.Evaluating.{IsTruth, IsNext, SomeRelated}
@@ -389,18 +389,6 @@ truths-both most r g = gathers-as most r {P = Contains (Truth false ∷ Truth tr
     ]) g
 
 -- no value so far is so related, and neither is the next
-pub right-more : (r : Relation) (a : Value) (bs : List Value) (wanted b : Bool) (i : ℕ) (d : Value) → i < length bs
-    → (SomeRelated r (a ∷ []) (take i bs) wanted → ⊥)
-    → b ≡ is_related r a (get_or bs i d) → (b ≡ wanted → ⊥) → SomeRelated r (a ∷ []) (take (i + 1) bs) wanted → ⊥
-right-more r a bs wanted b i d h f e n s =
-    elim (take-cases bs i d s.right h s.in_right) [
-      | inl k ↦ f (record { left = s.left; right = s.right; in_left = s.in_left; in_right = k; related = s.related })
-      | inr q ↦
-          n
-          (e ∙ ap (λ z. is_related r z (get_or bs i d)) (contains-one a s.left s.in_left)
-          ∙ ap (λ z. is_related r s.left z) (sym q) ∙ s.related)
-    ]
-
 pub left-more : (r : Relation) (us bs : List Value) (wanted : Bool) (i : ℕ) (d : Value) → i < length us
     → (SomeRelated r (take i us) bs wanted → ⊥)
     → (SomeRelated r (get_or us i d ∷ []) bs wanted → ⊥) → SomeRelated r (take (i + 1) us) bs wanted → ⊥

@@ -1,4 +1,5 @@
 mod Putting
+mod Ends
 mod Folding
 mod Gathering
 mod Forms

@@ -7,7 +7,8 @@ use Rattle.ar_base.proofs.Items.{take_item}
 use Rattle.domains.specs.declared.Value.{Value}
 use Rattle.domains.specs.declared.Value.TheVariants.{Truth, Whole}
 use Rattle.domains.proofs.Members.{contains-head, contains-cons, nothing-in, contains-one}
-use Rattle.typed_expr.specs.Values.{whole_of, added, sum_of}
+use Rattle.domains.specs.Values.{whole_of}
+use Rattle.typed_expr.specs.Values.{added, sum_of}
 use Rattle.typed_expr.specs.Folds.{fold_of, next_of}
 use Rattle.typed_expr.specs.Sets.{HasExactly, HasMoreThan, AtLimit, KeepsLimit, Stopped, Gathers}
 use Rattle.typed_expr.specs.Yields.{Level, Yields, Some_yields, All_yield, Picks, Picks_parts}

@@ -2,7 +2,8 @@
 use Rattle.std.specs.Prelude.{◌≡◌, ◌⊎◌, ◌↔◌, ℕ, Bool, true, false, not, IsTrue, List, [], ◌∷◌, Contains, take, Option, Result, Ok, Err}
 use Rattle.domains.specs.declared.Value.{Value}
 use Rattle.domains.specs.declared.Value.TheVariants.{Truth, Whole}
-use Rattle.typed_expr.specs.Values.{whole_of, sum_of, is_related}
+use Rattle.domains.specs.Values.{whole_of}
+use Rattle.typed_expr.specs.Values.{sum_of, is_related}
 use Rattle.typed_expr.specs.Folds.{fold_of, next_of}
 use Rattle.typed_expr.specs.Sets.{HasExactly, HasMoreThan, AtLimit, KeepsLimit, Stopped}
 use Rattle.typed_expr.specs.Yields.{Level, Yields, Some_yields, All_yield, Picks, Picks_parts}

@@ -1,7 +1,8 @@
 -- The folds, a step at a time.
 use Rattle.std.specs.Prelude.{ℤ, pos, Bool, List, fold, if◌then◌else◌}
 use Rattle.domains.specs.declared.Value.{Value}
-use Rattle.typed_expr.specs.Values.{whole_of, added, multiplied, lesser, greater, counted, product_of, least_of, greatest_of, count_of}
+use Rattle.domains.specs.Values.{whole_of}
+use Rattle.typed_expr.specs.Values.{added, multiplied, lesser, greater, counted, product_of, least_of, greatest_of, count_of}
 use Rattle.typed_expr.specs.declared.fold.Step.{Step}
 use Rattle.typed_expr.specs.declared.fold.Step.TheVariants.{Part, Times, Lesser, Greater, Counted}
 

@@ -1,23 +1,10 @@
 -- What the operators make of the values of their operands.
 use Rattle.std.specs.Prelude.{ℤ, pos, ◌+ℤ◌, ◌-ℤ◌, ◌*ℤ◌, Bool, false, not, ◌&&◌, ◌||◌, if◌then◌else◌, List, [], ◌∷◌, fold}
 use Rattle.std.specs.Int.{saturate_signed, w64, int_min, int_max}
-use Rattle.domains.specs.Values.{is_before}
+use Rattle.domains.specs.Values.{is_before, truth_of, whole_of}
 use Rattle.domains.specs.declared.Value.{Value}
-use Rattle.domains.specs.declared.Value.TheVariants.{Truth, Whole, Symbol}
 use Rattle.typed_expr.specs.declared.expr.Relation.{Relation}
 use Rattle.typed_expr.specs.declared.expr.Relation.TheVariants.{Equal, Differs, Less, AtMost, More, AtLeast}
-
--- the truth of a truth value; other values count as false
-abbrev pub truth_of : Value → Bool
-truth_of (Truth b) = b
-truth_of (Whole n) = false
-truth_of (Symbol s) = false
-
--- the number of a whole number; other values count as 0
-abbrev pub whole_of : Value → ℤ
-whole_of (Truth b) = pos 0
-whole_of (Whole n) = n
-whole_of (Symbol s) = pos 0
 
 -- two values are so related, in the order of values
 abbrev pub is_related : Relation → Value → Value → Bool

@@ -2,7 +2,6 @@
 
 ghost use Rattle.std.specs.Prelude.{◌≡◌, []};
 ghost use Rattle.domains.specs.declared.Value.TheVariants.{Whole};
-ghost use Rattle.typed_expr.specs.Values.{truth_of, whole_of};
 ghost use Rattle.typed_expr.specs.Folds.{fold_of, next_of};
 
 use domains::{Value, add, multiply, subtract};
@@ -16,28 +15,6 @@ pub(crate) enum Step {
     Lesser,
     Greater,
     Counted,
-}
-
-// The truth of a truth value.
-pub(crate) fn truth(v: Value) -> bool
-    ensures { result ≡ truth_of v }
-{
-    match v {
-        Value::Truth(b) => b,
-        Value::Whole(_) => false,
-        Value::Symbol(_) => false,
-    }
-}
-
-// The number of a whole number.
-pub(crate) fn whole(v: Value) -> i64
-    ensures { result ≡ whole_of v }
-{
-    match v {
-        Value::Truth(_) => 0,
-        Value::Whole(n) => n,
-        Value::Symbol(_) => 0,
-    }
 }
 
 // The fold of no operand.
@@ -59,22 +36,22 @@ pub(crate) fn next(step: Step, first: bool, so_far: i64, v: Value) -> i64
 {
     match step {
         Step::Part(plus) => if plus {
-            add(so_far, whole(v))
+            add(so_far, v.whole())
         } else {
-            subtract(so_far, whole(v))
+            subtract(so_far, v.whole())
         },
-        Step::Times => multiply(so_far, whole(v)),
+        Step::Times => multiply(so_far, v.whole()),
         Step::Lesser => if first {
-            whole(v)
+            v.whole()
         } else {
-            so_far.min(whole(v))
+            so_far.min(v.whole())
         },
         Step::Greater => if first {
-            whole(v)
+            v.whole()
         } else {
-            so_far.max(whole(v))
+            so_far.max(v.whole())
         },
-        Step::Counted => if truth(v) { add(so_far, 1) } else { so_far },
+        Step::Counted => if v.truth() { add(so_far, 1) } else { so_far },
     }
 }
 

@@ -4,7 +4,8 @@ ghost use Rattle.std.specs.Prelude.{◌≡◌, ◌↔◌, ◌⊎◌, ◌<◌, �
 ghost use Rattle.domains.specs.declared.Value.{Value};
 ghost use Rattle.typed_expr.specs.declared.expr.ValueKind.{ValueKind};
 ghost use Rattle.typed_expr.specs.declared.expr.Expr.{Expr, out-Expr};
-ghost use Rattle.typed_expr.specs.Values.{truth_of, count_of};
+ghost use Rattle.domains.specs.Values.{truth_of};
+ghost use Rattle.typed_expr.specs.Values.{count_of};
 ghost use Rattle.typed_expr.specs.Sets.{HasExactly};
 ghost use Rattle.typed_expr.specs.Yields.{Level, Yields, facts_of};
 ghost use Rattle.typed_expr.specs.Kinds.{kind_of, HasKind, YieldsItsKind};

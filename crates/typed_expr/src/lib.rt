@@ -8,6 +8,7 @@ mod fold;
 mod kinds;
 mod laws;
 mod possible;
+mod relations;
 mod sets;
 mod total;
 mod value_set;

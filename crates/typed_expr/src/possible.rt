@@ -11,9 +11,8 @@ ghost use Rattle.typed_expr.specs.Evaluating.{Evaluates, Tallies, Folds, Sums, C
 use crate::env::Env;
 use crate::expr::Expr;
 use crate::fold::{Step, start_value};
-use crate::sets::{
-    both, either, few_pairs, gathered, joined_where, some_related, stepped, truth_set,
-};
+use crate::relations::some_related;
+use crate::sets::{both, either, gathered, joined_where, stepped, truth_set};
 use crate::value_set::{Stop, ValueSet};
 use ar_base::Memory;
 use domains::Value;
@@ -95,7 +94,6 @@ fn yielded<V, E: Env<V>>(
         Expr::Compare(relation, a, b) => {
             let left = yielded(alloc, a, env, most)?;
             let right = yielded(alloc, b, env, most)?;
-            few_pairs(&left, &right)?;
             let can_be_false = some_related(*relation, left.values(), right.values(), false);
             let can_be_true = some_related(*relation, left.values(), right.values(), true);
             truth_set(alloc, can_be_false, can_be_true, most)

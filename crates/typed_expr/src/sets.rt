@@ -1,37 +1,28 @@
 //! Sets made of sets.
 
 ghost use Rattle.std.specs.Prelude.{◌≡◌, ◌↔◌, ◌⊎◌, IsTrue, IfOk, OnOk, Contains, [], ◌∷◌};
-ghost use Rattle.typed_expr.specs.Values.{is_related, whole_of};
+ghost use Rattle.domains.specs.Values.{whole_of};
 ghost use Rattle.domains.specs.declared.Value.TheVariants.{Whole};
 ghost use Rattle.typed_expr.specs.Folds.{next_of};
 ghost use Rattle.typed_expr.specs.Sets.{Gathers, HasExactly, KeepsLimit};
-ghost use Rattle.typed_expr.specs.Evaluating.{IsTruth, SomeRelated, IsNext};
+ghost use Rattle.typed_expr.specs.Evaluating.{IsTruth, IsNext};
 
-use crate::expr::Relation;
-use crate::fold::{Step, next, whole};
-use crate::value_set::{Stop, ValueSet, before};
-use ar_base::Memory;
+use crate::fold::{Step, next};
+use crate::value_set::{Stop, ValueSet};
+use ar_base::{Cap, Memory};
 use domains::Value;
 use std::alloc::Global;
 
 // The most results of one step of a fold, each value of what it has come to with each of the next operand.
 const MOST_RESULTS: usize = 8_388_608;
 
-// The most pairs of values that one comparison looks at.
-const MOST_PAIRS: usize = 268_435_456;
-
 // As many values as are put in one by one; more are sorted first.
 const FEW: usize = 64;
 
-/// Refuses where a comparison of the sets would look at too many pairs of values.
-pub(crate) fn few_pairs(left: &ValueSet, right: &ValueSet) -> Result<(), Memory> {
-    few(left.values(), right.values(), MOST_PAIRS)
-}
-
-// Refuses where there are more pairs of values of the two lists.
-fn few(first: &[Value], second: &[Value], most: usize) -> Result<(), Memory> {
-    if first.len().saturating_mul(second.len()) > most {
-        return Err(Memory {});
+// Refuses where a step would have more results than the cap.
+fn few_results(numbers: &[Value], values: &[Value]) -> Result<(), Memory> {
+    if numbers.len().saturating_mul(values.len()) > MOST_RESULTS {
+        return Err(Memory::from(Cap::Results));
     }
     Ok(())
 }
@@ -145,49 +136,6 @@ pub(crate) fn truth_set(
     }
 }
 
-// Whether two values are so related.
-pub(crate) fn related(relation: Relation, a: Value, b: Value) -> bool
-    ensures { result ≡ is_related relation a b }
-{
-    match relation {
-        Relation::Equal => !before(a, b) && !before(b, a),
-        Relation::Differs => before(a, b) || before(b, a),
-        Relation::Less => before(a, b),
-        Relation::AtMost => !before(b, a),
-        Relation::More => before(b, a),
-        Relation::AtLeast => !before(a, b),
-    }
-}
-
-// Whether a value of each list are so related, or are not, as is wanted.
-pub(crate) fn some_related(
-    relation: Relation,
-    left: &[Value],
-    right: &[Value],
-    wanted: bool,
-) -> bool
-    ensures { IsTrue result ↔ SomeRelated relation left.now right.now wanted }
-{
-    for a in left {
-        if one_related(relation, *a, right, wanted) {
-            return true;
-        }
-    }
-    false
-}
-
-// The same for one value on the left.
-fn one_related(relation: Relation, a: Value, right: &[Value], wanted: bool) -> bool
-    ensures { IsTrue result ↔ SomeRelated relation (a ∷ []) right.now wanted }
-{
-    for b in right {
-        if related(relation, a, *b) == wanted {
-            return true;
-        }
-    }
-    false
-}
-
 // Each number with each value as the next operand.
 pub(crate) fn stepped(
     alloc: Global,
@@ -202,7 +150,7 @@ pub(crate) fn stepped(
     if numbers.len().saturating_mul(values.len()) <= FEW {
         few_stepped(alloc, step, first, numbers, values, most)
     } else {
-        few(numbers, values, MOST_RESULTS)?;
+        few_results(numbers, values)?;
         let all = results(alloc, step, first, numbers, values)?;
         gathered(alloc, &all, most)
     }
@@ -286,5 +234,5 @@ fn stepped_from(
 fn next_value(step: Step, first: bool, n: Value, v: Value) -> Value
     ensures { result ≡ Whole (next_of step first (whole_of n) v) }
 {
-    Value::Whole(next(step, first, whole(n), v))
+    Value::Whole(next(step, first, n.whole(), v))
 }

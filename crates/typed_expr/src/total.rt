@@ -8,8 +8,8 @@ ghost use Rattle.typed_expr.specs.Total.{value_of, all_true, one_true, first_tru
 
 use crate::env::Env;
 use crate::expr::Expr;
-use crate::fold::{Step, next, start, truth};
-use crate::sets::related;
+use crate::fold::{Step, next, start};
+use crate::relations::related;
 use domains::Value;
 
 /// The value of an expression under the environment's one value for each variable.
@@ -24,7 +24,7 @@ pub fn eval_total<V, E: Env<V>>(expr: &Expr<V>, env: &E) -> Value
     match expr {
         Expr::Constant(v) => *v,
         Expr::Variable(x) => env.value(x),
-        Expr::Not(a) => Value::Truth(!truth(eval_total(a, env))),
+        Expr::Not(a) => Value::Truth(!eval_total(a, env).truth()),
         Expr::All(es) => Value::Truth(all_total(es, env)),
         Expr::Any(es) => Value::Truth(any_total(es, env)),
         Expr::Compare(relation, a, b) => {
@@ -50,7 +50,7 @@ fn all_total<V, E: Env<V>>(es: &[Expr<V>], env: &E) -> bool
     ensures { result ≡ all_true (map (value_of (E.value_at env.now)) es.now) }
 {
     for e in es {
-        if !truth(eval_total(e, env)) {
+        if !eval_total(e, env).truth() {
             return false;
         }
     }
@@ -63,7 +63,7 @@ fn any_total<V, E: Env<V>>(es: &[Expr<V>], env: &E) -> bool
     ensures { result ≡ one_true (map (value_of (E.value_at env.now)) es.now) }
 {
     for e in es {
-        if truth(eval_total(e, env)) {
+        if eval_total(e, env).truth() {
             return true;
         }
     }
@@ -106,7 +106,7 @@ fn chosen<V, E: Env<V>>(cases: &[(Expr<V>, Expr<V>)], env: &E) -> Option<Value>
         )) cases.now) other ≡ unwrap_or result other }
 {
     for (test, value) in cases {
-        if truth(eval_total(test, env)) {
+        if eval_total(test, env).truth() {
             return Some(eval_total(value, env));
         }
     }

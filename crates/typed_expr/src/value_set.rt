@@ -93,7 +93,7 @@ impl ValueSet {
 }
 
 // Where the value goes in, unless it is there.
-fn place_of(v: Value, values: &[Value]) -> Option<usize>
+pub(crate) fn place_of(v: Value, values: &[Value]) -> Option<usize>
     requires { IsAscending values.now }
     ensures { MatchOption result (Contains values.now v) (GoesAt values.now v) }
 {

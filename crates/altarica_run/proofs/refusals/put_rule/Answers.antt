@@ -1,6 +1,6 @@
 use Rattle.std.proofs.Common.{◌≡◌, ◌++◌, List, ℕ, codes, decimal, ap, ◌∙◌}
 use Rattle.ar_base.specs.Texts.{line}
-use Rattle.ar_io.proofs.Writing.{writes_exit, writes_on, writes_cut, writes_as}
+use Rattle.ar_io.proofs.Writing.{writes_exit, writes_on, writes_front, writes_as}
 use Rattle.altarica_run.specs.Refusals.{place_text}
 use Rattle.altarica_run.proofs.LineLemmas.{line_onto}
 use Rattle.altarica_run.proofs.refusals.put_rule.Goals as goal
@@ -16,19 +16,19 @@ ruled n rule place e =
 pub returns-in_err-put : goal.returns-in_err-put
 returns-in_err-put g c =
     writes_exit _ _ c.from_residual.ensures.1
-    (writes_cut _ _ c.in_err-put.ensures)
+    (writes_front _ _ c.in_err-put.ensures)
 
 pub returns-in_err-put_number : goal.returns-in_err-put_number
 returns-in_err-put_number g c =
     writes_exit _ _ c.from_residual-in_err-put_number.ensures.1
     (writes_as _ _ (ruled _ _ (place_text c.args.place) c.from.ensures)
-    (writes_on c.in_ok-put.ensures (writes_cut _ _ c.in_err-put_number.ensures)))
+    (writes_on c.in_ok-put.ensures (writes_front _ _ c.in_err-put_number.ensures)))
 
 pub returns-in_err-put-2 : goal.returns-in_err-put-2
 returns-in_err-put-2 g c =
     writes_exit _ _ c.from_residual-in_err-put-2.ensures.1
     (writes_as _ _ (ruled _ _ (place_text c.args.place) c.from.ensures)
-    (writes_on c.in_ok-put.ensures (writes_on c.in_ok-put_number.ensures (writes_cut _ _ c.in_err-put-2.ensures))))
+    (writes_on c.in_ok-put.ensures (writes_on c.in_ok-put_number.ensures (writes_front _ _ c.in_err-put-2.ensures))))
 
 pub returns : goal.returns
 returns g c =

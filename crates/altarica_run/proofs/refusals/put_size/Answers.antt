@@ -1,7 +1,7 @@
 use Rattle.std.proofs.Common.{◌≡◌, ◌++◌, ◌∷◌, [], List, ℕ, codes, decimal, ap, ◌∙◌, refl}
 use Rattle.ar_base.specs.Counts.{limit_of}
 use Rattle.ar_base.specs.declared.counts.Count.{Count}
-use Rattle.ar_io.proofs.Writing.{writes_exit, writes_on, writes_cut, writes_as}
+use Rattle.ar_io.proofs.Writing.{writes_exit, writes_on, writes_front, writes_as}
 use Rattle.altarica_run.specs.Refusals.{count_text, line_of}
 use Rattle.altarica_run.specs.declared.refusals.Refusal.TheVariants.{Size}
 use Rattle.altarica_run.proofs.LineLemmas.{line_four}
@@ -18,26 +18,26 @@ sized count what limit e i =
 pub returns-in_err-put : goal.returns-in_err-put
 returns-in_err-put g c =
     writes_exit _ _ c.from_residual.ensures.1
-    (writes_cut _ _ c.in_err-put.ensures)
+    (writes_front _ _ c.in_err-put.ensures)
 
 pub returns-in_err-put-2 : goal.returns-in_err-put-2
 returns-in_err-put-2 g c =
     writes_exit _ _ c.from_residual-in_err-put-2.ensures.1
     (writes_as _ _ (sized c.args.count _ _ c.count_text.ensures refl)
-    (writes_on c.in_ok-put.ensures (writes_cut _ _ c.in_err-put-2.ensures)))
+    (writes_on c.in_ok-put.ensures (writes_front _ _ c.in_err-put-2.ensures)))
 
 pub returns-in_err-put-3 : goal.returns-in_err-put-3
 returns-in_err-put-3 g c =
     writes_exit _ _ c.from_residual-in_err-put-3.ensures.1
     (writes_as _ _ (sized c.args.count _ _ c.count_text.ensures refl)
-    (writes_on c.in_ok-put.ensures (writes_on c.in_ok-put-2.ensures (writes_cut _ _ c.in_err-put-3.ensures))))
+    (writes_on c.in_ok-put.ensures (writes_on c.in_ok-put-2.ensures (writes_front _ _ c.in_err-put-3.ensures))))
 
 pub returns-in_err-put_number : goal.returns-in_err-put_number
 returns-in_err-put_number g c =
     writes_exit _ _ c.from_residual-in_err-put_number.ensures.1
     (writes_as _ _ (sized c.args.count _ _ c.count_text.ensures c.limit.ensures)
     (writes_on c.in_ok-put.ensures (writes_on c.in_ok-put-2.ensures
-    (writes_on c.in_ok-put-3.ensures (writes_cut _ _ c.in_err-put_number.ensures)))))
+    (writes_on c.in_ok-put-3.ensures (writes_front _ _ c.in_err-put_number.ensures)))))
 
 pub returns : goal.returns
 returns g c =

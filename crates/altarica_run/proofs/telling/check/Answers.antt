@@ -1,5 +1,5 @@
 use Rattle.std.proofs.Common.{◌≡◌, ◌∙◌, ℕ, ◌++◌, ◌∷◌, [], codes, decimal, length, refl, ap, rules}
-use Rattle.ar_io.proofs.Writing.{writes_exit, writes_on, writes_cut, writes_as}
+use Rattle.ar_io.proofs.Writing.{writes_exit, writes_on, writes_front, writes_as}
 use Rattle.gts_core.specs.declared.system.GtsParts.{GtsParts}
 use Rattle.altarica_run.specs.Tells.{counts_line}
 use Rattle.altarica_run.proofs.LineLemmas.{line_counts, counts_same}
@@ -23,7 +23,7 @@ returns-in_err-put_many g c =
     let units : c.len.result ≡ length c.parts-parts.result.now.units.items = search rules in
     writes_exit _ _ c.from_residual.ensures.1
     (writes_as _ _ (parts_line c.parts-parts.ensures.parts c.len.result _ _ _ units refl refl refl)
-    (writes_cut _ _ c.in_err-put_many.ensures))
+    (writes_front _ _ c.in_err-put_many.ensures))
 
 pub returns-in_err-put_many-2 : goal.returns-in_err-put_many-2
 returns-in_err-put_many-2 g c =
@@ -31,7 +31,7 @@ returns-in_err-put_many-2 g c =
     let variables : c.len-2.result ≡ length c.parts-parts.result.now.variables.items = search rules in
     writes_exit _ _ c.from_residual-in_err-put_many-2.ensures.1
     (writes_as _ _ (parts_line c.parts-parts.ensures.parts c.len.result c.len-2.result _ _ units variables refl refl)
-    (writes_on c.in_ok-put_many.ensures (writes_cut _ _ c.in_err-put_many-2.ensures)))
+    (writes_on c.in_ok-put_many.ensures (writes_front _ _ c.in_err-put_many-2.ensures)))
 
 pub returns-in_err-put_many-3 : goal.returns-in_err-put_many-3
 returns-in_err-put_many-3 g c =
@@ -42,7 +42,7 @@ returns-in_err-put_many-3 g c =
     (writes_as _ _
     (parts_line c.parts-parts.ensures.parts c.len.result c.len-2.result c.len-3.result _ units variables events refl)
     (writes_on c.in_ok-put_many.ensures
-    (writes_on c.in_ok-put_many-2.ensures (writes_cut _ _ c.in_err-put_many-3.ensures))))
+    (writes_on c.in_ok-put_many-2.ensures (writes_front _ _ c.in_err-put_many-3.ensures))))
 
 pub returns-in_err-put_many-4 : goal.returns-in_err-put_many-4
 returns-in_err-put_many-4 g c =
@@ -53,7 +53,7 @@ returns-in_err-put_many-4 g c =
     writes_exit _ _ c.from_residual-in_err-put_many-4.ensures.1
     (writes_as _ _ (parts_line c.parts-parts.ensures.parts _ _ _ _ units variables events observers)
     (writes_on c.in_ok-put_many.ensures (writes_on c.in_ok-put_many-2.ensures
-    (writes_on c.in_ok-put_many-3.ensures (writes_cut _ _ c.in_err-put_many-4.ensures)))))
+    (writes_on c.in_ok-put_many-3.ensures (writes_front _ _ c.in_err-put_many-4.ensures)))))
 
 pub returns : goal.returns
 returns g c =

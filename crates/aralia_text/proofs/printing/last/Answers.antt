@@ -1,21 +1,21 @@
-use Rattle.ar_io.proofs.Writing.{writes_exit, writes_on, writes_cut}
+use Rattle.ar_io.proofs.Writing.{writes_exit, writes_on, writes_front}
 use Rattle.aralia_text.proofs.printing.last.Goals as goal
 
 pub returns-in_err-write_text : goal.returns-in_err-write_text
-returns-in_err-write_text g c = writes_exit _ _ c.from_residual.ensures.1 (writes_cut _ _ c.in_err-write_text.ensures)
+returns-in_err-write_text g c = writes_exit _ _ c.from_residual.ensures.1 (writes_front _ _ c.in_err-write_text.ensures)
 
 pub returns-in_err-operand : goal.returns-in_err-operand
 returns-in_err-operand g c = writes_exit _ _ c.from_residual-in_err-operand.ensures.1
-    (writes_on c.in_ok-write_text.ensures (writes_cut _ _ c.in_err-operand.ensures))
+    (writes_on c.in_ok-write_text.ensures (writes_front _ _ c.in_err-operand.ensures))
 
 pub returns-in_err-write_text-2 : goal.returns-in_err-write_text-2
 returns-in_err-write_text-2 g c = writes_exit _ _ c.from_residual-in_err-write_text-2.ensures.1
-    (writes_on c.in_ok-write_text.ensures (writes_on c.in_ok-operand.ensures (writes_cut _ _ c.in_err-write_text-2.ensures)))
+    (writes_on c.in_ok-write_text.ensures (writes_on c.in_ok-operand.ensures (writes_front _ _ c.in_err-write_text-2.ensures)))
 
 pub returns-in_err-operand-2 : goal.returns-in_err-operand-2
 returns-in_err-operand-2 g c = writes_exit _ _ c.from_residual-in_err-operand-2.ensures.1
     (writes_on c.in_ok-write_text.ensures (writes_on c.in_ok-operand.ensures
-    (writes_on c.in_ok-write_text-2.ensures (writes_cut _ _ c.in_err-operand-2.ensures))))
+    (writes_on c.in_ok-write_text-2.ensures (writes_front _ _ c.in_err-operand-2.ensures))))
 
 pub returns : goal.returns
 returns g c = writes_on c.in_ok-write_text.ensures

@@ -1,5 +1,5 @@
 use Rattle.std.proofs.Common.{◌+◌, List, drop, map}
-use Rattle.ar_io.proofs.Writing.{writes_exit, leaves_all, leaves_on, leaves_cut, leaves_none, next_item, no_item}
+use Rattle.ar_io.proofs.Writing.{writes_exit, leaves_all, leaves_on, leaves_front, leaves_none, next_item, no_item}
 use Rattle.eq_core.specs.Views.{gate_of}
 use Rattle.eq_core.specs.declared.joints.Gate.{Gate}
 use Rattle.aralia_text.specs.Texts.{gate_lines}
@@ -11,7 +11,7 @@ loop-n-init g c = leaves_all _ _
 pub returns-in_err-line : goal.returns-in_err-line
 returns-in_err-line g c =
     writes_exit _ _ c.from_residual.ensures.1
-    (leaves_cut (gate_lines c.args.events.now c.loop-n.n (map gate_of (drop c.loop-n.n c.args.gates.now)))
+    (leaves_front (gate_lines c.args.events.now c.loop-n.n (map gate_of (drop c.loop-n.n c.args.gates.now)))
     (gate_lines c.args.events.now (c.loop-n.n + 1) (map gate_of (drop (c.loop-n.n + 1) c.args.gates.now)))
     c.loop-n.invariant c.in_err-line.ensures
     (next_item (λ (xs : List Gate). gate_lines c.args.events.now c.loop-n.n (map gate_of xs)) c.args.gates.now

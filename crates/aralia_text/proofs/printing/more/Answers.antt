@@ -1,5 +1,5 @@
 use Rattle.std.proofs.Common.{List, map}
-use Rattle.ar_io.proofs.Writing.{writes_exit, leaves_all, leaves_on, leaves_cut, leaves_none, next_read, no_item}
+use Rattle.ar_io.proofs.Writing.{writes_exit, leaves_all, leaves_on, leaves_front, leaves_none, next_read, no_item}
 use Rattle.eq_core.specs.Views.{all_needed, operand_of}
 use Rattle.eq_core.specs.declared.joints.Operand.{Operand}
 use Rattle.aralia_text.specs.Texts.{more_text}
@@ -11,7 +11,7 @@ loop-one-init g c = leaves_all _ _
 pub returns-in_err-joined : goal.returns-in_err-joined
 returns-in_err-joined g c =
     writes_exit _ _ c.from_residual.ensures.1
-    (leaves_cut _ _ c.loop-one.invariant c.in_err-joined.ensures
+    (leaves_front _ _ c.loop-one.invariant c.in_err-joined.ensures
     (next_read (λ (xs : List Operand). more_text c.args.events.now (all_needed c.args.joint) (map operand_of xs))
     c.args.operands.now c.loop-one.one-index _ c.loop-one-test.true))
 

@@ -1,5 +1,5 @@
 use Rattle.std.proofs.Common.{◌≡◌, ◌∷◌, List, ap, map, sym, ◌∙◌}
-use Rattle.ar_io.proofs.Writing.{writes_exit, writes_on, writes_cut, writes_as}
+use Rattle.ar_io.proofs.Writing.{writes_exit, writes_on, writes_front, writes_as}
 use Rattle.eq_core.specs.Views.{all_needed, operand_of}
 use Rattle.eq_core.specs.declared.joints.Operand.{Operand}
 use Rattle.aralia_text.specs.Texts.{operands_text}
@@ -12,7 +12,7 @@ returns-in_err-operand g c =
     writes_exit _ _ c.from_residual.ensures.1
     (writes_as _ _ (ap (λ (z : List Operand). operands_text c.args.events.now (all_needed c.args.gate.now.joint)
     (map operand_of z)) (sym e))
-    (writes_cut _ _ c.in_err-operand.ensures))
+    (writes_front _ _ c.in_err-operand.ensures))
 
 pub returns : goal.returns
 returns g c =

@@ -1,5 +1,5 @@
 use Rattle.std.proofs.Common.{◌&&◌, Bool, ap, sym, ◌∙◌}
-use Rattle.ar_io.proofs.Writing.{writes_exit, writes_on, writes_cut, writes_as}
+use Rattle.ar_io.proofs.Writing.{writes_exit, writes_on, writes_front, writes_as}
 use Rattle.min_cuts.specs.Kept.{numbers}
 use Rattle.check_text.proofs.Listing.{listed_yes, listed_not, missing_none, missing_some, and_false, on_ok}
 use Rattle.check_text.proofs.printing.missing_line.Goals as goal
@@ -25,14 +25,14 @@ pub returns-in_err-put-clause-text : goal.returns-in_err-put-clause-text
 returns-in_err-put-clause-text g c = λ lines are.
     writes_exit _ _ c.from_residual.ensures.1
     (writes_as _ _ (missing_some c.args.gts.now c.args.ways.now lines (numbers c.args.events.now)
-    (c.if-has.ensures.answer c.args.gts.now lines are)) (writes_cut _ _ c.in_err-put.ensures))
+    (c.if-has.ensures.answer c.args.gts.now lines are)) (writes_front _ _ c.in_err-put.ensures))
 
 pub returns-in_err-write_set-clause-text : goal.returns-in_err-write_set-clause-text
 returns-in_err-write_set-clause-text g c = λ lines are.
     writes_exit _ _ c.from_residual-in_err-write_set.ensures.1
     (writes_as _ _ (missing_some c.args.gts.now c.args.ways.now lines (numbers c.args.events.now)
     (c.if-has.ensures.answer c.args.gts.now lines are))
-    (writes_on c.in_ok-put.ensures (writes_cut _ _ c.in_err-write_set.ensures)))
+    (writes_on c.in_ok-put.ensures (writes_front _ _ c.in_err-write_set.ensures)))
 
 pub returns-clause-text : goal.returns-clause-text
 returns-clause-text g c = λ lines are.

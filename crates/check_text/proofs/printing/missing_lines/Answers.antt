@@ -1,5 +1,5 @@
 use Rattle.std.proofs.Common.{◌&&◌, Bool, List, ℕ, ap, sym, ◌∙◌}
-use Rattle.ar_io.proofs.Writing.{writes_exit, leaves_on, leaves_cut}
+use Rattle.ar_io.proofs.Writing.{writes_exit, leaves_on, leaves_front}
 use Rattle.check_text.specs.Printed.{missing_at, all_listed}
 use Rattle.check_text.proofs.Listing.{and_then, first_numbers, rest_numbers}
 use Rattle.cut_text.proofs.Pieces.{gives_some, all_first, all_rest}
@@ -24,7 +24,7 @@ missing_line-requires-clause-sets g c = record {
 pub returns-in_err-missing_line-clause-text : goal.returns-in_err-missing_line-clause-text
 returns-in_err-missing_line-clause-text g c = λ lines are.
     writes_exit _ _ c.from_residual.ensures.1
-    (leaves_cut _ _ (c.loop-events.invariant.text lines are)
+    (leaves_front _ _ (c.loop-events.invariant.text lines are)
     (c.in_err-missing_line.ensures.text lines (c.loop-events.invariant.sets lines are))
     (ap (λ (z : List (List ℕ)). missing_at c.args.gts.now c.args.ways.now lines z) c.in-Some.ensures.first.1))
 

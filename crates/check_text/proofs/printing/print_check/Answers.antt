@@ -1,7 +1,7 @@
 use Rattle.std.proofs.Common.{◌≡◌, ◌&&◌, ◌∙◌, Bool, List, Err, refl, ap, sym, subst}
 use Rattle.std.proofs.lemmas.Result.{err_from_is_err_and}
 use Rattle.ar_base.specs.Numbers.{WayId}
-use Rattle.ar_io.proofs.Writing.{writes_on, writes_cut, writes_as}
+use Rattle.ar_io.proofs.Writing.{writes_on, writes_front, writes_as}
 use Rattle.mode_trees.specs.declared.forests.ModeTree.{ModeTree}
 use Rattle.cut_check.specs.Flat.{chain_lines}
 use Rattle.cut_text.specs.Printed.{edges_of}
@@ -36,7 +36,7 @@ returns-in_err-verdict_lines g c =
     failed c.from_residual-in_err-verdict_lines.result (r.1 ∙ ap Err r.2)
     (writes_as _ _ (whole_text (edges_of ts) c.requires.one_way c.in_ok-ways.ways.items c.in_ok-ways.ensures
     c.args.gts.now c.args.chains.now c.args.verdicts.now c.args.lister c.requires.known _ refl)
-    (writes_cut _ _ c.in_err-verdict_lines.ensures))
+    (writes_front _ _ c.in_err-verdict_lines.ensures))
 
 pub returns-in_err-missing_lines : goal.returns-in_err-missing_lines
 returns-in_err-missing_lines g c =
@@ -47,7 +47,7 @@ returns-in_err-missing_lines g c =
     failed c.from_residual-in_err-missing_lines.result (r.1 ∙ ap Err r.2)
     (writes_as _ _ (whole_text (edges_of ts) c.requires.one_way c.deref.result.now are c.args.gts.now c.args.chains.now
     c.args.verdicts.now c.args.lister c.requires.known _ refl)
-    (writes_on c.in_ok-verdict_lines.ensures (writes_cut _ _ (c.in_err-missing_lines.ensures.text (chain_lines c.args.gts.now c.args.chains.now) c.in_ok-sets.ensures))))
+    (writes_on c.in_ok-verdict_lines.ensures (writes_front _ _ (c.in_err-missing_lines.ensures.text (chain_lines c.args.gts.now c.args.chains.now) c.in_ok-sets.ensures))))
 
 pub returns-in_err-answer : goal.returns-in_err-answer
 returns-in_err-answer g c =

@@ -1,4 +1,4 @@
-use Rattle.ar_io.proofs.Writing.{writes_exit, writes_on, writes_cut, writes_as}
+use Rattle.ar_io.proofs.Writing.{writes_exit, writes_on, writes_front, writes_as}
 use Rattle.cut_text.proofs.ForestPieces.{edge_written}
 use Rattle.cut_text.proofs.forest_printing.edge_line.Goals as goal
 
@@ -6,26 +6,26 @@ pub returns-in_err-put : goal.returns-in_err-put
 returns-in_err-put g c =
     writes_exit _ _ c.from_residual.ensures.1
     (writes_as _ _ (edge_written c.args.gts.now c.parts-parts.result.now c.args.edge c.parts-parts.ensures.parts)
-    (writes_cut _ _ c.in_err-put.ensures))
+    (writes_front _ _ c.in_err-put.ensures))
 
 pub returns-in_err-value : goal.returns-in_err-value
 returns-in_err-value g c =
     writes_exit _ _ c.from_residual-in_err-value.ensures.1
     (writes_as _ _ (edge_written c.args.gts.now c.parts-parts.result.now c.args.edge c.parts-parts.ensures.parts)
-    (writes_on c.in_ok-put.ensures (writes_cut _ _ c.in_err-value.ensures)))
+    (writes_on c.in_ok-put.ensures (writes_front _ _ c.in_err-value.ensures)))
 
 pub returns-in_err-put-2 : goal.returns-in_err-put-2
 returns-in_err-put-2 g c =
     writes_exit _ _ c.from_residual-in_err-put-2.ensures.1
     (writes_as _ _ (edge_written c.args.gts.now c.parts-parts.result.now c.args.edge c.parts-parts.ensures.parts)
-    (writes_on c.in_ok-put.ensures (writes_on c.in_ok-value.ensures (writes_cut _ _ c.in_err-put-2.ensures))))
+    (writes_on c.in_ok-put.ensures (writes_on c.in_ok-value.ensures (writes_front _ _ c.in_err-put-2.ensures))))
 
 pub returns-in_err-print_label : goal.returns-in_err-print_label
 returns-in_err-print_label g c =
     writes_exit _ _ c.from_residual-in_err-print_label.ensures.1
     (writes_as _ _ (edge_written c.args.gts.now c.parts-parts.result.now c.args.edge c.parts-parts.ensures.parts)
     (writes_on c.in_ok-put.ensures (writes_on c.in_ok-value.ensures
-    (writes_on c.in_ok-put-2.ensures (writes_cut _ _ c.in_err-print_label.ensures)))))
+    (writes_on c.in_ok-put-2.ensures (writes_front _ _ c.in_err-print_label.ensures)))))
 
 pub returns-in_err-put-3 : goal.returns-in_err-put-3
 returns-in_err-put-3 g c =
@@ -33,7 +33,7 @@ returns-in_err-put-3 g c =
     (writes_as _ _ (edge_written c.args.gts.now c.parts-parts.result.now c.args.edge c.parts-parts.ensures.parts)
     (writes_on c.in_ok-put.ensures (writes_on c.in_ok-value.ensures
     (writes_on c.in_ok-put-2.ensures (writes_on c.in_ok-print_label.ensures
-    (writes_cut _ _ c.in_err-put-3.ensures))))))
+    (writes_front _ _ c.in_err-put-3.ensures))))))
 
 pub returns-in_err-value-2 : goal.returns-in_err-value-2
 returns-in_err-value-2 g c =
@@ -41,7 +41,7 @@ returns-in_err-value-2 g c =
     (writes_as _ _ (edge_written c.args.gts.now c.parts-parts.result.now c.args.edge c.parts-parts.ensures.parts)
     (writes_on c.in_ok-put.ensures (writes_on c.in_ok-value.ensures
     (writes_on c.in_ok-put-2.ensures (writes_on c.in_ok-print_label.ensures
-    (writes_on c.in_ok-put-3.ensures (writes_cut _ _ c.in_err-value-2.ensures)))))))
+    (writes_on c.in_ok-put-3.ensures (writes_front _ _ c.in_err-value-2.ensures)))))))
 
 pub returns : goal.returns
 returns g c =

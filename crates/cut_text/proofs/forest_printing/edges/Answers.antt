@@ -1,6 +1,6 @@
 use Rattle.std.proofs.Common.{List}
 use Rattle.ar_base.proofs.Standing.{one_here, stands_get}
-use Rattle.ar_io.proofs.Writing.{writes_exit, leaves_all, leaves_on, leaves_cut, leaves_none, next_read, no_item}
+use Rattle.ar_io.proofs.Writing.{writes_exit, leaves_all, leaves_on, leaves_front, leaves_none, next_read, no_item}
 use Rattle.mode_trees.specs.declared.forests.Edge.{Edge}
 use Rattle.cut_text.specs.ForestPrinted.{edge_lines}
 use Rattle.cut_text.proofs.forest_printing.edges.Goals as goal
@@ -11,7 +11,7 @@ loop-edge-init g c = leaves_all _ _
 pub returns-in_err-edge_line : goal.returns-in_err-edge_line
 returns-in_err-edge_line g c =
     writes_exit _ _ c.from_residual.ensures.1
-    (leaves_cut _ _ c.loop-edge.invariant c.in_err-edge_line.ensures
+    (leaves_front _ _ c.loop-edge.invariant c.in_err-edge_line.ensures
     (next_read (λ (xs : List Edge). edge_lines c.args.gts.now xs) c.args.edges.now c.loop-edge.edge-index _
     c.loop-edge-test.true))
 

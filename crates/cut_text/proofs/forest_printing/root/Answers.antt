@@ -1,30 +1,30 @@
-use Rattle.ar_io.proofs.Writing.{writes_exit, writes_on, writes_cut, writes_as}
+use Rattle.ar_io.proofs.Writing.{writes_exit, writes_on, writes_front, writes_as}
 use Rattle.cut_text.proofs.ForestPieces.{root_written}
 use Rattle.cut_text.proofs.forest_printing.root.Goals as goal
 
 pub returns-in_err-put : goal.returns-in_err-put
 returns-in_err-put g c =
     writes_exit _ _ c.from_residual.ensures.1
-    (writes_cut _ _ c.in_err-put.ensures)
+    (writes_front _ _ c.in_err-put.ensures)
 
 pub returns-in_err-put-2 : goal.returns-in_err-put-2
 returns-in_err-put-2 g c =
     writes_exit _ _ c.from_residual-in_err-put-2.ensures.1
     (writes_as _ _ (root_written c.args.parts.now c.args.tree.now _ c.variable_path.ensures)
-    (writes_on c.in_ok-put.ensures (writes_cut _ _ c.in_err-put-2.ensures)))
+    (writes_on c.in_ok-put.ensures (writes_front _ _ c.in_err-put-2.ensures)))
 
 pub returns-in_err-put-3 : goal.returns-in_err-put-3
 returns-in_err-put-3 g c =
     writes_exit _ _ c.from_residual-in_err-put-3.ensures.1
     (writes_as _ _ (root_written c.args.parts.now c.args.tree.now _ c.variable_path.ensures)
-    (writes_on c.in_ok-put.ensures (writes_on c.in_ok-put-2.ensures (writes_cut _ _ c.in_err-put-3.ensures))))
+    (writes_on c.in_ok-put.ensures (writes_on c.in_ok-put-2.ensures (writes_front _ _ c.in_err-put-3.ensures))))
 
 pub returns-in_err-value : goal.returns-in_err-value
 returns-in_err-value g c =
     writes_exit _ _ c.from_residual-in_err-value.ensures.1
     (writes_as _ _ (root_written c.args.parts.now c.args.tree.now _ c.variable_path.ensures)
     (writes_on c.in_ok-put.ensures (writes_on c.in_ok-put-2.ensures
-    (writes_on c.in_ok-put-3.ensures (writes_cut _ _ c.in_err-value.ensures)))))
+    (writes_on c.in_ok-put-3.ensures (writes_front _ _ c.in_err-value.ensures)))))
 
 pub returns : goal.returns
 returns g c =

@@ -1,5 +1,5 @@
 use Rattle.std.proofs.Common.{List}
-use Rattle.ar_io.proofs.Writing.{writes_exit, leaves_all, leaves_on, leaves_cut, leaves_none, next_item, no_item}
+use Rattle.ar_io.proofs.Writing.{writes_exit, leaves_all, leaves_on, leaves_front, leaves_none, next_item, no_item}
 use Rattle.mode_trees.specs.declared.forests.ModeTree.{ModeTree}
 use Rattle.cut_text.specs.ForestPrinted.{trees_text}
 use Rattle.cut_text.proofs.forest_printing.trees.Goals as goal
@@ -10,7 +10,7 @@ loop-one-init g c = leaves_all _ _
 pub returns-in_err-tree : goal.returns-in_err-tree
 returns-in_err-tree g c =
     writes_exit _ _ c.from_residual.ensures.1
-    (leaves_cut _ _ c.loop-one.invariant c.in_err-tree.ensures
+    (leaves_front _ _ c.loop-one.invariant c.in_err-tree.ensures
     (next_item (λ (xs : List ModeTree). trees_text c.args.gts.now xs) c.args.trees.now c.loop-one.one-index
     c.one-item.result c.loop-one-test.true c.one-item.is))
 

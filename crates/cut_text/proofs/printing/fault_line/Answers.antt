@@ -1,4 +1,4 @@
-use Rattle.ar_io.proofs.Writing.{writes_exit, writes_on, writes_cut, writes_as}
+use Rattle.ar_io.proofs.Writing.{writes_exit, writes_on, writes_front, writes_as}
 use Rattle.ar_meaning.specs.TraceText.{flow_fault_text}
 use Rattle.flow_propagate.specs.Answers.{fault_of}
 use Rattle.gts_flatten.specs.Flat.{naming_of_parts}
@@ -13,21 +13,21 @@ returns-in_err-put g c =
     writes_exit _ _ c.from_residual.ensures.1
     (writes_as _ _ (fault_pieces (braced (texts_at c.args.gts.now c.args.ways.now (numbers c.args.events.now)))
     (flow_fault_text (naming_of_parts c.args.gts.now) (fault_of c.args.fault)))
-    (writes_cut _ _ c.in_err-put.ensures))
+    (writes_front _ _ c.in_err-put.ensures))
 
 pub returns-in_err-write_set : goal.returns-in_err-write_set
 returns-in_err-write_set g c =
     writes_exit _ _ c.from_residual-in_err-write_set.ensures.1
     (writes_as _ _ (fault_pieces (braced (texts_at c.args.gts.now c.args.ways.now (numbers c.args.events.now)))
     (flow_fault_text (naming_of_parts c.args.gts.now) (fault_of c.args.fault)))
-    (writes_on c.in_ok-put.ensures (writes_cut _ _ c.in_err-write_set.ensures)))
+    (writes_on c.in_ok-put.ensures (writes_front _ _ c.in_err-write_set.ensures)))
 
 pub returns-in_err-put-2 : goal.returns-in_err-put-2
 returns-in_err-put-2 g c =
     writes_exit _ _ c.from_residual-in_err-put-2.ensures.1
     (writes_as _ _ (fault_pieces (braced (texts_at c.args.gts.now c.args.ways.now (numbers c.args.events.now)))
     (flow_fault_text (naming_of_parts c.args.gts.now) (fault_of c.args.fault)))
-    (writes_on c.in_ok-put.ensures (writes_on c.in_ok-write_set.ensures (writes_cut _ _ c.in_err-put-2.ensures))))
+    (writes_on c.in_ok-put.ensures (writes_on c.in_ok-write_set.ensures (writes_front _ _ c.in_err-put-2.ensures))))
 
 pub returns-in_err-print_flow_fault : goal.returns-in_err-print_flow_fault
 returns-in_err-print_flow_fault g c =
@@ -35,7 +35,7 @@ returns-in_err-print_flow_fault g c =
     (writes_as _ _ (fault_pieces (braced (texts_at c.args.gts.now c.args.ways.now (numbers c.args.events.now)))
     (flow_fault_text (naming_of_parts c.args.gts.now) (fault_of c.args.fault)))
     (writes_on c.in_ok-put.ensures (writes_on c.in_ok-write_set.ensures
-    (writes_on c.in_ok-put-2.ensures (writes_cut _ _ c.in_err-print_flow_fault.ensures)))))
+    (writes_on c.in_ok-put-2.ensures (writes_front _ _ c.in_err-print_flow_fault.ensures)))))
 
 pub returns : goal.returns
 returns g c =

@@ -1,7 +1,7 @@
 use Rattle.std.proofs.Common.{List, ap, sym, true, codes}
 use Rattle.ar_base.specs.Numbers.{EventId}
 use Rattle.ar_base.specs.Texts.{separated}
-use Rattle.ar_io.proofs.Writing.{writes_exit, writes_on, writes_cut, writes_as}
+use Rattle.ar_io.proofs.Writing.{writes_exit, writes_on, writes_front, writes_as}
 use Rattle.min_cuts.specs.Kept.{numbers}
 use Rattle.cut_text.specs.Tables.{texts_at}
 use Rattle.cut_text.proofs.Pieces.{have_first, have_rest}
@@ -22,7 +22,7 @@ returns-in_err-label g c =
     writes_exit _ _ c.from_residual.ensures.1
     (writes_as _ _ (ap (λ (z : List EventId). separated true (codes ", ")
     (texts_at c.args.gts.now c.args.ways.now (numbers z))) (sym c.in-Some.ensures.cases.0))
-    (writes_cut _ _ c.in_err-label.ensures))
+    (writes_front _ _ c.in_err-label.ensures))
 
 pub returns : goal.returns
 returns g c =

@@ -1,7 +1,7 @@
 use Rattle.std.proofs.Common.{List, false, codes}
 use Rattle.ar_base.specs.Numbers.{EventId}
 use Rattle.ar_base.specs.Texts.{separated}
-use Rattle.ar_io.proofs.Writing.{writes_exit, leaves_all, leaves_on, leaves_cut, leaves_none, next_read, no_item}
+use Rattle.ar_io.proofs.Writing.{writes_exit, leaves_all, leaves_on, leaves_front, leaves_none, next_read, no_item}
 use Rattle.min_cuts.specs.Kept.{numbers}
 use Rattle.cut_text.specs.Tables.{texts_at}
 use Rattle.cut_text.proofs.Pieces.{have_here}
@@ -18,7 +18,7 @@ next_label-requires g c =
 pub returns-in_err-next_label : goal.returns-in_err-next_label
 returns-in_err-next_label g c =
     writes_exit _ _ c.from_residual.ensures.1
-    (leaves_cut _ _ c.loop-event.invariant c.in_err-next_label.ensures
+    (leaves_front _ _ c.loop-event.invariant c.in_err-next_label.ensures
     (next_read (λ (xs : List EventId). separated false (codes ", ")
     (texts_at c.args.gts.now c.args.ways.now (numbers xs))) c.args.events.now c.loop-event.event-index _
     c.loop-event-test.true))

@@ -1,7 +1,7 @@
 use Rattle.std.proofs.Common.{◌++◌, ◌∙◌, ℕ, List, Err, ap, sym, subst}
 use Rattle.std.proofs.lemmas.Result.{err_from_is_err_and}
 use Rattle.ar_base.specs.Numbers.{WayId}
-use Rattle.ar_io.proofs.Writing.{writes_on, writes_cut, writes_as}
+use Rattle.ar_io.proofs.Writing.{writes_on, writes_front, writes_as}
 use Rattle.mode_trees.specs.declared.forests.ModeTree.{ModeTree}
 use Rattle.cut_text.specs.Printed.{edges_of}
 use Rattle.cut_text.specs.Tables.{AreWaysOf}
@@ -26,7 +26,7 @@ returns-in_err-set_lines g c =
     (writes_as _ _ (ap (λ (z : List ℕ). z ++ count_line c.args.count)
     (same_lines (edges_of ts) c.requires.one_way c.deref.result.now are c.args.gts.now c.args.lister
     c.requires.known))
-    (writes_cut _ (count_line c.args.count) c.in_err-set_lines.ensures))
+    (writes_front _ (count_line c.args.count) c.in_err-set_lines.ensures))
 
 pub returns-in_err-print_count : goal.returns-in_err-print_count
 returns-in_err-print_count g c =

@@ -1,5 +1,5 @@
 use Rattle.std.proofs.Common.{List, ℕ, ap}
-use Rattle.ar_io.proofs.Writing.{writes_exit, leaves_on, leaves_cut}
+use Rattle.ar_io.proofs.Writing.{writes_exit, leaves_on, leaves_front}
 use Rattle.cut_text.specs.Tables.{lines_at}
 use Rattle.cut_text.proofs.Pieces.{gives_some, all_first, all_rest}
 use Rattle.cut_text.proofs.printing.set_lines.Goals as goal
@@ -22,5 +22,5 @@ loop-events-preserved g c =
 pub returns-in_err-set_line : goal.returns-in_err-set_line
 returns-in_err-set_line g c =
     writes_exit _ _ c.from_residual.ensures.1
-    (leaves_cut _ _ c.loop-events.invariant.0 c.in_err-set_line.ensures
+    (leaves_front _ _ c.loop-events.invariant.0 c.in_err-set_line.ensures
     (ap (λ (z : List (List ℕ)). lines_at c.args.gts.now c.args.ways.now z) c.in-Some.ensures.first.1))

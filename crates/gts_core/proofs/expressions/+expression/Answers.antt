@@ -2,7 +2,7 @@ use Rattle.std.proofs.Common.{◌≡◌, ◌++◌, ◌∙◌, ap, map, codes, Li
 use Rattle.std.specs.List.{concat}
 use Rattle.ar_base.specs.Texts.{separated}
 use Rattle.typed_expr.specs.declared.expr.Expr.{Expr}
-use Rattle.ar_io.proofs.Writing.{writes_on, writes_cut, writes_exit, writes_as, leaves_all, leaves_on, leaves_cut, leaves_none, next_item, no_item}
+use Rattle.ar_io.proofs.Writing.{writes_on, writes_front, writes_exit, writes_as, leaves_all, leaves_on, leaves_front, leaves_none, next_item, no_item}
 use Rattle.ar_base.specs.Numbers.{VarId}
 use Rattle.gts_core.specs.Printed.{expr_text, summed, case_form, cases_form}
 use Rattle.gts_core.proofs.Texts.{not_text, all_text, any_text, product_text, least_text, greatest_text, count_text, compare_text, sum_text, choose_text, case_text, texts}
@@ -23,12 +23,12 @@ expression-returns-in-Sum g t c =
 pub opposite-returns-in_err-put : goal.opposite-returns-in_err-put
 opposite-returns-in_err-put g t c =
     writes_exit _ _ c.from_residual.ensures.1
-    (writes_cut _ _ c.in_err-put.ensures)
+    (writes_front _ _ c.in_err-put.ensures)
 
 pub opposite-returns-in_err-expression : goal.opposite-returns-in_err-expression
 opposite-returns-in_err-expression g t c =
     writes_exit _ _ c.from_residual-in_err-expression.ensures.1
-    (writes_cut _ _ (writes_on c.in_ok-put.ensures c.in_err-expression.ensures))
+    (writes_front _ _ (writes_on c.in_ok-put.ensures c.in_err-expression.ensures))
 
 pub opposite-returns : goal.opposite-returns
 opposite-returns g t c =
@@ -75,14 +75,14 @@ expression-returns-in_err-put-in-Compare g t c =
     writes_exit _ _ c.from_residual.ensures.1
     (writes_as _ _ (compare_text c.args.parts.now c.args.expr.now c.in-Compare.relation c.in-Compare.a c.in-Compare.b
     c.in-Compare.is)
-    (writes_cut _ _ c.in_err-put-in-Compare.ensures))
+    (writes_front _ _ c.in_err-put-in-Compare.ensures))
 
 pub expression-returns-in_err-expression-in-Compare : goal.expression-returns-in_err-expression-in-Compare
 expression-returns-in_err-expression-in-Compare g t c =
     writes_exit _ _ c.from_residual-in_err-expression-in-Compare.ensures.1
     (writes_as _ _ (compare_text c.args.parts.now c.args.expr.now c.in-Compare.relation c.in-Compare.a c.in-Compare.b
     c.in-Compare.is)
-    (writes_cut _ _ (writes_cut _ _ (writes_cut _ _
+    (writes_front _ _ (writes_front _ _ (writes_front _ _
     (writes_on c.in_ok-put-in-Compare.ensures
     (writes_as _ _ (ap (expr_text c.args.parts.now) c.deref-in-Compare.ensures)
     c.in_err-expression-in-Compare.ensures))))))
@@ -92,7 +92,7 @@ expression-returns-in_err-put-in-Compare-2 g t c =
     writes_exit _ _ c.from_residual-in_err-put-in-Compare-2.ensures.1
     (writes_as _ _ (compare_text c.args.parts.now c.args.expr.now c.in-Compare.relation c.in-Compare.a c.in-Compare.b
     c.in-Compare.is)
-    (writes_cut _ _ (writes_cut _ _ (writes_on
+    (writes_front _ _ (writes_front _ _ (writes_on
     (writes_on c.in_ok-put-in-Compare.ensures
     (writes_as _ _ (ap (expr_text c.args.parts.now) c.deref-in-Compare.ensures)
     c.in_ok-expression-in-Compare.ensures))
@@ -103,7 +103,7 @@ expression-returns-in_err-expression-in-Compare-2 g t c =
     writes_exit _ _ c.from_residual-in_err-expression-in-Compare-2.ensures.1
     (writes_as _ _ (compare_text c.args.parts.now c.args.expr.now c.in-Compare.relation c.in-Compare.a c.in-Compare.b
     c.in-Compare.is)
-    (writes_cut _ _ (writes_on (writes_on
+    (writes_front _ _ (writes_on (writes_on
     (writes_on c.in_ok-put-in-Compare.ensures
     (writes_as _ _ (ap (expr_text c.args.parts.now) c.deref-in-Compare.ensures)
     c.in_ok-expression-in-Compare.ensures))
@@ -128,7 +128,7 @@ expression-returns-in_err-chosen-in-Choose g t c =
     writes_exit _ _ c.from_residual-in_err-chosen-in-Choose.ensures.1
     (writes_as _ _ (choose_text c.args.parts.now c.args.expr.now (nat_eq c.len-one.result 1) c.in-Choose.choices
     c.in-Choose.other c.in-Choose.is (ap (λ n. nat_eq n 1) long))
-    (writes_cut _ _ (writes_cut _ _ (writes_as _ _
+    (writes_front _ _ (writes_front _ _ (writes_as _ _
     (ap (λ (cs : List (Expr VarId × Expr VarId)). cases_form (nat_eq c.len-one.result 1)
     (map (texts c.args.parts.now) cs)) c.deref-in-Choose.ensures.value) c.in_err-chosen-in-Choose.ensures))))
 
@@ -138,7 +138,7 @@ expression-returns-in_err-expression-in-Choose g t c =
     writes_exit _ _ c.from_residual-in_err-expression-in-Choose.ensures.1
     (writes_as _ _ (choose_text c.args.parts.now c.args.expr.now (nat_eq c.len-one.result 1) c.in-Choose.choices
     c.in-Choose.other c.in-Choose.is (ap (λ n. nat_eq n 1) long))
-    (writes_cut _ _ (writes_on (writes_as _ _
+    (writes_front _ _ (writes_on (writes_as _ _
     (ap (λ (cs : List (Expr VarId × Expr VarId)). cases_form (nat_eq c.len-one.result 1)
     (map (texts c.args.parts.now) cs)) c.deref-in-Choose.ensures.value) c.in_ok-chosen-in-Choose.ensures)
     (writes_as _ _ (ap (expr_text c.args.parts.now) c.deref-in-Choose-2.ensures)
@@ -158,12 +158,12 @@ expression-returns-in_ok-expression-in-Choose g t c =
 pub chosen-returns-in_err-put : goal.chosen-returns-in_err-put
 chosen-returns-in_err-put g t c =
     writes_exit _ _ c.from_residual.ensures.1
-    (writes_cut _ _ (writes_cut _ _ (writes_as _ _ c.either.ensures c.in_err-put.ensures)))
+    (writes_front _ _ (writes_front _ _ (writes_as _ _ c.either.ensures c.in_err-put.ensures)))
 
 pub chosen-returns-in_err-cases : goal.chosen-returns-in_err-cases
 chosen-returns-in_err-cases g t c =
     writes_exit _ _ c.from_residual-in_err-cases.ensures.1
-    (writes_cut _ _ (writes_on (writes_as _ _ c.either.ensures c.in_ok-put.ensures) c.in_err-cases.ensures))
+    (writes_front _ _ (writes_on (writes_as _ _ c.either.ensures c.in_ok-put.ensures) c.in_err-cases.ensures))
 
 pub chosen-returns : goal.chosen-returns
 chosen-returns g t c =
@@ -173,12 +173,12 @@ chosen-returns g t c =
 pub listed-returns-in_err-put : goal.listed-returns-in_err-put
 listed-returns-in_err-put g t c =
     writes_exit _ _ c.from_residual.ensures.1
-    (writes_cut _ _ (writes_cut _ _ c.in_err-put.ensures))
+    (writes_front _ _ (writes_front _ _ c.in_err-put.ensures))
 
 pub listed-returns-in_err-operands : goal.listed-returns-in_err-operands
 listed-returns-in_err-operands g t c =
     writes_exit _ _ c.from_residual-in_err-operands.ensures.1
-    (writes_cut _ _ (writes_on c.in_ok-put.ensures c.in_err-operands.ensures))
+    (writes_front _ _ (writes_on c.in_ok-put.ensures c.in_err-operands.ensures))
 
 pub listed-returns : goal.listed-returns
 listed-returns g t c =
@@ -187,12 +187,12 @@ listed-returns g t c =
 pub sum-returns-in_err-put : goal.sum-returns-in_err-put
 sum-returns-in_err-put g t c =
     writes_exit _ _ c.from_residual.ensures.1
-    (writes_cut _ _ c.in_err-put.ensures)
+    (writes_front _ _ c.in_err-put.ensures)
 
 pub sum-returns-in_err-terms : goal.sum-returns-in_err-terms
 sum-returns-in_err-terms g t c =
     writes_exit _ _ c.from_residual-in_err-terms.ensures.1
-    (writes_cut _ _ (writes_on c.in_ok-put.ensures c.in_err-terms.ensures))
+    (writes_front _ _ (writes_on c.in_ok-put.ensures c.in_err-terms.ensures))
 
 pub sum-returns : goal.sum-returns
 sum-returns g t c =
@@ -204,10 +204,10 @@ cases-loop-test-init g t c = leaves_all _ _
 pub cases-returns-in_err-put : goal.cases-returns-in_err-put
 cases-returns-in_err-put g t c =
     writes_exit _ _ c.from_residual.ensures.1
-    (leaves_cut _ _ c.loop-test.invariant
+    (leaves_front _ _ c.loop-test.invariant
     (writes_as _ _ (case_text c.args.one _ _)
-    (writes_cut _ _ (writes_cut _ _ (writes_cut _ _
-    (writes_cut _ _ (writes_as _ _ c.either.ensures c.in_err-put.ensures))))))
+    (writes_front _ _ (writes_front _ _ (writes_front _ _
+    (writes_front _ _ (writes_as _ _ c.either.ensures c.in_err-put.ensures))))))
     (next_item (λ (xs : List (Expr VarId × Expr VarId)). concat
     (map (case_form c.args.one) (map (λ (d : Expr VarId × Expr VarId).
     (expr_text c.args.parts.now d.0, expr_text c.args.parts.now d.1)) xs))) c.args.choices.now
@@ -216,9 +216,9 @@ cases-returns-in_err-put g t c =
 pub cases-returns-in_err-expression : goal.cases-returns-in_err-expression
 cases-returns-in_err-expression g t c =
     writes_exit _ _ c.from_residual-in_err-expression.ensures.1
-    (leaves_cut _ _ c.loop-test.invariant
+    (leaves_front _ _ c.loop-test.invariant
     (writes_as _ _ (case_text c.args.one _ _)
-    (writes_cut _ _ (writes_cut _ _ (writes_cut _ _
+    (writes_front _ _ (writes_front _ _ (writes_front _ _
     (writes_on (writes_as _ _ c.either.ensures c.in_ok-put.ensures) c.in_err-expression.ensures)))))
     (next_item (λ (xs : List (Expr VarId × Expr VarId)). concat
     (map (case_form c.args.one) (map (λ (d : Expr VarId × Expr VarId).
@@ -228,9 +228,9 @@ cases-returns-in_err-expression g t c =
 pub cases-returns-in_err-put-2 : goal.cases-returns-in_err-put-2
 cases-returns-in_err-put-2 g t c =
     writes_exit _ _ c.from_residual-in_err-put-2.ensures.1
-    (leaves_cut _ _ c.loop-test.invariant
+    (leaves_front _ _ c.loop-test.invariant
     (writes_as _ _ (case_text c.args.one _ _)
-    (writes_cut _ _ (writes_cut _ _ (writes_on
+    (writes_front _ _ (writes_front _ _ (writes_on
     (writes_on (writes_as _ _ c.either.ensures c.in_ok-put.ensures) c.in_ok-expression.ensures)
     (writes_as _ _ c.either-in-loop-test.ensures c.in_err-put-2.ensures)))))
     (next_item (λ (xs : List (Expr VarId × Expr VarId)). concat
@@ -241,9 +241,9 @@ cases-returns-in_err-put-2 g t c =
 pub cases-returns-in_err-expression-2 : goal.cases-returns-in_err-expression-2
 cases-returns-in_err-expression-2 g t c =
     writes_exit _ _ c.from_residual-in_err-expression-2.ensures.1
-    (leaves_cut _ _ c.loop-test.invariant
+    (leaves_front _ _ c.loop-test.invariant
     (writes_as _ _ (case_text c.args.one _ _)
-    (writes_cut _ _ (writes_on (writes_on
+    (writes_front _ _ (writes_on (writes_on
     (writes_on (writes_as _ _ c.either.ensures c.in_ok-put.ensures) c.in_ok-expression.ensures)
     (writes_as _ _ c.either-in-loop-test.ensures c.in_ok-put-2.ensures)) c.in_err-expression-2.ensures)))
     (next_item (λ (xs : List (Expr VarId × Expr VarId)). concat
@@ -254,7 +254,7 @@ cases-returns-in_err-expression-2 g t c =
 pub cases-returns-in_err-put-3 : goal.cases-returns-in_err-put-3
 cases-returns-in_err-put-3 g t c =
     writes_exit _ _ c.from_residual-in_err-put-3.ensures.1
-    (leaves_cut _ _ c.loop-test.invariant
+    (leaves_front _ _ c.loop-test.invariant
     (writes_as _ _ (case_text c.args.one _ _)
     (writes_on (writes_on (writes_on (writes_on (writes_as _ _ c.either.ensures c.in_ok-put.ensures)
     c.in_ok-expression.ensures) (writes_as _ _ c.either-in-loop-test.ensures c.in_ok-put-2.ensures))
@@ -290,7 +290,7 @@ operands-loop-e-init g t c = leaves_all _ _
 pub operands-returns-in_err-put : goal.operands-returns-in_err-put
 operands-returns-in_err-put g t c =
     writes_exit _ _ c.from_residual.ensures.1
-    (leaves_cut _ _ c.loop-e.invariant (writes_cut _ _ (writes_as _ _ c.either.ensures c.in_err-put.ensures))
+    (leaves_front _ _ c.loop-e.invariant (writes_front _ _ (writes_as _ _ c.either.ensures c.in_err-put.ensures))
     (next_item (λ (xs : List (Expr VarId)). separated c.loop-e.first c.args.separator.now
     (map (expr_text c.args.parts.now) xs)) c.args.es.now c.loop-e.e-index c.e-item.result c.loop-e-test.true
     c.e-item.is))
@@ -298,7 +298,7 @@ operands-returns-in_err-put g t c =
 pub operands-returns-in_err-expression : goal.operands-returns-in_err-expression
 operands-returns-in_err-expression g t c =
     writes_exit _ _ c.from_residual-in_err-expression.ensures.1
-    (leaves_cut _ _ c.loop-e.invariant
+    (leaves_front _ _ c.loop-e.invariant
     (writes_on (writes_as _ _ c.either.ensures c.in_ok-put.ensures) c.in_err-expression.ensures)
     (next_item (λ (xs : List (Expr VarId)). separated c.loop-e.first c.args.separator.now
     (map (expr_text c.args.parts.now) xs)) c.args.es.now c.loop-e.e-index c.e-item.result c.loop-e-test.true
@@ -324,7 +324,7 @@ terms-loop-plus-init g t c = leaves_all _ _
 pub terms-returns-in_err-put : goal.terms-returns-in_err-put
 terms-returns-in_err-put g t c =
     writes_exit _ _ c.from_residual.ensures.1
-    (leaves_cut _ _ c.loop-plus.invariant (writes_cut _ _ (writes_as _ _ c.sign.ensures c.in_err-put.ensures))
+    (leaves_front _ _ c.loop-plus.invariant (writes_front _ _ (writes_as _ _ c.sign.ensures c.in_err-put.ensures))
     (next_item (λ (xs : List (Bool × Expr VarId)). summed c.loop-plus.first
     (map (λ (q : Bool × Expr VarId). (q.0, expr_text c.args.parts.now q.1)) xs)) c.args.all.now
     c.loop-plus.plus-index c.loop-plus-item.result c.loop-plus-test.true c.loop-plus-item.is))
@@ -332,7 +332,7 @@ terms-returns-in_err-put g t c =
 pub terms-returns-in_err-expression : goal.terms-returns-in_err-expression
 terms-returns-in_err-expression g t c =
     writes_exit _ _ c.from_residual-in_err-expression.ensures.1
-    (leaves_cut _ _ c.loop-plus.invariant
+    (leaves_front _ _ c.loop-plus.invariant
     (writes_on (writes_as _ _ c.sign.ensures c.in_ok-put.ensures) c.in_err-expression.ensures)
     (next_item (λ (xs : List (Bool × Expr VarId)). summed c.loop-plus.first
     (map (λ (q : Bool × Expr VarId). (q.0, expr_text c.args.parts.now q.1)) xs)) c.args.all.now

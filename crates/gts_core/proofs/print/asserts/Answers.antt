@@ -1,5 +1,5 @@
 use Rattle.std.proofs.Common.{◌+◌, ap, refl, List}
-use Rattle.ar_io.proofs.Writing.{writes_exit, writes_as, leaves_all, leaves_on, leaves_cut, leaves_none, next_item, no_item}
+use Rattle.ar_io.proofs.Writing.{writes_exit, writes_as, leaves_all, leaves_on, leaves_front, leaves_none, next_item, no_item}
 use Rattle.gts_core.specs.declared.system.Assign.{Assign}
 use Rattle.gts_core.specs.Printed.{assert_line, assert_lines}
 use Rattle.gts_core.proofs.print.asserts.Goals as goal
@@ -10,7 +10,7 @@ loop-assign-init g c = record { leaves = leaves_all _ _; numbered = refl }
 pub returns-in_err-assert_line : goal.returns-in_err-assert_line
 returns-in_err-assert_line g c =
     writes_exit _ _ c.from_residual.ensures.1
-    (leaves_cut _ _ c.loop-assign.invariant.leaves
+    (leaves_front _ _ c.loop-assign.invariant.leaves
     (writes_as _ _ (ap (λ n. assert_line c.args.parts.now (n + 1) c.assign-item.result)
     c.loop-assign.invariant.numbered) c.in_err-assert_line.ensures)
     (next_item (λ (xs : List Assign). assert_lines c.args.parts.now c.loop-assign.assign-index xs) c.args.all.now

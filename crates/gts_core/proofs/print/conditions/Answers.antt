@@ -1,7 +1,7 @@
 use Rattle.std.proofs.Common.{map, List, Bool}
 use Rattle.std.specs.List.{concat}
 use Rattle.typed_expr.specs.declared.expr.Expr.{Expr}
-use Rattle.ar_io.proofs.Writing.{writes_exit, leaves_all, leaves_on, leaves_cut, leaves_none, next_item, no_item}
+use Rattle.ar_io.proofs.Writing.{writes_exit, leaves_all, leaves_on, leaves_front, leaves_none, next_item, no_item}
 use Rattle.ar_base.specs.Numbers.{VarId}
 use Rattle.gts_core.specs.Printed.{condition_text}
 use Rattle.gts_core.proofs.print.conditions.Goals as goal
@@ -11,7 +11,7 @@ loop-condition-init g c = leaves_all _ _
 
 pub returns-in_err-when : goal.returns-in_err-when
 returns-in_err-when g c =
-    writes_exit _ _ c.from_residual.ensures.1 (leaves_cut _ _ c.loop-condition.invariant c.in_err-when.ensures
+    writes_exit _ _ c.from_residual.ensures.1 (leaves_front _ _ c.loop-condition.invariant c.in_err-when.ensures
     (next_item (λ (xs : List (Expr VarId × Bool)). concat (map (condition_text c.args.parts.now) xs)) c.args.all.now
     c.loop-condition.condition-index c.condition-item.result c.loop-condition-test.true c.condition-item.is))
 

@@ -1,6 +1,6 @@
 use Rattle.std.proofs.Common.{ap, map, List, slice_get}
 use Rattle.std.specs.List.{concat}
-use Rattle.ar_io.proofs.Writing.{writes_exit, writes_as, leaves_all, leaves_on, leaves_cut, leaves_none, next_item, no_item}
+use Rattle.ar_io.proofs.Writing.{writes_exit, writes_as, leaves_all, leaves_on, leaves_front, leaves_none, next_item, no_item}
 use Rattle.ar_base.specs.Numbers.{WayId}
 use Rattle.gts_core.specs.declared.system.Event.{Event}
 use Rattle.gts_core.specs.Printed.{line_found, event_lines}
@@ -12,7 +12,7 @@ loop-event-init g c = leaves_all _ _
 pub returns-in_err-ways : goal.returns-in_err-ways
 returns-in_err-ways g c =
     writes_exit _ _ c.from_residual.ensures.1
-    (leaves_cut _ _ c.loop-event.invariant
+    (leaves_front _ _ c.loop-event.invariant
     (writes_as _ _ (ap (λ (ws : List WayId). concat
     (map (λ (w : WayId). line_found c.args.parts.now c.event-item.result.hidden
     (slice_get c.args.parts.now.ways.items w.n)) ws)) c.deref.ensures.value) c.in_err-ways.ensures)

@@ -1,7 +1,7 @@
 use Rattle.std.proofs.Common.{ap, map, List, Bool}
 use Rattle.std.specs.List.{concat}
 use Rattle.typed_expr.specs.declared.expr.Expr.{Expr}
-use Rattle.ar_io.proofs.Writing.{writes_on, writes_cut, writes_exit, writes_as}
+use Rattle.ar_io.proofs.Writing.{writes_on, writes_front, writes_exit, writes_as}
 use Rattle.ar_base.specs.Numbers.{VarId}
 use Rattle.gts_core.specs.Printed.{condition_text}
 use Rattle.gts_core.proofs.print.set.Goals as goal
@@ -9,18 +9,18 @@ use Rattle.gts_core.proofs.print.set.Goals as goal
 pub returns-in_err-put : goal.returns-in_err-put
 returns-in_err-put g c =
     writes_exit _ _ c.from_residual.ensures.1
-    (writes_cut _ _ (writes_cut _ _ (writes_cut _ _ (writes_as _ _ c.path_at.ensures c.in_err-put.ensures))))
+    (writes_front _ _ (writes_front _ _ (writes_front _ _ (writes_as _ _ c.path_at.ensures c.in_err-put.ensures))))
 
 pub returns-in_err-put-2 : goal.returns-in_err-put-2
 returns-in_err-put-2 g c =
     writes_exit _ _ c.from_residual-in_err-put-2.ensures.1
-    (writes_cut _ _ (writes_cut _ _ (writes_on (writes_as _ _ c.path_at.ensures c.in_ok-put.ensures)
+    (writes_front _ _ (writes_front _ _ (writes_on (writes_as _ _ c.path_at.ensures c.in_ok-put.ensures)
     c.in_err-put-2.ensures)))
 
 pub returns-in_err-expression : goal.returns-in_err-expression
 returns-in_err-expression g c =
     writes_exit _ _ c.from_residual-in_err-expression.ensures.1
-    (writes_cut _ _ (writes_on (writes_on (writes_as _ _ c.path_at.ensures c.in_ok-put.ensures) c.in_ok-put-2.ensures)
+    (writes_front _ _ (writes_on (writes_on (writes_as _ _ c.path_at.ensures c.in_ok-put.ensures) c.in_ok-put-2.ensures)
     c.in_err-expression.ensures))
 
 pub returns : goal.returns

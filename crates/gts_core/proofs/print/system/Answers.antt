@@ -1,6 +1,6 @@
 use Rattle.std.proofs.Common.{ap, map, List}
 use Rattle.std.specs.List.{concat}
-use Rattle.ar_io.proofs.Writing.{writes_on, writes_cut, writes_exit, writes_as}
+use Rattle.ar_io.proofs.Writing.{writes_on, writes_front, writes_exit, writes_as}
 use Rattle.gts_core.specs.declared.system.Variable.{Variable}
 use Rattle.gts_core.specs.declared.system.Event.{Event}
 use Rattle.gts_core.specs.declared.system.Assign.{Assign}
@@ -11,14 +11,14 @@ use Rattle.gts_core.proofs.print.system.Goals as goal
 pub returns-in_err-variables : goal.returns-in_err-variables
 returns-in_err-variables g c =
     writes_exit _ _ c.from_residual.ensures.1
-    (writes_cut _ _ (writes_cut _ _ (writes_cut _ _
+    (writes_front _ _ (writes_front _ _ (writes_front _ _
     (writes_as _ _ (ap (λ (xs : List Variable). concat (map (variable_line c.args.parts.now) xs))
     c.deref.ensures.value) c.in_err-variables.ensures))))
 
 pub returns-in_err-events : goal.returns-in_err-events
 returns-in_err-events g c =
     writes_exit _ _ c.from_residual-in_err-events.ensures.1
-    (writes_cut _ _ (writes_cut _ _ (writes_on
+    (writes_front _ _ (writes_front _ _ (writes_on
     (writes_as _ _ (ap (λ (xs : List Variable). concat (map (variable_line c.args.parts.now) xs))
     c.deref.ensures.value) c.in_ok-variables.ensures)
     (writes_as _ _ (ap (λ (xs : List Event). concat (map (event_lines c.args.parts.now) xs))
@@ -27,7 +27,7 @@ returns-in_err-events g c =
 pub returns-in_err-asserts : goal.returns-in_err-asserts
 returns-in_err-asserts g c =
     writes_exit _ _ c.from_residual-in_err-asserts.ensures.1
-    (writes_cut _ _ (writes_on (writes_on
+    (writes_front _ _ (writes_on (writes_on
     (writes_as _ _ (ap (λ (xs : List Variable). concat (map (variable_line c.args.parts.now) xs))
     c.deref.ensures.value) c.in_ok-variables.ensures)
     (writes_as _ _ (ap (λ (xs : List Event). concat (map (event_lines c.args.parts.now) xs))

@@ -1,15 +1,15 @@
-use Rattle.ar_io.proofs.Writing.{writes_on, writes_cut, writes_exit}
+use Rattle.ar_io.proofs.Writing.{writes_on, writes_front, writes_exit}
 use Rattle.gts_core.proofs.print.transition.Goals as goal
 
 pub returns-in_err-expression : goal.returns-in_err-expression
 returns-in_err-expression g c =
     writes_exit _ _ c.from_residual.ensures.1
-    (writes_cut _ _ (writes_cut _ _ c.in_err-expression.ensures))
+    (writes_front _ _ (writes_front _ _ c.in_err-expression.ensures))
 
 pub returns-in_err-put : goal.returns-in_err-put
 returns-in_err-put g c =
     writes_exit _ _ c.from_residual-in_err-put.ensures.1
-    (writes_cut _ _ (writes_on c.in_ok-expression.ensures c.in_err-put.ensures))
+    (writes_front _ _ (writes_on c.in_ok-expression.ensures c.in_err-put.ensures))
 
 pub returns : goal.returns
 returns g c =

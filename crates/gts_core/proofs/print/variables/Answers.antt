@@ -1,6 +1,6 @@
 use Rattle.std.proofs.Common.{map, List}
 use Rattle.std.specs.List.{concat}
-use Rattle.ar_io.proofs.Writing.{writes_exit, leaves_all, leaves_on, leaves_cut, leaves_none, next_item, no_item}
+use Rattle.ar_io.proofs.Writing.{writes_exit, leaves_all, leaves_on, leaves_front, leaves_none, next_item, no_item}
 use Rattle.gts_core.specs.declared.system.Variable.{Variable}
 use Rattle.gts_core.specs.Printed.{variable_line}
 use Rattle.gts_core.proofs.print.variables.Goals as goal
@@ -10,7 +10,7 @@ loop-x-init g c = leaves_all _ _
 
 pub returns-in_err-variable : goal.returns-in_err-variable
 returns-in_err-variable g c =
-    writes_exit _ _ c.from_residual.ensures.1 (leaves_cut _ _ c.loop-x.invariant c.in_err-variable.ensures
+    writes_exit _ _ c.from_residual.ensures.1 (leaves_front _ _ c.loop-x.invariant c.in_err-variable.ensures
     (next_item (λ (xs : List Variable). concat (map (variable_line c.args.parts.now) xs)) c.args.all.now
     c.loop-x.x-index c.x-item.result c.loop-x-test.true c.x-item.is))
 

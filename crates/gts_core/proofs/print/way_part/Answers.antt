@@ -1,10 +1,10 @@
-use Rattle.ar_io.proofs.Writing.{writes_on, writes_cut, writes_exit, writes_as}
+use Rattle.ar_io.proofs.Writing.{writes_on, writes_front, writes_exit, writes_as}
 use Rattle.gts_core.proofs.print.way_part.Goals as goal
 
 pub returns-in_err-put : goal.returns-in_err-put
 returns-in_err-put g c =
     writes_exit _ _ c.from_residual.ensures.1
-    (writes_cut _ _ (writes_as _ _ c.either.ensures c.in_err-put.ensures))
+    (writes_front _ _ (writes_as _ _ c.either.ensures c.in_err-put.ensures))
 
 pub returns : goal.returns
 returns g c =

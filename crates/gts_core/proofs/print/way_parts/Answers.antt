@@ -1,6 +1,6 @@
 use Rattle.std.proofs.Common.{map, codes, List, Bool}
 use Rattle.ar_base.specs.Texts.{separated}
-use Rattle.ar_io.proofs.Writing.{writes_on, writes_cut, writes_exit, writes_as, leaves_all, leaves_on, leaves_cut, leaves_none, next_read, next_some, no_item}
+use Rattle.ar_io.proofs.Writing.{writes_on, writes_front, writes_exit, writes_as, leaves_all, leaves_on, leaves_front, leaves_none, next_read, next_some, no_item}
 use Rattle.ar_base.specs.Numbers.{WayId}
 use Rattle.gts_core.specs.Printed.{part_text}
 use Rattle.gts_core.proofs.print.way_parts.Goals as goal
@@ -11,14 +11,14 @@ loop-part-init g c = leaves_all _ _
 pub returns-in_err-put : goal.returns-in_err-put
 returns-in_err-put g c =
     writes_exit _ _ c.from_residual.ensures.1
-    (leaves_cut _ _ c.loop-part.invariant (writes_cut _ _ (writes_as _ _ c.either.ensures c.in_err-put.ensures))
+    (leaves_front _ _ c.loop-part.invariant (writes_front _ _ (writes_as _ _ c.either.ensures c.in_err-put.ensures))
     (next_some (λ (xs : List (Bool × WayId)). separated c.loop-part.first (codes " & ")
     (map (part_text c.args.parts.now) xs)) c.args.all.now c.loop-part.part-index c.loop-part-test.true).1)
 
 pub returns-in_err-way_part : goal.returns-in_err-way_part
 returns-in_err-way_part g c =
     writes_exit _ _ c.from_residual-in_err-way_part.ensures.1
-    (leaves_cut _ _ c.loop-part.invariant
+    (leaves_front _ _ c.loop-part.invariant
     (writes_on (writes_as _ _ c.either.ensures c.in_ok-put.ensures) c.in_err-way_part.ensures)
     (next_read (λ (xs : List (Bool × WayId)). separated c.loop-part.first (codes " & ")
     (map (part_text c.args.parts.now) xs)) c.args.all.now c.loop-part.part-index _ c.loop-part-test.true))

@@ -1,4 +1,4 @@
-use Rattle.ar_io.proofs.Writing.{writes_exit, writes_on, writes_cut, writes_as}
+use Rattle.ar_io.proofs.Writing.{writes_exit, writes_on, writes_front, writes_as}
 use Rattle.std.proofs.Common.{List, ap, map, true, codes}
 use Rattle.ar_base.specs.Texts.{separated}
 use Rattle.module_text.specs.Arranged.{piece_text}
@@ -6,11 +6,11 @@ use Rattle.module_text.specs.declared.arranging.Piece.{Piece}
 use Rattle.module_text.proofs.printing.between_braces.Goals as goal
 
 pub returns-in_err-put : goal.returns-in_err-put
-returns-in_err-put g c = writes_exit _ _ c.from_residual.ensures.1 (writes_cut _ _ c.in_err-put.ensures)
+returns-in_err-put g c = writes_exit _ _ c.from_residual.ensures.1 (writes_front _ _ c.in_err-put.ensures)
 
 pub returns-in_err-pieces : goal.returns-in_err-pieces
 returns-in_err-pieces g c = writes_exit _ _ c.from_residual-in_err-pieces.ensures.1
-    (writes_on c.in_ok-put.ensures (writes_cut _ _
+    (writes_on c.in_ok-put.ensures (writes_front _ _
     (writes_as _ _ (ap (λ (z : List Piece). separated true (codes ", ") (map (piece_text c.args.gts.now) z))
     c.deref.ensures.value) c.in_err-pieces.ensures)))
 

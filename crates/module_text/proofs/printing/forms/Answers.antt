@@ -1,6 +1,6 @@
 use Rattle.std.proofs.Common.{List}
 use Rattle.ar_base.proofs.Standing.{one_here, stands_item}
-use Rattle.ar_io.proofs.Writing.{writes_exit, leaves_all, leaves_on, leaves_cut, leaves_none, next_item, no_item}
+use Rattle.ar_io.proofs.Writing.{writes_exit, leaves_all, leaves_on, leaves_front, leaves_none, next_item, no_item}
 use Rattle.module_text.specs.Arranged.{form_lines}
 use Rattle.module_text.specs.declared.arranging.Line.{Line}
 use Rattle.module_text.proofs.printing.forms.Goals as goal
@@ -16,7 +16,7 @@ form-requires g c = c.requires.each _
 pub returns-in_err-form : goal.returns-in_err-form
 returns-in_err-form g c =
     writes_exit _ _ c.from_residual.ensures.1
-    (leaves_cut _ _ c.loop-one.invariant c.in_err-form.ensures
+    (leaves_front _ _ c.loop-one.invariant c.in_err-form.ensures
     (next_item (λ (xs : List Line). form_lines c.args.gts.now xs) c.args.lines.now c.loop-one.one-index
     c.one-item.result c.loop-one-test.true c.one-item.is))
 

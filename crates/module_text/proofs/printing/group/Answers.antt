@@ -1,4 +1,4 @@
-use Rattle.ar_io.proofs.Writing.{writes_exit, writes_on, writes_cut, writes_as}
+use Rattle.ar_io.proofs.Writing.{writes_exit, writes_on, writes_front, writes_as}
 use Rattle.std.proofs.Common.{List, ap}
 use Rattle.ar_base.specs.Texts.{text_at}
 use Rattle.gts_core.specs.declared.system.GtsParts.{GtsParts}
@@ -9,7 +9,7 @@ use Rattle.module_text.proofs.printing.group.Goals as goal
 
 pub returns-in_err-head : goal.returns-in_err-head
 returns-in_err-head g c = writes_exit _ _ c.from_residual.ensures.1
-    (writes_cut _ _ (writes_as _ _ (ap (λ (z : GtsParts). module_line (text_at z.units.items c.args.group.now.unit.n))
+    (writes_front _ _ (writes_as _ _ (ap (λ (z : GtsParts). module_line (text_at z.units.items c.args.group.now.unit.n))
     c.parts.ensures.parts) c.in_err-head.ensures))
 
 pub returns : goal.returns

@@ -1,7 +1,7 @@
 use Rattle.std.proofs.Common.{List, map, false, codes}
 use Rattle.ar_base.specs.Texts.{separated}
 use Rattle.ar_base.proofs.Standing.{one_here, stands_get}
-use Rattle.ar_io.proofs.Writing.{writes_exit, leaves_all, leaves_on, leaves_cut, leaves_none, next_read, no_item}
+use Rattle.ar_io.proofs.Writing.{writes_exit, leaves_all, leaves_on, leaves_front, leaves_none, next_read, no_item}
 use Rattle.module_text.specs.Arranged.{piece_text}
 use Rattle.module_text.specs.declared.arranging.Piece.{Piece}
 use Rattle.module_text.proofs.printing.more_pieces.Goals as goal
@@ -17,7 +17,7 @@ next_piece-requires g c = c.requires.each _
 pub returns-in_err-next_piece : goal.returns-in_err-next_piece
 returns-in_err-next_piece g c =
     writes_exit _ _ c.from_residual.ensures.1
-    (leaves_cut _ _ c.loop-one.invariant c.in_err-next_piece.ensures
+    (leaves_front _ _ c.loop-one.invariant c.in_err-next_piece.ensures
     (next_read (λ (xs : List Piece). separated false (codes ", ") (map (piece_text c.args.gts.now) xs))
     c.args.pieces.now c.loop-one.one-index _ c.loop-one-test.true))
 

@@ -1,7 +1,7 @@
 use Rattle.std.proofs.Common.{◌≡◌, ◌∙◌, List, Err, ap, sym, map, length, refl, subst, arith}
 use Rattle.std.proofs.lemmas.Result.{err_from_is_err_and}
 use Rattle.ar_base.specs.Lists.{Along}
-use Rattle.ar_io.proofs.Writing.{writes_on, writes_cut, writes_as}
+use Rattle.ar_io.proofs.Writing.{writes_on, writes_front, writes_as}
 use Rattle.cut_text.specs.Printed.{edges_of}
 use Rattle.cut_text.proofs.Answering.{failed}
 use Rattle.gate_modules.specs.declared.ranges.Module.{Module}
@@ -38,7 +38,7 @@ returns-in_err-all_groups g c =
     c.deref.ensures.value (subst (λ (z : List Group). Along (IsGroupOf (edges_of c.args.forest.now.trees.items))
     c.deref.result.now z) (sym c.deref-3.ensures.value) (c.in_ok-groups.ensures (edges_of c.args.forest.now.trees.items) c.in_ok-table.ensures)))
     ((c.in_ok-lines.ensures (edges_of c.args.forest.now.trees.items) c.in_ok-table.ensures) ∙ ap (map (form_pieces (edges_of c.args.forest.now.trees.items)))
-    c.deref-2.ensures.value) refl) (writes_cut _ _ c.in_err-all_groups.ensures))
+    c.deref-2.ensures.value) refl) (writes_front _ _ c.in_err-all_groups.ensures))
 
 pub returns-in_err-forms : goal.returns-in_err-forms
 returns-in_err-forms g c =
@@ -51,7 +51,7 @@ returns-in_err-forms g c =
     c.deref.result.now z) (sym c.deref-3.ensures.value) (c.in_ok-groups.ensures (edges_of c.args.forest.now.trees.items) c.in_ok-table.ensures)))
     (ap (map pieces_of) c.deref-4.ensures.value ∙ c.in_ok-lines.ensures (edges_of c.args.forest.now.trees.items) c.in_ok-table.ensures
     ∙ ap (map (form_pieces (edges_of c.args.forest.now.trees.items))) c.deref-2.ensures.value) refl)
-    (writes_on c.in_ok-all_groups.ensures (writes_cut _ _ c.in_err-forms.ensures)))
+    (writes_on c.in_ok-all_groups.ensures (writes_front _ _ c.in_err-forms.ensures)))
 
 pub returns-in_err-last : goal.returns-in_err-last
 returns-in_err-last g c =

@@ -1,7 +1,7 @@
 use Rattle.std.proofs.Common.{List, ℕ, false, codes}
 use Rattle.ar_base.specs.Numbers.{VarId}
 use Rattle.ar_base.specs.Texts.{separated}
-use Rattle.ar_io.proofs.Writing.{writes_exit, leaves_all, leaves_on, leaves_cut, leaves_none, next_read, no_item}
+use Rattle.ar_io.proofs.Writing.{writes_exit, leaves_all, leaves_on, leaves_front, leaves_none, next_read, no_item}
 use Rattle.gts_flatten.specs.Flat.{naming_of_parts}
 use Rattle.gts_core.specs.declared.system.GtsParts.{GtsParts}
 use Rattle.flow_reasons.specs.Answers.{numbers_of}
@@ -17,7 +17,7 @@ loop-variable-init g c = leaves_all _ _
 pub returns-in_err-next_path : goal.returns-in_err-next_path
 returns-in_err-next_path g c =
     writes_exit _ _ c.from_residual.ensures.1
-    (leaves_cut _ _ c.loop-variable.invariant c.in_err-next_path.ensures
+    (leaves_front _ _ c.loop-variable.invariant c.in_err-next_path.ensures
     (next_read (rest c.args.parts.now) c.args.variables.now c.loop-variable.variable-index _
     c.loop-variable-test.true))
 

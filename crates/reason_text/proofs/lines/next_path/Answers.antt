@@ -1,10 +1,10 @@
-use Rattle.ar_io.proofs.Writing.{writes_exit, writes_on, writes_cut, writes_as}
+use Rattle.ar_io.proofs.Writing.{writes_exit, writes_on, writes_front, writes_as}
 use Rattle.gts_flatten.specs.Flat.{naming_of_parts}
 use Rattle.reason_text.proofs.Pieces.{next_pieces}
 use Rattle.reason_text.proofs.lines.next_path.Goals as goal
 
 pub returns-in_err-put : goal.returns-in_err-put
-returns-in_err-put g c = writes_exit _ _ c.from_residual.ensures.1 (writes_cut _ _ c.in_err-put.ensures)
+returns-in_err-put g c = writes_exit _ _ c.from_residual.ensures.1 (writes_front _ _ c.in_err-put.ensures)
 
 pub returns : goal.returns
 returns g c =

@@ -1,6 +1,6 @@
 use Rattle.std.proofs.Common.{List, ℕ, Bool}
 use Rattle.ar_base.proofs.Standing.{one_here, stands_item}
-use Rattle.ar_io.proofs.Writing.{writes_exit, leaves_all, leaves_on, leaves_cut, leaves_none, next_item, no_item}
+use Rattle.ar_io.proofs.Writing.{writes_exit, leaves_all, leaves_on, leaves_front, leaves_none, next_item, no_item}
 use Rattle.gts_flatten.specs.Flat.{naming_of_parts}
 use Rattle.gts_core.specs.declared.system.GtsParts.{GtsParts}
 use Rattle.flow_reasons.specs.Answers.{reasons_of}
@@ -23,7 +23,7 @@ told_line-requires g c =
 pub returns-in_err-told_line : goal.returns-in_err-told_line
 returns-in_err-told_line g c =
     writes_exit _ _ c.from_residual.ensures.1
-    (leaves_cut _ _ c.loop-reason.invariant c.in_err-told_line.ensures
+    (leaves_front _ _ c.loop-reason.invariant c.in_err-told_line.ensures
     (next_item (rest c.args.parts.now c.args.told.now) c.args.reasons.now c.loop-reason.reason-index
     c.reason-item.result c.loop-reason-test.true c.reason-item.is))
 

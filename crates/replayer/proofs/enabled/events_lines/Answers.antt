@@ -1,5 +1,5 @@
 use Rattle.std.proofs.Common.{List}
-use Rattle.ar_io.proofs.Writing.{writes_exit, leaves_all, leaves_on, leaves_cut, leaves_none, next_item, no_item}
+use Rattle.ar_io.proofs.Writing.{writes_exit, leaves_all, leaves_on, leaves_front, leaves_none, next_item, no_item}
 use Rattle.gts_core.specs.declared.system.Event.{Event}
 use Rattle.replayer.specs.Printing.{events_lines}
 use Rattle.replayer.proofs.enabled.events_lines.Goals as goal
@@ -10,7 +10,7 @@ loop-event-init g c = λ can answers. leaves_all _ _
 pub returns-in_err-event_lines : goal.returns-in_err-event_lines
 returns-in_err-event_lines g c = λ can answers.
     writes_exit _ _ c.from_residual.ensures.1
-    (leaves_cut _ _ (c.loop-event.invariant can answers) (c.in_err-event_lines.ensures can answers)
+    (leaves_front _ _ (c.loop-event.invariant can answers) (c.in_err-event_lines.ensures can answers)
     (next_item (λ (xs : List Event). events_lines c.args.gts.now can xs) c.args.events.now c.loop-event.event-index
     c.event-item.result c.loop-event-test.true c.event-item.is))
 

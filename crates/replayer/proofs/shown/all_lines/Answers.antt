@@ -1,4 +1,4 @@
-use Rattle.ar_io.proofs.Writing.{writes_exit, writes_on, writes_cut, writes_as}
+use Rattle.ar_io.proofs.Writing.{writes_exit, writes_on, writes_front, writes_as}
 use Rattle.std.proofs.Common.{List, ap, ◌∙◌}
 use Rattle.gts_core.specs.declared.system.Observer.{Observer}
 use Rattle.replayer.specs.Printing.{observer_lines}
@@ -8,7 +8,7 @@ use Rattle.replayer.proofs.shown.all_lines.Goals as goal
 pub returns-in_err-variable_lines : goal.returns-in_err-variable_lines
 returns-in_err-variable_lines g c =
     writes_exit _ _ c.from_residual.ensures.1
-    (writes_cut _ _ c.in_err-variable_lines.ensures)
+    (writes_front _ _ c.in_err-variable_lines.ensures)
 
 pub returns : goal.returns
 returns g c =

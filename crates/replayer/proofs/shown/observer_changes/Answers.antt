@@ -1,5 +1,5 @@
 use Rattle.std.proofs.Common.{ℕ, List}
-use Rattle.ar_io.proofs.Writing.{writes_exit, leaves_all, leaves_on, leaves_cut, leaves_none, next_read, no_item}
+use Rattle.ar_io.proofs.Writing.{writes_exit, leaves_all, leaves_on, leaves_front, leaves_none, next_read, no_item}
 use Rattle.replayer.specs.Printing.{texts_of}
 use Rattle.replayer.proofs.ObservingLemmas.{observer_text}
 use Rattle.replayer.proofs.shown.observer_changes.Goals as goal
@@ -10,7 +10,7 @@ loop-number-init g c = leaves_all _ _
 pub returns-in_err-observer_change : goal.returns-in_err-observer_change
 returns-in_err-observer_change g c =
     writes_exit _ _ c.from_residual.ensures.1
-    (leaves_cut _ _ c.loop-number.invariant c.in_err-observer_change.ensures
+    (leaves_front _ _ c.loop-number.invariant c.in_err-observer_change.ensures
     (next_read (λ (xs : List ℕ). texts_of (observer_text c.args.parts.now c.args.old.now c.args.new.now) xs)
     c.args.touched.now c.loop-number.number-index 0 c.loop-number-test.true))
 

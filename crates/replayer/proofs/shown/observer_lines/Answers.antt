@@ -1,5 +1,5 @@
 use Rattle.std.proofs.Common.{List, ◌+◌, ◌∙◌, ap, refl}
-use Rattle.ar_io.proofs.Writing.{writes_exit, writes_as, leaves_all, leaves_on, leaves_cut, leaves_none, next_item, no_item}
+use Rattle.ar_io.proofs.Writing.{writes_exit, writes_as, leaves_all, leaves_on, leaves_front, leaves_none, next_item, no_item}
 use Rattle.replayer.specs.Printing.{observer_lines}
 use Rattle.gts_core.specs.declared.system.Observer.{Observer}
 use Rattle.gts_flatten.specs.Flat.{naming_of_parts}
@@ -12,7 +12,7 @@ loop-observer-init g c = record { leaves = leaves_all _ _; numbered = refl }
 pub returns-in_err-observer_line : goal.returns-in_err-observer_line
 returns-in_err-observer_line g c =
     writes_exit _ _ c.from_residual.ensures.1
-    (leaves_cut _ _ c.loop-observer.invariant.leaves
+    (leaves_front _ _ c.loop-observer.invariant.leaves
     (writes_as _ _ (ap (λ n. observer_line (naming_of_parts c.args.parts.now) n c.value_in.result)
     c.loop-observer.invariant.numbered
     ∙ ap (λ z. observer_line (naming_of_parts c.args.parts.now) c.loop-observer.observer-index z)

@@ -1,6 +1,6 @@
 use Rattle.std.proofs.Common.{List, get_or, ap}
 use Rattle.ar_base.specs.Numbers.{VarId}
-use Rattle.ar_io.proofs.Writing.{writes_exit, writes_as, leaves_all, leaves_on, leaves_cut, leaves_none, next_read, no_item}
+use Rattle.ar_io.proofs.Writing.{writes_exit, writes_as, leaves_all, leaves_on, leaves_front, leaves_none, next_read, no_item}
 use Rattle.ar_meaning.specs.TraceText.{variable_line}
 use Rattle.gts_core.specs.Readings.{value_at}
 use Rattle.gts_flatten.specs.Flat.{naming_of_parts}
@@ -20,7 +20,7 @@ returns-in_err-variable_line g c =
     let one = variable_line (naming_of_parts c.args.parts.now) in
     let x = get_or c.args.changed.now c.loop-variable.variable-index none in
     writes_exit _ _ c.from_residual.ensures.1
-    (leaves_cut _ _ c.loop-variable.invariant
+    (leaves_front _ _ c.loop-variable.invariant
     (writes_as _ _ (ap (λ v. one x.n v) c.value_at.ensures) c.in_err-variable_line.ensures)
     (next_read (λ (xs : List VarId). texts_of (λ n. one n (value_at c.args.new.now n)) (numbers xs)) c.args.changed.now
     c.loop-variable.variable-index none c.loop-variable-test.true))

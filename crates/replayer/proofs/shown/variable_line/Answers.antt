@@ -1,4 +1,4 @@
-use Rattle.ar_io.proofs.Writing.{writes_exit, writes_on, writes_cut, writes_as}
+use Rattle.ar_io.proofs.Writing.{writes_exit, writes_on, writes_front, writes_as}
 use Rattle.std.proofs.Common.{ℕ, List, ◌++◌, codes, ap}
 use Rattle.ar_meaning.specs.ValueTexts.{value_text}
 use Rattle.replayer.proofs.shown.variable_line.Goals as goal
@@ -6,12 +6,12 @@ use Rattle.replayer.proofs.shown.variable_line.Goals as goal
 pub returns-in_err-put : goal.returns-in_err-put
 returns-in_err-put g c =
     writes_exit _ _ c.from_residual.ensures.1
-    (writes_cut _ _ c.in_err-put.ensures)
+    (writes_front _ _ c.in_err-put.ensures)
 
 pub returns-in_err-named_value : goal.returns-in_err-named_value
 returns-in_err-named_value g c =
     writes_exit _ _ c.from_residual-in_err-named_value.ensures.1
-    (writes_on c.in_ok-put.ensures (writes_cut _ _
+    (writes_on c.in_ok-put.ensures (writes_front _ _
     (writes_as _ _ (ap (λ (z : List ℕ). z ++ (codes " = " ++ value_text c.args.parts.now.symbols.items c.args.v))
     c.variable_path.ensures) c.in_err-named_value.ensures)))
 

@@ -1,5 +1,5 @@
 use Rattle.std.proofs.Common.{List, get_or, false, ◌+◌, ap, refl}
-use Rattle.ar_io.proofs.Writing.{writes_exit, writes_as, leaves_all, leaves_on, leaves_cut, leaves_none, next_read, no_item}
+use Rattle.ar_io.proofs.Writing.{writes_exit, writes_as, leaves_all, leaves_on, leaves_front, leaves_none, next_read, no_item}
 use Rattle.ar_meaning.specs.TraceText.{variable_line, lines_from}
 use Rattle.gts_flatten.specs.Flat.{naming_of_parts}
 use Rattle.domains.specs.declared.Value.{Value}
@@ -12,7 +12,7 @@ loop-v-init g c = record { leaves = leaves_all _ _; numbered = refl }
 pub returns-in_err-variable_line : goal.returns-in_err-variable_line
 returns-in_err-variable_line g c =
     writes_exit _ _ c.from_residual.ensures.1
-    (leaves_cut _ _ c.loop-v.invariant.leaves
+    (leaves_front _ _ c.loop-v.invariant.leaves
     (writes_as _ _ (ap (λ n. variable_line (naming_of_parts c.args.parts.now) n
     (get_or c.args.values.now c.loop-v.v-index (Truth false))) c.loop-v.invariant.numbered)
     c.in_err-variable_line.ensures)

@@ -1,4 +1,4 @@
-use Rattle.ar_io.proofs.Writing.{writes_exit, writes_on, writes_cut, writes_as}
+use Rattle.ar_io.proofs.Writing.{writes_exit, writes_on, writes_front, writes_as}
 use Rattle.gts_core.specs.declared.system.GtsParts.{GtsParts}
 use Rattle.std.proofs.Common.{ap}
 use Rattle.replayer.specs.Printing.{values_text}
@@ -7,7 +7,7 @@ use Rattle.replayer.proofs.trace.started.Goals as goal
 pub returns-in_err-put : goal.returns-in_err-put
 returns-in_err-put g c =
     writes_exit _ _ c.from_residual.ensures.1
-    (writes_cut _ _ c.in_err-put.ensures)
+    (writes_front _ _ c.in_err-put.ensures)
 
 pub returns : goal.returns
 returns g c =

@@ -1,4 +1,4 @@
-use Rattle.ar_io.proofs.Writing.{writes_exit, writes_on, writes_cut, writes_as}
+use Rattle.ar_io.proofs.Writing.{writes_exit, writes_on, writes_front, writes_as}
 use Rattle.gts_core.specs.declared.system.GtsParts.{GtsParts}
 use Rattle.std.proofs.Common.{ap, ◌∙◌}
 use Rattle.ar_base.specs.Texts.{text_at}
@@ -8,7 +8,7 @@ use Rattle.text_pieces.proofs.faults.outside.Goals as goal
 pub returns-in_err-put : goal.returns-in_err-put
 returns-in_err-put g c =
     writes_exit _ _ c.from_residual.ensures.1
-    (writes_cut _ _ (writes_as _ _ (c.variable_path.ensures
+    (writes_front _ _ (writes_as _ _ (c.variable_path.ensures
     ∙ ap (λ (q : GtsParts). text_at (naming_of_parts q).variables c.args.n) c.parts.ensures.parts)
     c.in_err-put.ensures))
 

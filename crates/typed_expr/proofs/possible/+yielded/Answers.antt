@@ -108,8 +108,8 @@ yielded-returns-in_err-one_true-in-Any g t c =
     (arm.any-stop facts c.args.most c.in_err-one_true-in-Any.field-0.0 c.args.expr.now c.deref-in-Any.result.now
     c.in-Any.es c.in-Any.is c.deref-in-Any.ensures.value c.in_err-one_true-in-Any.ensures)
 
-pub yielded-returns-in_ok-few_pairs-in-Compare : goal.yielded-returns-in_ok-few_pairs-in-Compare
-yielded-returns-in_ok-few_pairs-in-Compare g t c =
+pub yielded-returns-in_ok-right-in-Compare : goal.yielded-returns-in_ok-right-in-Compare
+yielded-returns-in_ok-right-in-Compare g t c =
     let facts = facts_of (g.E.Env.facts_at c.args.env.now) in
     let rel = c.in-Compare.relation in
     let lx = c.in_ok-left-in-Compare.left in

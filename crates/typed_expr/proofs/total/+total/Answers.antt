@@ -1,6 +1,6 @@
 use Rattle.std.proofs.Common.{sym, ap, ◌∙◌, unwrap_or, Option, w64, SFits, rules}
 use Rattle.std.proofs.lemmas.Int.{to_z-of_z}
-use Rattle.typed_expr.specs.Values.{truth_of}
+use Rattle.domains.specs.Values.{truth_of}
 use Rattle.domains.specs.declared.Value.{Value}
 use Rattle.typed_expr.specs.Total.{value_of}
 use Rattle.typed_expr.proofs.Folding.{value_of-chosen, chosen-true, chosen-false, chosen-over, fold_of-step, is_nil-more}

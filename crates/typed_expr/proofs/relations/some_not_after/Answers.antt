@@ -1,0 +1,12 @@
+use Rattle.std.proofs.Common.{◌↔◌, Bool, IsTrue, not, true, sym, subst}
+use Rattle.typed_expr.specs.Evaluating.{SomeRelated}
+use Rattle.typed_expr.specs.declared.expr.Relation.TheVariants.{AtMost}
+use Rattle.typed_expr.proofs.Ends.{some-not_after}
+use Rattle.typed_expr.proofs.relations.some_not_after.Goals as goal
+
+pub returns : goal.returns
+returns c =
+    subst (λ (b : Bool). IsTrue (not b) ↔ SomeRelated AtMost c.args.first.now c.args.second.now true)
+    (sym c.before-2.ensures)
+    (some-not_after c.args.first.now c.args.second.now c.in-Some.least.now c.in-Some-last.greatest.now c.requires.first
+    c.requires.second (sym c.in-Some.ensures.value) (sym c.in-Some-last.ensures.value))

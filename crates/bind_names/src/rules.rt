@@ -1,7 +1,7 @@
 //! The rules of names, kinds, values and targets, over a whole tree.
 
 ghost use Rattle.std.specs.Prelude.{◌≡◌, List};
-ghost use Rattle.class_table.specs.Tabling.{kept_rule};
+ghost use Rattle.ar_base.specs.Stages.{kept_rule};
 ghost use Rattle.hierarchy.specs.Models.{RootedModel};
 ghost use Rattle.hierarchy.specs.Units.{UnitPath};
 ghost use Rattle.bind_scopes.specs.Scopes.{AreScopes, HasScopes};

@@ -2,7 +2,7 @@
 use Rattle.std.proofs.Common.{◌≡◌, ℕ, suc, List, map, Option, Some, None, Result, Ok, Err, IfNone, refl, sym, ap, subst}
 use Rattle.ar_base.specs.Lists.{IsOneOf, Along}
 use Rattle.ar_base.specs.Numbers.{NameId, BodyId}
-use Rattle.ar_base.specs.Stages.{Meets}
+use Rattle.ar_base.specs.Stages.{Meets, kept_rule}
 use Rattle.ar_base.specs.declared.faults.RuleFault.{RuleFault}
 use Rattle.ar_base.specs.declared.faults.RuleFault.TheVariants.{Rule, Limit, Memory}
 use Rattle.ar_base.specs.declared.places.Place.{Place}
@@ -12,7 +12,7 @@ use Rattle.ar_syntax.specs.declared.items.Item.{Item}
 use Rattle.ar_syntax.specs.declared.items.Model.{Model}
 use Rattle.class_table.specs.Declaring.{Declared, IsDeclared}
 use Rattle.class_table.specs.Tables.{IsBodyOf, IsNamedType, IsTableOf, IsMain}
-use Rattle.class_table.specs.Tabling.{Tabulates, table, breach, kept_rule}
+use Rattle.class_table.specs.Tabling.{Tabulates, table, breach}
 use Rattle.class_table.specs.Rules.{BreaksItems, BreaksTypes, BreaksContainment, BreaksNames, Breaks, l1, l2, l3, l4, l5, text_rules}
 use Rattle.class_table.specs.Earliest.{IsEarliest}
 use Rattle.class_table.specs.Laying.{AreParts}

@@ -1,5 +1,5 @@
 -- The first stage behind the grammar: the table of a model, or the first of the rules L1 to L5 that it breaks.
-use Rattle.std.specs.Prelude.{ℕ, List, Option, Some, None, Result, Ok, Err}
+use Rattle.std.specs.Prelude.{ℕ, List, Option, Result, Ok, Err}
 use Rattle.ar_base.specs.Breach.{IsBroken, AreKept}
 use Rattle.ar_base.specs.declared.faults.RuleFault.{RuleFault}
 use Rattle.ar_base.specs.declared.faults.RuleFault.TheVariants.{Rule}
@@ -16,8 +16,3 @@ pub data Tabulates (main : Option (List ℕ)) (model : Model) : Result Classes R
       → Tabulates main model (Ok c)
   breach : {r : ℕ} {p : Place} (d : Declared) → IsDeclared model d → IsBroken text_rules (Breaks model main d) r p
       → Tabulates main model (Err (Rule r p))
-
--- the answer of the test of one rule
-abbrev pub kept_rule : ℕ → Option Place → Result (Unit {0}) RuleFault
-kept_rule r (Some p) = Err (Rule r p)
-kept_rule r None = Ok tt

@@ -15,11 +15,13 @@ mod misnaming;
 mod naming;
 mod order;
 mod repeats;
+mod sites;
 mod symbols;
 mod tables;
 mod tabling;
 mod types;
 
 pub use laws::{inherited_members_come_first, one_declared, one_list_of_members, one_refusal};
+pub use sites::owned_at;
 pub use tables::{Body, Classes, Owned, TypeBody};
 pub use tabling::table;

@@ -1,11 +1,10 @@
 //! The first name of a member that breaks rule L4.
 
-ghost use Rattle.std.specs.Prelude.{◌≡◌, ◌↔◌, ◌++◌, ℕ, List, map, OnOk, IfOk, true, slice_get, option_map, option_copied};
+ghost use Rattle.std.specs.Prelude.{◌++◌, ℕ, List, map, OnOk, IfOk, Some};
 ghost use Rattle.ar_base.specs.declared.places.Place.{Place};
 ghost use Rattle.class_table.specs.Declaring.{Declared};
 ghost use Rattle.class_table.specs.Members.{Site, names_of, named_at, owned_at as declared_at};
-ghost use Rattle.class_table.specs.Tables.{IsBodyOf, site_of};
-ghost use Rattle.ar_base.specs.Lists.{Along};
+ghost use Rattle.class_table.specs.Tables.{site_of};
 ghost use Rattle.class_table.specs.Earliest.{IsEarliest};
 ghost use Rattle.class_table.specs.Repeating.{HasMet, IsRepeated};
 ghost use Rattle.class_table.specs.Rules.{BreaksNames};
@@ -14,6 +13,7 @@ ghost use Rattle.class_table.specs.Shown.{Shows, IsListed, IsDeclaredBy, member_
 
 use crate::earliest::earliest;
 use crate::repeats::Repeats;
+use crate::sites::owned_at;
 use crate::tables::{Body, Owned};
 use crate::types::TypeKinds;
 use ar_base::{BodyId, Memory, Place};
@@ -61,17 +61,6 @@ fn is_declared(form: TypeForm, types: &TypeKinds) -> bool
         TypeForm::Boolean => true,
         TypeForm::Integer => false,
         TypeForm::Named(name) => types.kind(name).is_some(),
-    }
-}
-
-// The member at a place of a body.
-fn owned_at(bodies: &[Body], site: (BodyId, u32)) -> Option<&Owned>
-    ensures { (d : Declared) → Along IsBodyOf bodies.now d.bodies
-        → option_copied result ≡ declared_at d (site_of site) }
-{
-    match bodies.get(site.0.n as usize) {
-        Some(body) => body.own.get(site.1 as usize),
-        None => None,
     }
 }
 

@@ -2,7 +2,7 @@
 
 ghost use Rattle.std.specs.Prelude.{◌≡◌, option_map};
 ghost use Rattle.ar_base.specs.Stages.{Meets};
-ghost use Rattle.class_table.specs.Tabling.{Tabulates, kept_rule};
+ghost use Rattle.class_table.specs.Tabling.{Tabulates};
 ghost use Rattle.std.specs.Prelude.{IfOk};
 ghost use Rattle.class_table.specs.Declaring.{Declared as Declaration};
 ghost use Rattle.class_table.specs.Earliest.{IsEarliest};
@@ -21,19 +21,9 @@ use crate::naming::first_named_twice;
 use crate::order::{Order, put_in_order};
 use crate::tables::{Body, Classes};
 use crate::types::TypeKinds;
-use ar_base::{BodyId, Memory, Place, RuleFault};
+use ar_base::{BodyId, Memory, Place, RuleFault, keep};
 use ar_syntax::Model;
 use std::alloc::Global;
-
-// The rule is refused where it is broken somewhere.
-fn keep(rule: u8, broken: Option<Place>) -> Result<(), RuleFault>
-    ensures { result ≡ kept_rule rule broken }
-{
-    match broken {
-        Some(place) => Err(RuleFault::Rule(rule, place)),
-        None => Ok(()),
-    }
-}
 
 // The earliest type name in a body whose class has that body inside it, where the order does not show that there is none.
 fn first_inside_itself(

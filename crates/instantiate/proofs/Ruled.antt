@@ -3,12 +3,11 @@ use Rattle.std.proofs.Common.{◌≡◌, ◌<◌, ◌+◌, ◌⊎◌, inl, inr, 
 use Rattle.std.proofs.lemmas.Bool.{cases_eq}
 use Rattle.ar_base.specs.Breach.{IsBroken, AreKept}
 use Rattle.ar_base.specs.Lists.{IsOneOf}
-use Rattle.ar_base.specs.Stages.{kept, broken}
+use Rattle.ar_base.specs.Stages.{kept, broken, kept_rule}
 use Rattle.ar_base.specs.declared.faults.RuleFault.{RuleFault}
 use Rattle.ar_base.specs.declared.places.Place.{Place}
 use Rattle.ar_base.proofs.Standing.{one_first, one_rest}
 use Rattle.class_table.specs.Earliest.{IsEarliest, nowhere, there}
-use Rattle.class_table.specs.Tabling.{kept_rule}
 use Rattle.class_table.proofs.Answering.{kept_ok, kept_err}
 use Rattle.class_table.proofs.FirstPlaces.{earliest_same}
 use Rattle.hierarchy.specs.Models.{RootedModel}

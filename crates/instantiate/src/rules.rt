@@ -1,7 +1,7 @@
 //! The rules that the units of a main block keep.
 
 ghost use Rattle.std.specs.Prelude.{◌≡◌, ◌≤◌, List, length};
-ghost use Rattle.class_table.specs.Tabling.{kept_rule};
+ghost use Rattle.ar_base.specs.Stages.{kept_rule};
 ghost use Rattle.hierarchy.specs.Models.{RootedModel};
 ghost use Rattle.hierarchy.specs.Units.{UnitPath};
 ghost use Rattle.hierarchy.specs.Tie.{AreOutlines};

@@ -1,7 +1,7 @@
 use Rattle.std.proofs.Common.{◌∙◌}
 use Rattle.class_table.proofs.Taken.{item_stands}
 use Rattle.class_table.proofs.MemberNames.{site_there, site_past, copied_get}
-use Rattle.class_table.proofs.naming.owned_at.Goals as goal
+use Rattle.class_table.proofs.sites.owned_at.Goals as goal
 
 pub returns-in-Some : goal.returns-in-Some
 returns-in-Some c = λ d shown.

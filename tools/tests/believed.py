@@ -7,7 +7,7 @@ import subprocess
 import sys
 
 page = pathlib.Path("docs/PROMISES.md").read_text()
-section = page[page.index("## What must be believed"):page.index("## What is promised")]
+section = " ".join(page[page.index("## What must be believed"):page.index("## What is promised")].split())
 
 
 def words(*options):

@@ -20,3 +20,7 @@ at_most() {
 point "no further place answers want of memory by itself" at_most 66 tools/memory_places
 point "no further body of a function is in two files" at_most 26 tools/twins
 point "mutated models end with a status, and none for want of memory" tools/mutate "$ALTARICA" 3000
+
+# Each name of a definition that must be believed has one meaning, and PROMISES names their files and counts their lines.
+point "each name that must be believed has one meaning" tools/words
+point "the files that must be believed, and their lines, are those of PROMISES" python3 tools/tests/believed.py

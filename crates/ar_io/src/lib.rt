@@ -13,7 +13,7 @@ mod outside;
 mod pieces;
 
 pub use files::{FileShelf, StdSink};
-pub use gathered::Gathered;
+pub use gathered::{Beginning, Gathered, Room};
 pub use memory_shelf::MemoryShelf;
 pub use memory_sink::MemorySink;
 pub use outside::{LoadFault, Shelf, Sink, SinkFailed};

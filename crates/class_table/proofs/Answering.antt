@@ -1,5 +1,5 @@
 -- The answer of the stage.
-use Rattle.std.proofs.Common.{◌≡◌, ℕ, suc, List, map, Option, Some, None, Result, Ok, Err, IfNone, refl, sym, ap, subst}
+use Rattle.std.proofs.Common.{◌≡◌, ℕ, suc, List, map, Option, Some, None, Result, Ok, Err, IfNone, Vec, Global, refl, sym, ap, subst, arith}
 use Rattle.ar_base.specs.Lists.{IsOneOf, Along}
 use Rattle.ar_base.specs.Numbers.{NameId, BodyId}
 use Rattle.ar_base.specs.Stages.{Meets, kept_rule}
@@ -22,6 +22,11 @@ use Rattle.class_table.specs.declared.types.TypeKinds.{TypeKinds}
 use Rattle.class_table.specs.declared.tables.TypeBody.{TypeBody}
 use Rattle.class_table.specs.declared.declaring.Declared.{Declared as Parts}
 use Rattle.class_table.specs.declared.tables.Classes.{Classes}
+use Rattle.class_table.specs.Listing.{CanList}
+use Rattle.class_table.specs.Ordering.{IsOrder}
+use Rattle.class_table.specs.Rows.{AreInside}
+use Rattle.class_table.proofs.Acyclic.{is_complete}
+use Rattle.class_table.proofs.Listed.{classes_named}
 use Rattle.class_table.proofs.FirstPlaces.{earliest_same}
 use Rattle.class_table.proofs.Broken.{KeptBelow, none_below, next_below, all_kept, broken_at, kept_none, is_l1, is_l2, is_l3, is_l4, is_l5}
 
@@ -117,6 +122,14 @@ module _ (model : Model) (main : Option (List ℕ)) (d : Declared) where
   pub passes4 : (f : Option Place) (x : Unit {0}) → KeptBelow model main d 4 → IsEarliest (BreaksNames d) f
       → Ok x ≡ kept_rule 4 f → KeptBelow model main d 5
   passes4 f x k h e = passes_test 4 f (kept_ok 4 f x e) k (tests4 f h)
+
+  -- members can be listed in an order
+  pub can_list : (rows : List (Vec ℕ Global)) (order : List ℕ) → IsDeclared model d → KeptBelow model main d 4
+      → AreInside d rows → IsOrder rows order → CanList d order
+  can_list rows order i k inside o = record {
+    complete = is_complete i (λ p b. k.kept 3 p one3 (omega arith) (l3 b)) rows order inside o;
+    classes = classes_named d (λ p b. k.kept 2 p one2 (omega arith) (l2 b));
+  }
 
   -- without a main block
   pub refuses5 : IsDeclared model d → KeptBelow model main d 5 → ((b : ℕ) → IsMain model.names d main b → ⊥)

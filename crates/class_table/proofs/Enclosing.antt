@@ -1,5 +1,5 @@
 -- Bodies inside bodies.
-use Rattle.std.proofs.Common.{◌≡◌, ℕ, ◌≤◌, slice_index, List, Option, Some, None, option_map, refl, sym, ◌∙◌, ap, subst, arith}
+use Rattle.std.proofs.Common.{◌≡◌, ℕ, List, Option, Some, None, option_map, refl, sym, ◌∙◌, ap, subst, arith}
 use Rattle.std.proofs.lemmas.Option.{same_Some}
 use Rattle.ar_base.specs.Lists.{Stands, IsOneOf, Along}
 use Rattle.ar_base.specs.declared.places.Place.{Place}
@@ -13,7 +13,7 @@ use Rattle.class_table.specs.Declaring.{MemberForm, Declared}
 use Rattle.class_table.specs.Members.{class_named, own_at}
 use Rattle.class_table.specs.Tables.{IsBodyOf}
 use Rattle.class_table.specs.Rules.{NamesClass, extends, instances, HasInside, class, block, IsWithin, itself, further, BreaksContainment}
-use Rattle.class_table.specs.Shown.{inside, inside_form, inside_type, Falls, IsAgain, NamesAgain}
+use Rattle.class_table.specs.Shown.{inside, inside_form, inside_type, IsAgain, NamesAgain}
 use Rattle.class_table.specs.declared.tables.Body.{Body}
 use Rattle.class_table.specs.declared.tables.Owned.{Owned}
 use Rattle.class_table.specs.declared.tables.Owned.TheVariants.{Plain, Nested}
@@ -75,18 +75,6 @@ owned_inside d a b (Nested x p id) at s e = let i : id.n ≡ b = ap (λ (z : ℕ
 pub within_then : (d : Declared) (a b c : ℕ) → IsWithin d a b → HasInside d b c → IsWithin d a c
 within_then d a b c itself h = further c h itself
 within_then d a b c (further e i w) h = further e i (within_then d e b c w h)
-
--- where ranks fall, none is inside itself
-pub within_falls : (d : Declared) (ranks : List ℕ) → Falls d ranks → (a b : ℕ) → IsWithin d a b
-    → slice_index ranks b ≤ slice_index ranks a
-within_falls d ranks f a b itself = omega arith
-within_falls d ranks f a b (further c h w) = let l = within_falls d ranks f c b w in let m = f.each a c h in omega arith
-
-pub falls_none : (d : Declared) (ranks : List ℕ) → Falls d ranks → (p : Place) → BreaksContainment d p → ⊥
-falls_none d ranks f p h =
-    let m = f.each h.body h.class (class h.member h.stands h.names) in
-    let l = within_falls d ranks f h.class h.body h.again in
-    omega arith
 
 -- what a loop over members finds
 pub again_to : (d : Declared) (body : ℕ) (own : List Owned) (k : ℕ) (o : Owned) (p : Place) → Stands own k o

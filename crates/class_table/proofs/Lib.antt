@@ -21,3 +21,7 @@ pub mod Answering
 pub mod OneDeclared
 pub mod OneList
 pub mod OneRefusal
+pub mod Nesting
+pub mod Acyclic
+pub mod Ordered
+pub mod Rowed

@@ -13,7 +13,7 @@ use Rattle.class_table.specs.Shown.{inside}
 use Rattle.class_table.specs.Searching.{marked, IsSeen, OpensOne, Opens, OpensInside}
 use Rattle.class_table.specs.declared.tables.Body.{Body}
 use Rattle.class_table.specs.declared.tables.Owned.{Owned}
-use Rattle.class_table.proofs.Taken.{stands_set}
+use Rattle.class_table.proofs.Taken.{stands_set, set_there, set_same}
 use Rattle.class_table.proofs.OwnAt.{own_shown, shown_back}
 use Rattle.class_table.proofs.Enclosing.{inside_owned, owned_inside, within_then}
 
@@ -65,6 +65,11 @@ opens_new b old new seen l n e h = record {
     no_more =
         let c = marked-set seen b l n in let k = h.no_more in let f = ap length e in
         let g = length-append old (b ∷ []) in omega arith;
+    has_seen = λ c o. elim (one_split old (b ∷ []) c (subst (λ (xs : List ℕ). IsOneOf xs c) e o)) [
+      | inl i ↦ set_same seen b true c (h.has_seen c i)
+      | inr i ↦ elim (one_cases b [] c i)
+          [ inl j ↦ subst (λ (k : ℕ). Stands (set seen b true) k true) j (set_there seen b true l) | inr j ↦ absurd (one_none c j) ]
+    ];
     is_open = λ c s. elim (stands_set seen b true c true s) [
       | inl i ↦ subst (IsOneOf new) (sym i.0) is_last
       | inr i ↦ subst (λ (xs : List ℕ). IsOneOf xs c) (sym e) (one_left old (b ∷ []) c (h.is_open c i))
@@ -165,6 +170,7 @@ pub record Search (d : Declared) (n first to next : ℕ) (found : List ℕ) (see
 pub none_open : (n : ℕ) (seen : List Bool) (found : List ℕ) → seen ≡ replicate n false → found ≡ [] → IsSeen seen found
 none_open n seen found e f = record {
   is_open = λ b s. absurd (none_seen seen n e b s);
+  has_seen = λ b o. absurd (one_none b (subst (λ (xs : List ℕ). IsOneOf xs b) f o));
   no_more = let l = ap length f in omega arith;
 }
 

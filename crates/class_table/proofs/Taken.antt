@@ -1,8 +1,8 @@
 -- Loops over lists.
 use Rattle.std.proofs.Common.{◌≡◌, ℕ, zero, suc, ◌+◌, ◌<◌, List, [], ◌∷◌, ◌++◌, length, map, take, get_or, refl, sym, ◌∙◌, ap, subst, arith}
-use Rattle.std.proofs.Common.{inl, inr, ◌⊎◌, set}
+use Rattle.std.proofs.Common.{inl, inr, ◌⊎◌, set, drop, add-one, drop-cons, ◌-◌, ◌≤◌, length-append}
 use Rattle.std.proofs.lemmas.List.{take_more}
-use Rattle.ar_base.specs.Lists.{Stands}
+use Rattle.ar_base.specs.Lists.{Stands, IsOneOf}
 use Rattle.ar_base.proofs.Standing.{stands_one, stands_get, stands_within}
 use Rattle.ar_base.proofs.Comparing.{lt_or_same}
 
@@ -62,6 +62,50 @@ module _ {A : Type 0} where
   stands_set (x ∷ xs) (suc i) v (suc k) a s =
       elim (stands_set xs i v k a s) [ inl h ↦ inl (ap suc h.0, h.1) | inr h ↦ inr h ]
 
+  pub set_there : (xs : List A) (i : ℕ) (v : A) → i < length xs → Stands (set xs i v) i v
+  set_there [] i v l = absurd (omega (arith, l))
+  set_there (x ∷ xs) zero v l = refl
+  set_there (x ∷ xs) (suc i) v l = set_there xs i v (omega (arith, l))
+
+  pub set_kept : (xs : List A) (i : ℕ) (v : A) (k : ℕ) (a : A) → (k ≡ i → ⊥) → Stands xs k a → Stands (set xs i v) k a
+  set_kept [] i v k a n s = s
+  set_kept (x ∷ xs) zero v zero a n s = absurd (n refl)
+  set_kept (x ∷ xs) zero v (suc k) a n s = s
+  set_kept (x ∷ xs) (suc i) v zero a n s = s
+  set_kept (x ∷ xs) (suc i) v (suc k) a n s = set_kept xs i v k a (λ e. n (ap suc e)) s
+
+  -- what stands there already, or is written, stands there
+  pub set_same : (xs : List A) (i : ℕ) (v : A) (k : ℕ) → Stands xs k v → Stands (set xs i v) k v
+  set_same [] i v k s = s
+  set_same (x ∷ xs) zero v zero s = refl
+  set_same (x ∷ xs) zero v (suc k) s = s
+  set_same (x ∷ xs) (suc i) v zero s = s
+  set_same (x ∷ xs) (suc i) v (suc k) s = set_same xs i v k s
+
+  -- what stands in a front stands there in the whole, and the other way round
+  pub stands_take : (xs : List A) (k n : ℕ) (x : A) → Stands (take k xs) n x → Stands xs n x
+  stands_take xs zero zero x p = cc
+  stands_take xs zero (suc n) x p = cc
+  stands_take [] (suc k) n x p = p
+  stands_take (y ∷ xs) (suc k) zero x p = p
+  stands_take (y ∷ xs) (suc k) (suc n) x p = stands_take xs k n x p
+
+  pub take_stands : (xs : List A) (k n : ℕ) (x : A) → n < k → Stands xs n x → Stands (take k xs) n x
+  take_stands xs zero n x lt p = absurd (omega (arith, lt))
+  take_stands [] (suc k) n x lt p = p
+  take_stands (y ∷ xs) (suc k) zero x lt p = p
+  take_stands (y ∷ xs) (suc k) (suc n) x lt p = take_stands xs k n x (omega (arith, lt)) p
+
+  -- one of a list is its last item or one of those before
+  pub last_or_before : (xs : List A) (last x : A) → Stands xs (length xs - 1) last → IsOneOf xs x
+      → (x ≡ last) ⊎ IsOneOf (take (length xs - 1) xs) x
+  last_or_before xs last x at one =
+      let within = stands_within xs one.place x one.stands in
+      elim (lt_or_same one.place (length xs - 1) (omega (arith, within))) [
+        | inl l ↦ inr (record { place = one.place; stands = take_stands xs (length xs - 1) one.place x l one.stands })
+        | inr e ↦ inl (stands_one xs (length xs - 1) x last (subst (λ (n : ℕ). Stands xs n x) e one.stands) at)
+      ]
+
   -- one item written between two parts
   pub set_between : (xs ys : List A) (a v : A) → set (xs ++ a ∷ ys) (length xs) v ≡ xs ++ v ∷ ys
   set_between [] ys a v = refl
@@ -70,6 +114,21 @@ module _ {A : Type 0} where
   pub get_between : (xs ys : List A) (a d : A) → get_or (xs ++ a ∷ ys) (length xs) d ≡ a
   get_between [] ys a d = refl
   get_between (x ∷ xs) ys a d = get_between xs ys a d
+
+module _ {A : Type 0} where
+  -- one item more
+  pub length_next : (xs ys : List A) (a : A) → ys ≡ xs ++ a ∷ [] → length ys ≡ length xs + 1
+  length_next xs ys a e = let f = ap length e in let g = length-append xs (a ∷ []) in omega (arith, f, g)
+
+  -- the rest of a list begins with the item at its place
+  pub drop_one : (xs : List A) (k : ℕ) (d : A) → k < length xs → drop k xs ≡ get_or xs k d ∷ drop (k + 1) xs
+  drop_one xs k d lt = rw (add-one, drop-cons xs k d)
+
+  pub drop_all : (xs : List A) (k : ℕ) → length xs ≤ k → drop k xs ≡ []
+  drop_all [] zero le = refl
+  drop_all [] (suc k) le = refl
+  drop_all (x ∷ xs) zero le = absurd (omega (arith, le))
+  drop_all (x ∷ xs) (suc k) le = drop_all xs k (omega (arith, le))
 
 module _ {A B : Type 0} (f : A → B) where
   pub length_map : (xs : List A) → length (map f xs) ≡ length xs

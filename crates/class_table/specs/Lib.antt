@@ -16,3 +16,5 @@ pub mod Main
 pub mod Symbols
 pub mod Laying
 pub mod Misnaming
+pub mod Rows
+pub mod Ordering

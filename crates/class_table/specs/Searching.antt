@@ -13,9 +13,10 @@ marked [] = 0
 marked (true ∷ seen) = marked seen + 1
 marked (false ∷ seen) = marked seen
 
--- the bodies that are marked are open, and no more are open than are marked
+-- the bodies that are marked are those that are open, and no more are open than are marked
 pub record IsSeen (seen : List Bool) (open_ones : List ℕ) : Type 0 where
   pub is_open : (b : ℕ) → Stands seen b true → IsOneOf open_ones b
+  pub has_seen : (b : ℕ) → IsOneOf open_ones b → Stands seen b true
   pub no_more : length open_ones ≤ marked seen
 
 -- the body is open, if there is one of this number, with no other one added

@@ -1,5 +1,5 @@
 -- What the bodies show of what is declared.
-use Rattle.std.specs.Prelude.{◌≡◌, ℕ, ◌<◌, slice_index, Bool, true, false, is_some, List, map, Option, Some, None, option_map}
+use Rattle.std.specs.Prelude.{◌≡◌, ℕ, Bool, true, false, is_some, List, map, Option, Some, None, option_map}
 use Rattle.ar_base.specs.Lists.{Stands, IsOneOf, Along}
 use Rattle.ar_base.specs.declared.places.Place.{Place}
 use Rattle.ar_syntax.specs.declared.members.Member.{out-Member}
@@ -9,7 +9,7 @@ use Rattle.ar_syntax.specs.declared.members.TypeForm.TheVariants as form
 use Rattle.class_table.specs.Declaring.{MemberForm, Declared}
 use Rattle.class_table.specs.Members.{type_named, class_named, Members, NamedMember}
 use Rattle.class_table.specs.Tables.{IsBodyOf, site_of}
-use Rattle.class_table.specs.Rules.{Misnames, HasInside, IsWithin}
+use Rattle.class_table.specs.Rules.{Misnames, IsWithin}
 use Rattle.class_table.specs.Kinds.{KnowsTypes}
 use Rattle.class_table.specs.declared.tables.Body.{Body}
 use Rattle.class_table.specs.declared.tables.Owned.{Owned}
@@ -49,10 +49,6 @@ abbrev pub inside : Declared → Owned → Option (ℕ × Option Place)
 inside d (Plain m) = inside_form d (out-Member m)
 inside d (Nested x at b) = Some (b.n, None)
 
--- by these numbers each body is above all bodies inside it
-pub record Falls (d : Declared) (ranks : List ℕ) : Type 0 where
-  pub each : (a b : ℕ) → HasInside d a b → slice_index ranks b < slice_index ranks a
-
 -- the member names, at the place, a class that has the body inside it
 pub record IsAgain (d : Declared) (body : ℕ) (owned : Owned) (p : Place) : Type 0 where
   pub class : ℕ
@@ -79,7 +75,3 @@ abbrev pub IsDeclaredBy : Declared → TypeForm → Bool → Type 0
 IsDeclaredBy d form.Boolean is_declared = is_declared ≡ true
 IsDeclaredBy d form.Integer is_declared = is_declared ≡ false
 IsDeclaredBy d (form.Named x) is_declared = is_declared ≡ is_some (type_named d x.n)
-
--- the bodies that these members put inside have lesser ranks
-pub record FallsIn (d : Declared) (ranks : List ℕ) (own : List Owned) (rank : ℕ) : Type 0 where
-  pub each : (o : Owned) (b : ℕ × Option Place) → IsOneOf own o → inside d o ≡ Some b → slice_index ranks b.0 < rank

@@ -1,6 +1,6 @@
 //! The first type name that breaks rule L3.
 
-ghost use Rattle.std.specs.Prelude.{◌≡◌, ◌↔◌, ◌<◌, ℕ, List, [], ◌∷◌, length, Some, IsTrue, IfOk, OnOk};
+ghost use Rattle.std.specs.Prelude.{◌≡◌, ◌↔◌, ◌<◌, ◌≤◌, ℕ, List, [], ◌∷◌, length, Some, IsTrue, IfOk, OnOk};
 ghost use Rattle.ar_base.specs.declared.places.Place.{Place};
 ghost use Rattle.class_table.specs.Declaring.{Declared};
 ghost use Rattle.class_table.specs.Earliest.{IsEarliest};
@@ -161,15 +161,16 @@ pub(crate) fn first_contained(
     bodies: &[Body],
     types: &TypeKinds,
 ) -> Result<Option<Place>, Memory>
+    requires { length bodies.now ≤ 16777216 }
     ensures { (d : Declared) → Shows d bodies.now types.now
         → IfOk result (IsEarliest (BreaksContainment d)) }
 {
     let mut found = None;
     for (place, body) in bodies.iter().enumerate() {
-        let Ok(number) = u32::try_from(place) else {
-            return Err(Memory {});
-        };
-        found = earliest(found, in_body(alloc, bodies, types, number, &body.own)?);
+        found = earliest(
+            found,
+            in_body(alloc, bodies, types, place as u32, &body.own)?,
+        );
     }
     Ok(found)
 }

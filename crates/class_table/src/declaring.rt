@@ -1,6 +1,6 @@
 //! What a model declares.
 
-ghost use Rattle.std.specs.Prelude.{IfOk};
+ghost use Rattle.std.specs.Prelude.{◌≤◌, length, IfOk};
 ghost use Rattle.class_table.specs.Laying.{AreParts};
 
 use crate::laying::lay_unit;
@@ -21,7 +21,8 @@ pub(crate) struct Declared {
 
 /// Takes the items apart: bodies are numbered in the order of their headings, symbols in that of their first use.
 pub(crate) fn declare(alloc: Global, items: Vec<Item>) -> Result<Declared, Memory>
-    ensures { IfOk result (AreParts items.items) }
+    ensures parts { IfOk result (AreParts items.items) }
+    ensures few { IfOk result (λ d. length d.bodies.items ≤ 16777216) }
 {
     let mut bodies = Vec::new(alloc);
     let mut types = Vec::new(alloc);

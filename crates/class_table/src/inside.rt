@@ -1,9 +1,10 @@
 //! Which bodies are inside which.
 
-ghost use Rattle.std.specs.Prelude.{◌≡◌, option_map};
+ghost use Rattle.std.specs.Prelude.{◌≡◌, option_map, IfOk, OnOk};
 ghost use Rattle.class_table.specs.Declaring.{Declared};
 ghost use Rattle.class_table.specs.Kinds.{KnowsTypes};
-ghost use Rattle.class_table.specs.Shown.{inside, inside_type};
+ghost use Rattle.class_table.specs.Shown.{Shows, inside, inside_type};
+ghost use Rattle.class_table.specs.Rows.{AreInside, IsRowOf, AddsInside};
 ghost use Rattle.ar_syntax.specs.declared.members.TypeForm.TheVariants.{Named};
 
 use crate::tables::{Body, Owned};
@@ -52,12 +53,15 @@ fn inside_named(name: NameId, at: Place, types: &TypeKinds) -> Option<Inside>
     Some(Inside { body, at: Some(at) })
 }
 
-/// The bodies inside each body.
+/// For each body the numbers of the bodies inside it.
 pub(crate) fn all_inside(
     alloc: Global,
     bodies: &[Body],
     types: &TypeKinds,
-) -> Result<Vec<Vec<BodyId>>, Memory> {
+) -> Result<Vec<Vec<u32>>, Memory>
+    ensures { (d : Declared) → Shows d bodies.now types.now
+        → IfOk result (λ rows. AreInside d rows.items) }
+{
     let mut rows = Vec::new(alloc);
     for body in bodies {
         rows.push(row(alloc, &body.own, types)?)?;
@@ -65,12 +69,28 @@ pub(crate) fn all_inside(
     Ok(rows)
 }
 
-fn row(alloc: Global, own: &[Owned], types: &TypeKinds) -> Result<Vec<BodyId>, Memory> {
+// The numbers of the bodies that these members put inside.
+fn row(alloc: Global, own: &[Owned], types: &TypeKinds) -> Result<Vec<u32>, Memory>
+    ensures { (d : Declared) → KnowsTypes d types.now
+        → IfOk result (λ row. IsRowOf d own.now row.items) }
+{
     let mut row = Vec::new(alloc);
     for owned in own {
-        if let Some(inside) = inside_of(owned, types) {
-            row.push(inside.body)?;
-        }
+        add_inside(&mut row, owned, types)?;
     }
     Ok(row)
+}
+
+// Adds the number of the body that a member puts inside, if it puts one there.
+fn add_inside(row: &mut Vec<u32>, owned: &Owned, types: &TypeKinds) -> Result<(), Memory>
+    ensures { (d : Declared) → KnowsTypes d types.now
+        → OnOk result (AddsInside d owned.now row.old.items row.new.items) }
+{
+    match inside_of(owned, types) {
+        None => Ok(()),
+        Some(inside) => {
+            row.push(inside.body.n)?;
+            Ok(())
+        }
+    }
 }

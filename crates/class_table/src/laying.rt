@@ -1,10 +1,10 @@
 //! The bodies of units, numbered in the order of their headings.
 
-ghost use Rattle.std.specs.Prelude.{◌≡◌, ◌++◌, length, List, OnOk, IfOk};
+ghost use Rattle.std.specs.Prelude.{◌≡◌, ◌≤◌, ◌++◌, length, List, OnOk, IfOk};
 ghost use Rattle.class_table.specs.Laying.{LaysUnit, LaysMember, LaysBlock, KeepsOwn};
 
-use crate::tables::{Body, Owned};
-use ar_base::{BodyId, Memory};
+use crate::tables::{Body, MOST_MEMBERS, Owned};
+use ar_base::{BodyId, Cap, Memory};
 use ar_syntax::{Member, Unit};
 use std::alloc::Global;
 
@@ -13,11 +13,12 @@ use std::alloc::Global;
 pub(crate) fn lay_unit(alloc: Global, bodies: &mut Vec<Body>, unit: Unit) -> Result<BodyId, Memory>
     ensures number { IfOk result (λ id. id.n ≡ length bodies.old.items) }
     ensures laid { OnOk result (LaysUnit unit bodies.old.items bodies.new.items) }
+    ensures few { OnOk result (length bodies.new.items ≤ 16777216) }
 {
     let place = bodies.len();
-    let Ok(number) = u32::try_from(place) else {
-        return Err(Memory {});
-    };
+    if place >= MOST_MEMBERS {
+        return Err(Memory::from(Cap::Members));
+    }
     bodies.push(Body {
         name: unit.name,
         at: unit.at,
@@ -30,13 +31,15 @@ pub(crate) fn lay_unit(alloc: Global, bodies: &mut Vec<Body>, unit: Unit) -> Res
         own.push(kept)?;
     }
     keep_own(bodies, place, own);
-    Ok(BodyId::new(number))
+    Ok(BodyId::new(place as u32))
 }
 
 // A block by its body, which is laid; any other member as it is.
 #[cycle(laying)]
 fn lay_member(alloc: Global, bodies: &mut Vec<Body>, member: Member) -> Result<Owned, Memory>
-    ensures { IfOk result (λ o. LaysMember member o bodies.old.items bodies.new.items) }
+    ensures laid { IfOk result (λ o. LaysMember member o bodies.old.items bodies.new.items) }
+    ensures few { length bodies.old.items ≤ 16777216
+        → OnOk result (length bodies.new.items ≤ 16777216) }
 {
     match member {
         Member::Block(unit) => lay_block(alloc, bodies, unit),
@@ -58,7 +61,8 @@ fn lay_member(alloc: Global, bodies: &mut Vec<Body>, member: Member) -> Result<O
 // A block by its body.
 #[cycle(laying)]
 fn lay_block(alloc: Global, bodies: &mut Vec<Body>, unit: Unit) -> Result<Owned, Memory>
-    ensures { IfOk result (λ o. LaysBlock unit o bodies.old.items bodies.new.items) }
+    ensures laid { IfOk result (λ o. LaysBlock unit o bodies.old.items bodies.new.items) }
+    ensures few { OnOk result (length bodies.new.items ≤ 16777216) }
 {
     let name = unit.name;
     let at = unit.at;

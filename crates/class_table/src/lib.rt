@@ -4,7 +4,6 @@
 mod containment;
 mod declaring;
 pub mod earliest;
-mod falling;
 mod inside;
 mod items;
 mod laws;

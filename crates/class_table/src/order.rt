@@ -1,118 +1,158 @@
 //! An order of bodies in which each comes after those inside it.
 
-use ar_base::{BodyId, Memory};
+ghost use Rattle.std.specs.Prelude.{◌≡◌, ◌<◌, ◌+◌, ◌⊎◌, ◌^◌, ℕ, true, Vec, List, [], ◌∷◌, length, IfOk, OnOk, IfSome, IfNone};
+ghost use Rattle.std.specs.Global.{Global};
+ghost use Rattle.ar_base.specs.Lists.{Stands, IsOneOf};
+ghost use Rattle.class_table.specs.Searching.{IsSeen, OpensOne};
+ghost use Rattle.class_table.specs.Ordering.{IsOrder, IsSorting, Sorts};
+ghost use Rattle.class_table.specs.Rows.{IsInRow};
+
+use ar_base::{Memory, numbers_below};
 use std::alloc::Global;
+use std::mem;
 
-/// Bodies in an order in which each comes after all bodies inside it, and the rank of each body: from 1 on in that
-/// order, or 0 where it could not be put in order.
+/// Bodies that are put in order: for each body those inside it that were not found in the order, and those that wait
+/// for it; whether each is in the order; and the order.
 #[derive(Drop)]
-pub(crate) struct Order {
-    pub bodies: Vec<BodyId>,
-    pub ranks: Vec<u32>,
+struct Sorting {
+    rows: Vec<Vec<u32>>,
+    waiting: Vec<Vec<u32>>,
+    placed: Vec<bool>,
+    order: Vec<u32>,
 }
 
-// How many entries of each row wait for a body that has no rank, and in which rows each body stands.
-#[derive(Drop)]
-struct Waiting {
-    counts: Vec<u32>,
-    users: Vec<Vec<BodyId>>,
+/// Puts numbers in an order in which each comes after those in its row, until each that is left has one in its row
+/// that is left too.
+pub(crate) fn put_in_order(alloc: Global, rows: Vec<Vec<u32>>) -> Result<Vec<u32>, Memory>
+    requires within { (a b : ℕ) → IsInRow rows.items a b → b < length rows.items }
+    requires few { length rows.items < 2 ^ 32 }
+    ensures { IfOk result (λ order. IsOrder rows.items order.items) }
+{
+    let all = numbers_below(alloc, rows.len())?;
+    let mut sorting = Sorting::new(alloc, rows)?;
+    sorting.settle_all(&all)?;
+    sorting.release_all(alloc)?;
+    Ok(sorting.order)
 }
 
-impl Waiting {
-    // Notes that the row names this body.
-    fn note(&mut self, row: BodyId, body: BodyId) -> Result<(), Memory> {
-        if let Some(users) = self.users.get_mut(body.n as usize) {
-            users.push(row)?;
+// The last of these bodies that is not placed. Those behind it are dropped.
+fn next_awaited(row: &mut Vec<u32>, placed: &[bool]) -> Option<u32>
+    requires { (b : ℕ) → IsOneOf row.old.items b → b < length placed.now }
+    ensures some { IfSome result (λ b. IsOneOf row.old.items b × (Stands placed.now b true → ⊥)) }
+    ensures none { IfNone result ((b : ℕ) → IsOneOf row.old.items b → Stands placed.now b true) }
+    ensures fewer { (b : ℕ) → IsOneOf row.new.items b → IsOneOf row.old.items b }
+    ensures kept { (b : ℕ) → IsOneOf row.old.items b
+        → Stands placed.now b true ⊎ IsOneOf row.new.items b }
+{
+    while let Some(body) = row.last().copied() {
+        let place = body as usize;
+        if !placed[place] {
+            return Some(body);
         }
-        if let Some(count) = self.counts.get_mut(row.n as usize) {
-            *count = count.saturating_add(1);
+        let _ = row.pop();
+    }
+    None
+}
+
+// As many empty rows.
+fn empty_rows(alloc: Global, count: usize) -> Result<Vec<Vec<u32>>, Memory>
+    ensures long { IfOk result (λ rows. length rows.items ≡ count) }
+    ensures none { IfOk result (λ rows. (a b : ℕ) → IsInRow rows.items a b → ⊥) }
+{
+    let mut rows: Vec<Vec<u32>> = Vec::with_capacity(alloc, count)?;
+    while rows.len() < count {
+        rows.push(Vec::new(alloc))?;
+    }
+    Ok(rows)
+}
+
+impl Sorting {
+    fn new(alloc: Global, rows: Vec<Vec<u32>>) -> Result<Sorting, Memory>
+        requires { (a b : ℕ) → IsInRow rows.items a b → b < length rows.items }
+        ensures { IfOk result (λ s. (pending : List ℕ)
+            → ((a : ℕ) → a < length rows.items → IsOneOf pending a)
+            → ((a : ℕ) → IsOneOf pending a → a < length rows.items)
+            → IsSorting rows.items s 0 pending) }
+    {
+        let count = rows.len();
+        Ok(Sorting {
+            rows,
+            waiting: empty_rows(alloc, count)?,
+            placed: vec![in alloc; false; count]?,
+            order: Vec::new(alloc),
+        })
+    }
+
+    // Places a body, where it is not placed yet.
+    fn place(&mut self, body: u32) -> Result<(), Memory>
+        requires { body < length self.old.placed.items }
+        ensures opens { IsSeen self.old.placed.items self.old.order.items
+            → OnOk result (OpensOne body self.old.order.items self.new.order.items self.new.placed.items) }
+        ensures rows { self.new.rows ≡ self.old.rows }
+        ensures waiting { self.new.waiting ≡ self.old.waiting }
+        ensures long { length self.new.placed.items ≡ length self.old.placed.items }
+    {
+        let place = body as usize;
+        if self.placed[place] {
+            return Ok(());
         }
+        self.placed[place] = true;
+        self.order.push(body)?;
         Ok(())
     }
 
-    fn note_row(&mut self, row: BodyId, inside: &[BodyId]) -> Result<(), Memory> {
-        for body in inside {
-            self.note(row, *body)?;
-        }
-        Ok(())
-    }
-}
-
-// The number of the body at a place.
-fn body_at(place: usize) -> Result<BodyId, Memory> {
-    match u32::try_from(place) {
-        Ok(number) => Ok(BodyId::new(number)),
-        Err(_) => Err(Memory {}),
-    }
-}
-
-fn wait(alloc: Global, rows: &[Vec<BodyId>]) -> Result<Waiting, Memory> {
-    let mut waiting = Waiting {
-        counts: Vec::new(alloc),
-        users: Vec::new(alloc),
-    };
-    for _ in rows {
-        waiting.counts.push(0)?;
-        waiting.users.push(Vec::new(alloc))?;
-    }
-    for (place, inside) in rows.iter().enumerate() {
-        waiting.note_row(body_at(place)?, inside)?;
-    }
-    Ok(waiting)
-}
-
-impl Order {
-    // Gives the body the next rank.
-    fn take(&mut self, body: BodyId) -> Result<(), Memory> {
-        self.bodies.push(body)?;
-        let last = body_at(self.bodies.len())?;
-        if let Some(rank) = self.ranks.get_mut(body.n as usize) {
-            *rank = last.n;
-        }
-        Ok(())
-    }
-
-    // Takes each of these bodies that waits for nothing further once one of its entries has a rank.
-    fn release(&mut self, counts: &mut [u32], users: &[BodyId]) -> Result<(), Memory> {
-        for user in users {
-            let Some(count) = counts.get_mut(user.n as usize) else {
-                continue;
-            };
-            *count = count.saturating_sub(1);
-            if *count == 0 {
-                self.take(*user)?;
+    // Has a body wait for one inside it that is not placed, or places it.
+    fn settle(&mut self, body: u32) -> Result<(), Memory>
+        requires { (next : ℕ) × (pending : List ℕ) × Sorts self.old next (body ∷ pending) }
+        ensures { (rows : List (Vec ℕ Global)) (next : ℕ) (pending : List ℕ)
+            → IsSorting rows self.old next (body ∷ pending)
+            → OnOk result (IsSorting rows self.new next pending) }
+    {
+        match next_awaited(&mut self.rows[body as usize], &self.placed) {
+            Some(awaited) => {
+                self.waiting[awaited as usize].push(body)?;
+                Ok(())
             }
+            None => self.place(body),
+        }
+    }
+
+    // Settles each of these bodies.
+    fn settle_all(&mut self, bodies: &[u32]) -> Result<(), Memory>
+        requires { (next : ℕ) × Sorts self.old next bodies.now }
+        ensures { (rows : List (Vec ℕ Global)) (next : ℕ) → IsSorting rows self.old next bodies.now
+            → OnOk result (IsSorting rows self.new next []) }
+    {
+        for body in bodies {
+            self.settle(*body)?;
         }
         Ok(())
     }
-}
 
-// Takes the bodies with nothing inside.
-fn begin(alloc: Global, rows: &[Vec<BodyId>]) -> Result<Order, Memory> {
-    let mut order = Order {
-        bodies: Vec::new(alloc),
-        ranks: vec![in alloc; 0; rows.len()]?,
-    };
-    for (place, inside) in rows.iter().enumerate() {
-        if inside.is_empty() {
-            order.take(body_at(place)?)?;
+    // Settles the bodies that wait for the one at this place of the order.
+    fn release(&mut self, alloc: Global, next: usize) -> Result<(), Memory>
+        requires sorts { Sorts self.old next [] }
+        requires there { next < length self.old.order.items }
+        ensures { (rows : List (Vec ℕ Global)) → IsSorting rows self.old next []
+            → OnOk result (IsSorting rows self.new (next + 1) []) }
+    {
+        let place = self.order[next] as usize;
+        let waiting = mem::replace(&mut self.waiting[place], Vec::new(alloc));
+        self.settle_all(&waiting)
+    }
+
+    // Settles the bodies that wait for those in the order, as long as there are any.
+    fn release_all(&mut self, alloc: Global) -> Result<(), Memory>
+        requires { Sorts self.old 0 [] }
+        ensures { (rows : List (Vec ℕ Global)) → IsSorting rows self.old 0 []
+            → OnOk result (IsOrder rows self.new.order.items) }
+    {
+        for next in 0..self.placed.len() {
+            if next >= self.order.len() {
+                return Ok(());
+            }
+            self.release(alloc, next)?;
         }
+        Ok(())
     }
-    Ok(order)
-}
-
-/// Puts bodies in order until each that is left has one inside it that is left too.
-pub(crate) fn put_in_order(alloc: Global, rows: &[Vec<BodyId>]) -> Result<Order, Memory> {
-    let mut waiting = wait(alloc, rows)?;
-    let mut order = begin(alloc, rows)?;
-    for next in 0..rows.len() {
-        let Some(body) = order.bodies.get(next).copied() else {
-            break;
-        };
-        let Some(users) = waiting.users.get(body.n as usize) else {
-            break;
-        };
-        order.release(&mut waiting.counts, users)?;
-    }
-    Ok(order)
 }

@@ -1,41 +1,46 @@
 //! The table of a model.
 
-ghost use Rattle.std.specs.Prelude.{◌≡◌, option_map};
+ghost use Rattle.std.specs.Prelude.{◌≡◌, ◌≤◌, ℕ, Vec, List, length, option_map};
+ghost use Rattle.std.specs.Global.{Global};
 ghost use Rattle.ar_base.specs.Stages.{Meets};
 ghost use Rattle.class_table.specs.Tabling.{Tabulates};
 ghost use Rattle.std.specs.Prelude.{IfOk};
 ghost use Rattle.class_table.specs.Declaring.{Declared as Declaration};
 ghost use Rattle.class_table.specs.Earliest.{IsEarliest};
 ghost use Rattle.class_table.specs.Rules.{BreaksContainment};
+ghost use Rattle.class_table.specs.Rows.{AreInside};
+ghost use Rattle.class_table.specs.Ordering.{IsOrder};
+ghost use Rattle.class_table.specs.Listing.{CanList};
 ghost use Rattle.class_table.specs.Shown.{Shows, IsListed};
 
 use crate::containment::first_contained;
 use crate::declaring::{Declared, declare};
-use crate::falling::falls;
 use crate::inside::all_inside;
 use crate::items::first_wrong_item;
 use crate::main_block::main_block;
 use crate::members::list_members;
 use crate::misnaming::first_misnamed;
 use crate::naming::first_named_twice;
-use crate::order::{Order, put_in_order};
+use crate::order::put_in_order;
 use crate::tables::{Body, Classes};
 use crate::types::TypeKinds;
-use ar_base::{BodyId, Memory, Place, RuleFault, keep};
+use ar_base::{Memory, Place, RuleFault, keep};
 use ar_syntax::Model;
 use std::alloc::Global;
 
-// The earliest type name in a body whose class has that body inside it, where the order does not show that there is none.
+// The earliest type name in a body whose class has that body inside it. An order of all bodies shows that there is none.
 fn first_inside_itself(
     alloc: Global,
     bodies: &[Body],
     types: &TypeKinds,
-    order: &Order,
+    order: &[u32],
 ) -> Result<Option<Place>, Memory>
-    ensures { (d : Declaration) → Shows d bodies.now types.now
+    requires { length bodies.now ≤ 16777216 }
+    ensures { (d : Declaration) (rows : List (Vec ℕ Global)) → Shows d bodies.now types.now
+        → AreInside d rows → IsOrder rows order.now
         → IfOk result (IsEarliest (BreaksContainment d)) }
 {
-    if falls(bodies, types, &order.ranks) {
+    if order.len() >= bodies.len() {
         return Ok(None);
     }
     first_contained(alloc, bodies, types)
@@ -46,9 +51,10 @@ fn list_all(
     alloc: Global,
     mut bodies: Vec<Body>,
     types: &TypeKinds,
-    order: &[BodyId],
+    order: &[u32],
 ) -> Result<Vec<Body>, Memory>
-    ensures { (d : Declaration) → Shows d bodies.items types.now
+    requires { (d : Declaration) × Shows d bodies.items types.now × CanList d order.now }
+    ensures { (d : Declaration) → Shows d bodies.items types.now → CanList d order.now
         → IfOk result (λ listed. IsListed d listed.items) }
 {
     list_members(alloc, &mut bodies, types, order)?;
@@ -73,9 +79,9 @@ pub fn table(alloc: Global, model: Model, main: Option<&str>) -> Result<Classes,
     let kinds = TypeKinds::new(alloc, &types)?;
     keep(2, first_misnamed(&bodies, &kinds))?;
     let rows = all_inside(alloc, &bodies, &kinds)?;
-    let order = put_in_order(alloc, &rows)?;
+    let order = put_in_order(alloc, rows)?;
     keep(3, first_inside_itself(alloc, &bodies, &kinds, &order)?)?;
-    let listed = list_all(alloc, bodies, &kinds, &order.bodies)?;
+    let listed = list_all(alloc, bodies, &kinds, &order)?;
     keep(4, first_named_twice(alloc, &listed, &kinds)?)?;
     let Some(main) = main_block(&names, &listed, &blocks, main) else {
         return Err(RuleFault::Rule(5, end));

@@ -15,13 +15,13 @@ loop-place-preserved c =
     let i = c.loop-place.place in
     let own = c.args.own.now in
     let e = take_item own i c.index-own-place.result (omega arith) c.index-own-place.is in
-    let n : c.in-Ok.number ≡ 0 + length (take i own) = (let a = c.in-Ok.ensures.1 in let b = length-take-le i own (omega arith) in omega arith) in
+    let n : c.loop-place.place ≡ 0 + length (take i own) = (let b = length-take-le i own (omega arith) in omega arith) in
     ap (map site_of) c.in_ok-push.ensures.items
     ∙ (map_join site_of c.loop-place.all.items _
-    ∙ (ap (λ (ss : List Site). ss ++ record { body = c.args.body.n; place = c.in-Ok.number } ∷ [])
+    ∙ (ap (λ (ss : List Site). ss ++ record { body = c.args.body.n; place = c.loop-place.place } ∷ [])
     c.loop-place.invariant
     ∙ (append_assoc (map site_of c.args.all.now.items) (sites_from c.args.body.n 0 (take i own))
-    (record { body = c.args.body.n; place = c.in-Ok.number } ∷ [])
+    (record { body = c.args.body.n; place = c.loop-place.place } ∷ [])
     ∙ ap (λ (ss : List Site). map site_of c.args.all.now.items ++ ss)
     (ap (λ (k : ℕ). sites_from c.args.body.n 0 (take i own) ++ record { body = c.args.body.n; place = k } ∷ []) n
     ∙ sym (ap (sites_from c.args.body.n 0) e ∙ sites_next c.args.body.n 0 (take i own) c.index-own-place.result)))))

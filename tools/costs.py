@@ -54,3 +54,19 @@ if kind == 'forms':        # n short forms (a power of ten) of 40 events each, a
     o.write('  observer Boolean lost = ' + ' and '.join([f'not w{i}' for i in range(both)]
         + ['(' + ' or '.join(f'not w{both + 10 * g + k}' for k in range(10)) + ')' for g in range(groups)]) + ';\n')
     o.write('end\n')
+if kind == 'neighbours':   # n components with trees of two or three edges, where two neighbours have to fail
+    o.write('domain S {OK, W, D, KO}\ndomain S3 {OK, W, KO}\n')
+    o.write('class A\n S m (init = OK);\n Boolean up (reset = false);\n event a, b, c;\n transition a: m == OK -> m := W; b: m == W -> m := D; c: m == D -> m := KO;\n assertion up := m != KO;\nend\n')
+    o.write('class B\n S3 m (init = OK);\n Boolean up (reset = false);\n event a, b;\n transition a: m == OK -> m := W; b: m == W -> m := KO;\n assertion up := m != KO;\nend\n')
+    o.write('block Top\n' + ''.join(f"  {'B' if i % 7 == 6 else 'A'} c{i};\n" for i in range(n)))
+    o.write('  observer Boolean lost = ' + ' or '.join(f'(not c{i}.up and not c{i+1}.up)' for i in range(n-1)) + ';\nend\n')
+if kind in ('voters', 'stages'):
+    o.write('class A Boolean up (init = true); event fail; transition fail: up -> up := false; end\nblock Top\n')
+if kind == 'voters':       # any of n groups of 32 of which two fail
+    o.write(''.join(f'  A c{g}_{i};\n' for g in range(n) for i in range(32)))
+    o.write('  Boolean ' + ', '.join(f'g{g}' for g in range(n)) + ' (reset = false);\n  observer Boolean lost = ' + ' or '.join(f'g{g}' for g in range(n)) + ';\n  assertion\n')
+    o.write(''.join(f'    g{g} := count(' + ', '.join(f'not c{g}_{i}.up' for i in range(32)) + ') >= 2;\n' for g in range(n)) + 'end\n')
+if kind == 'stages':       # n stages of two, one behind the other, declared from the last to the first
+    o.write(''.join(f'  A a{k}; A b{k};\n' for k in range(n-1, -1, -1)))
+    o.write('  Boolean ' + ', '.join(f'g{k}' for k in range(n+1)) + f' (reset = false);\n  observer Boolean lost = not g{n};\n  assertion\n    g0 := true;\n')
+    o.write(''.join(f'    g{k+1} := g{k} and (a{k}.up or b{k}.up);\n' for k in range(n)) + 'end\n')

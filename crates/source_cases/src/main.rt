@@ -2,6 +2,7 @@
 //! by hand from the texts, the grammar and the rules.
 #![tactic(auto)]
 
+mod graphs;
 mod made;
 mod reading_texts;
 mod readings;
@@ -11,6 +12,7 @@ mod tables;
 mod tree_texts;
 mod trees;
 
+use graphs::print_graphs;
 use readings::print_readings;
 use std::io;
 use tables::print_tables;
@@ -19,5 +21,6 @@ use trees::print_trees;
 fn main(rt: HostRuntime) -> io::Result<()> {
     print_readings(&rt)?;
     print_tables(&rt)?;
-    print_trees(&rt)
+    print_trees(&rt)?;
+    print_graphs(&rt)
 }

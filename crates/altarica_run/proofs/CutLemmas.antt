@@ -60,7 +60,7 @@ use Rattle.tree_equations.specs.Gives as gives
 use Rattle.gate_diagrams.specs.Answers.{IsAnswer}
 use Rattle.firable_families.specs.Firable.{IsFirableOf}
 use Rattle.firable_families.proofs.InForests.{firable_in_trees, firable_in_system}
-use Rattle.gate_diagrams.specs.Needed.{IsConflictAt, NodesMay}
+use Rattle.gate_diagrams.specs.NodeLimits.{IsConflictAt, NodesMay}
 use Rattle.gate_diagrams.specs.declared.answer.Drawn.{Drawn}
 use Rattle.table_laws.specs.Drawn.{AreDrawn}
 use Rattle.table_laws.specs.DrawnLaws.{DrawnAreMeant, NodesByNumbers}

@@ -10,7 +10,7 @@ use Rattle.ar_parser.specs.Models.{HasFaultAt, SyntaxStandsAt, DepthStandsAt}
 use Rattle.ar_parser.specs.declared.fault.ParseFault.{ParseFault}
 use Rattle.ar_parser.specs.declared.fault.ParseFault.TheVariants as parse
 use Rattle.class_table.specs.Declaring.{Declared, IsDeclared}
-use Rattle.class_table.specs.Rules.{Breaks, text_rules}
+use Rattle.class_table.specs.Rules.{BreaksTextRule, text_rules}
 use Rattle.class_table.specs.Tabling.{Tabulates, table, breach}
 use Rattle.class_table.specs.declared.tables.Classes.{Classes}
 use Rattle.hierarchy.specs.Listing.{Unfolded}
@@ -87,9 +87,9 @@ module _ (main : Option (List ℕ)) (model : Model) where
   -- the table is that of the model seen from its main block, which keeps the rules
   module _ (one : (d e : Declared) → IsDeclared model d → IsDeclared model e → d ≡ e) where
     kept_rooted : (c : Classes) (m : RootedModel) → Tabulates main model (Ok c) → IsRootedIn model main m
-        → AreKept text_rules (Breaks model main m.declared)
+        → AreKept text_rules (BreaksTextRule model main m.declared)
     kept_rooted c m (table d is k) rooted =
-        subst (λ (z : Declared). AreKept text_rules (Breaks model main z))
+        subst (λ (z : Declared). AreKept text_rules (BreaksTextRule model main z))
         (one d m.declared is.declared rooted.declared) k
 
     pub table_stands : (c x : Classes) → Tabulates main model (Ok c) → x ≡ c

@@ -12,7 +12,7 @@ use Rattle.ar_meaning.specs.Systems.{System}
 use Rattle.ar_meaning.specs.FlatOf.{IsNumber}
 use Rattle.ar_meaning.specs.TraceText.{Naming}
 use Rattle.ar_meaning.proofs.FlatSystems.{flat_back}
-use Rattle.ar_firing.specs.Rules.{Rule, number_of, Spot, AtEvent, AtUnit, AtVariable, AtObserver, AtWhole, IsFirstBroken, KeepsAll}
+use Rattle.ar_firing.specs.Rules.{Rule, rule_number, Spot, AtEvent, AtUnit, AtVariable, AtObserver, AtWhole, IsFirstBroken, KeepsAll}
 use Rattle.ar_firing.proofs.ImageRules.{first_broken_there, keeps_all_there}
 use Rattle.cut_text.specs.ForestPrinted.{edge_count}
 use Rattle.gate_modules.specs.declared.ranges.Range.{Range}
@@ -112,7 +112,7 @@ module _ (w : Ready) (p : GtsParts) (of : IsFlat w.source p) where
       → IsStageOf {X = Forest} (stands v) (Static w) (Err (Refused (Outside number path)))
   outside_given v number path s out e =
       subst (λ (z : Refusal). Static w (Err z))
-      (sym (refusals number (number_of out.rule) path (spot_path w.source (spot_of s)) (sym out.is_rule)
+      (sym (refusals number (rule_number out.rule) path (spot_path w.source (spot_of s)) (sym out.is_rule)
       (e ∙ same_path w.source p of w.dropped (spot_of s))))
       (outside (source_breaks w.source p of w.dropped out.first))
     where

@@ -1,7 +1,7 @@
 -- Words that give a job, and words that give none.
 use Rattle.std.proofs.Common.{◌≡◌, ◌≤◌, ℕ, true, false, List, Option, Some, None, Result, Err, refl, sym, ◌∙◌, ap, subst, arith}
-use Rattle.run_words.specs.Jobs.{IsJob, IsJobOf, IsNodes, NamesFiles, form_of}
-use Rattle.run_words.specs.Lines.{Line}
+use Rattle.run_words.specs.Jobs.{IsJob, IsJobOf, IsNodes, NamesFiles, form_of_verb}
+use Rattle.run_words.specs.Lines.{CommandWords}
 use Rattle.run_words.specs.declared.jobs.Job.{Job}
 use Rattle.run_words.specs.declared.jobs.JobFault.{JobFault}
 use Rattle.run_words.specs.declared.jobs.JobFault.TheVariants as words
@@ -58,10 +58,10 @@ pub record IsMade (job : Job) : Type 0 where
   pub at_most : job.number ≤ 200
   pub script : job.script ≡ None
 
-made_line : (line : Line) (job : Job) → IsJobOf line job → makes_model job.command ≡ true → IsMade job
+made_line : (line : CommandWords) (job : Job) → IsJobOf line job → makes_model job.command ≡ true → IsMade job
 made_line line job of e =
     let f =
-    subst (λ (v : Verb). NamesFiles (form_of v) line.files job.model job.script job.number) (makes job.command e)
+    subst (λ (v : Verb). NamesFiles (form_of_verb v) line.files job.model job.script job.number) (makes job.command e)
     of.files in
     record { at_least = f.0.2.at_least; at_most = f.0.2.at_most; script = f.2 }
 

@@ -26,8 +26,8 @@ use Rattle.job_inputs.specs.declared.commands.Command.{Command}
 use Rattle.job_inputs.specs.declared.commands.Command.TheVariants.{Fire}
 use Rattle.job_inputs.specs.declared.commands.ScriptFault.{ScriptFault}
 use Rattle.job_inputs.specs.declared.commands.ScriptFault.TheVariants as script
-use Rattle.run_words.specs.Jobs.{IsJob, NamesFiles, form_of, IsJobOf, OptionsFit}
-use Rattle.run_words.specs.Lines.{Line}
+use Rattle.run_words.specs.Jobs.{IsJob, NamesFiles, form_of_verb, IsJobOf, OptionsFit}
+use Rattle.run_words.specs.Lines.{CommandWords}
 use Rattle.run_words.specs.declared.jobs.Job.{Job}
 use Rattle.run_words.specs.declared.verbs.Verb.{Verb}
 use Rattle.run_words.specs.declared.verbs.Verb.TheVariants.{Check, Flat, Replay, Fragment, Equations, Cuts, Make, Explain, CheckCuts, Modules}
@@ -458,7 +458,7 @@ module _ (x : Elaborated) (p : GtsParts) (text : List ℕ) where
 -- a job names a second file exactly where its command reads one
 command_asks : (v : Verb) (files : List (List ℕ)) (model : List ℕ) (name : Option (List ℕ)) (n : ℕ)
     (s : Option (Vec ℕ Global))
-    → NamesFiles (form_of v) files model name n → IsLoadedScript name s → IsThere (has_second v) s
+    → NamesFiles (form_of_verb v) files model name n → IsLoadedScript name s → IsThere (has_second v) s
 command_asks Check files model name n s f l = l.none f.1
 command_asks Flat files model name n s f l = l.none f.1
 command_asks Replay files model name n s f l = l.some f.0.0 f.0.2
@@ -479,7 +479,7 @@ observer_given : (o : Option (List ℕ)) → (o ≡ None → ⊥) → IsThere tr
 observer_given None h = absurd (h refl)
 observer_given (Some a) h = (a, refl)
 
-command_sees : (v : Verb) (line : Line) → OptionsFit v line → IsThere (has_table v) (path_asked v line.observer)
+command_sees : (v : Verb) (line : CommandWords) → OptionsFit v line → IsThere (has_table v) (path_asked v line.observer)
 command_sees Check line f = f.observer
 command_sees Flat line f = f.observer
 command_sees Replay line f = f.observer
@@ -491,7 +491,7 @@ command_sees Explain line f = refl
 command_sees CheckCuts line f = observer_given line.observer (f.observer_needed refl)
 command_sees Modules line f = observer_given line.observer (f.observer_needed refl)
 
-line_sees : (line : Line) (job : Job) → IsJobOf line job → IsThere (has_table job.command) (observer_asked job)
+line_sees : (line : CommandWords) (job : Job) → IsJobOf line job → IsThere (has_table job.command) (observer_asked job)
 line_sees line job of =
     subst (λ (z : Option (List ℕ)). IsThere (has_table job.command) (path_asked job.command z)) (sym of.observer)
     (command_sees job.command line of.options)

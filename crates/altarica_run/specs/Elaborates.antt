@@ -11,7 +11,7 @@ use Rattle.ar_base.specs.declared.places.Place.{Place}
 use Rattle.ar_syntax.specs.declared.items.Model.{Model}
 use Rattle.ar_parser.specs.Models.{Reads, HasFaultAt, SyntaxStandsAt, DepthStandsAt}
 use Rattle.class_table.specs.Declaring.{Declared, IsDeclared}
-use Rattle.class_table.specs.Rules.{Breaks, text_rules}
+use Rattle.class_table.specs.Rules.{BreaksTextRule, text_rules}
 use Rattle.hierarchy.specs.Models.{RootedModel, IsRootedIn}
 use Rattle.instantiate.specs.Unfolding.{Instantiates}
 use Rattle.source_meaning.specs.Systems.{Binds}
@@ -28,10 +28,10 @@ pub data Parses (text : List ℕ) : Result Model Refusal → Type 0 where
 
 -- the model seen from the main block that is asked for, where it keeps the rules L1 to L5, or the least that it breaks
 pub data Tables (main : Option (List ℕ)) (model : Model) : Result RootedModel RuleFault → Type 0 where
-  rooted : {m : RootedModel} → IsRootedIn model main m → AreKept text_rules (Breaks model main m.declared)
+  rooted : {m : RootedModel} → IsRootedIn model main m → AreKept text_rules (BreaksTextRule model main m.declared)
       → Tables main model (Ok m)
-  breach : {r : ℕ} {p : Place} (d : Declared) → IsDeclared model d → IsBroken text_rules (Breaks model main d) r p
-      → Tables main model (Err (fault.Rule r p))
+  breach : {r : ℕ} {p : Place} (d : Declared) → IsDeclared model d → IsBroken text_rules (BreaksTextRule model main d) r
+      p → Tables main model (Err (fault.Rule r p))
 
 -- the system that the model means from its main block: L1 to L5, the limits of units with L6 to L9, L10 to L13, then
 -- L14 with the limits of ways

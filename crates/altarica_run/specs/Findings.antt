@@ -2,7 +2,7 @@
 use Rattle.std.specs.Prelude.{◌≡◌, ◌<◌, ◌↔◌, ℕ, ◌++◌, Bool, List, [], Option, Some, Ok, reverse}
 use Rattle.ar_base.specs.Lists.{Stands, IsOneOf}
 use Rattle.ar_firing.specs.Cuts.{AreEvents, Reaches}
-use Rattle.ar_meaning.specs.Facts.{Passes as Reached, FactOf, HasValue}
+use Rattle.ar_meaning.specs.Facts.{PassesConditions as Reached, FactOf, HasValue}
 use Rattle.ar_meaning.specs.Flows.{Flows, Total}
 use Rattle.ar_meaning.specs.Runs.{Label}
 use Rattle.ar_meaning.specs.Systems.{Assign}

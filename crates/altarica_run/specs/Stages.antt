@@ -4,7 +4,7 @@ use Rattle.ar_base.specs.Counts.{limit_of}
 use Rattle.ar_base.specs.Stages.{Then, Where}
 use Rattle.ar_base.specs.Texts.{text_at}
 use Rattle.ar_base.specs.declared.counts.Count.TheVariants.{Gates, CutLines}
-use Rattle.ar_firing.specs.Rules.{Rule, number_of, Spot, AtEvent, AtUnit, AtVariable, AtObserver, AtWhole, IsFirstBroken, KeepsAll}
+use Rattle.ar_firing.specs.Rules.{Rule, rule_number, Spot, AtEvent, AtUnit, AtVariable, AtObserver, AtWhole, IsFirstBroken, KeepsAll}
 use Rattle.ar_io.specs.Outside.{Told}
 use Rattle.ar_meaning.specs.Runs.{Command}
 use Rattle.eq_core.specs.Gates.{Table}
@@ -180,7 +180,7 @@ spot_path x AtWhole = codes "main"
 pub data Static (w : Ready) : Result Ready Refusal → Type 0 where
   keeps : KeepsAll w.source.system w.dropped → Static w (Ok w)
   outside : {rule : Rule} {spot : Spot} → IsFirstBroken w.source.system w.dropped rule spot
-      → Static w (Err (Outside (number_of rule) (spot_path w.source spot)))
+      → Static w (Err (Outside (rule_number rule) (spot_path w.source spot)))
 
 -- The gate table
 

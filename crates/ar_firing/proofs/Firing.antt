@@ -6,7 +6,7 @@ use Rattle.ar_base.specs.Lists.{Stands, IsOneOf}
 use Rattle.typed_expr.specs.Yields.{Level, Yields}
 use Rattle.typed_expr.proofs.Facts.{yields_named}
 use Rattle.ar_meaning.specs.Systems.{Variable, Way, System}
-use Rattle.ar_meaning.specs.Facts.{AreKeyed, Passes, HasValue, FactOf}
+use Rattle.ar_meaning.specs.Facts.{AreKeyed, PassesConditions, HasValue, FactOf}
 use Rattle.ar_meaning.specs.Facts as f
 use Rattle.ar_meaning.specs.Flows.{Completes, state, known, unknown, Outcome, FlowFault, Flows, Fails, Total, all_hold}
 use Rattle.ar_meaning.specs.Flows as flows
@@ -30,7 +30,8 @@ module _ {V : Type 0} {P Q : V → Value → Type 0} (k : V) (on : (x : V) (w : 
   only_yields o d = yields_named (λ x w m p. on x w (o.only x m) p) d
 
   only_passes : {cs : List (Expr V × Bool)}
-      → ((n : ℕ) (e : Expr V) (b : Bool) → Stands cs n (e, b) → Only k (out-Expr V e)) → Passes P cs → Passes Q cs
+      → ((n : ℕ) (e : Expr V) (b : Bool) → Stands cs n (e, b) → Only k (out-Expr V e)) → PassesConditions P cs
+      → PassesConditions Q cs
   only_passes h f.none = f.none
   only_passes h (f.one_and {e = e} {b = b} d ds) =
       f.one_and (only_yields (h zero e b refl) d) (only_passes (λ n e b s. h (suc n) e b s) ds)

@@ -14,7 +14,7 @@ use Rattle.ar_meaning.proofs.OneRun.{way_same}
 use Rattle.ar_meaning.proofs.ImageTurned.{image_turned, way_turned}
 use Rattle.ar_meaning.proofs.ImageFlows.{allows_there, partner}
 use Rattle.ar_firing.specs.Fragment.{IsKept, IsModeOf, IsLive}
-use Rattle.ar_firing.specs.Rules.{IsTransition, transition, KeepsS1, BreaksS1, KeepsS2, BreaksS2, HasModeVariable, KeepsS3, BreaksS3, IsLiveAt, GivesOther, nothing, two, outside, KeepsS4, BreaksS4, names, gives, KeepsS5, HasLive, BreaksS5, KeepsS6, BreaksS6, stays, by_events, by_edges, initial, AssignIsWide, by_value, by_condition, KeepsS7, BreaksS7, ObserverBreaksS7, KeepsS8, BreaksS8, Spot, Rule, S1, S2, S3, S4, S5, S6, S7, S8, Breaks, s1, s2, s3, s4, s5, s6, s7, s7_observer, s8, Keeps, IsFirstBroken, KeepsAll}
+use Rattle.ar_firing.specs.Rules.{IsTransition, transition, KeepsS1, BreaksS1, KeepsS2, BreaksS2, HasModeVariable, KeepsS3, BreaksS3, IsLiveAt, GivesOther, nothing, two, outside, KeepsS4, BreaksS4, names, gives, KeepsS5, HasLive, BreaksS5, KeepsS6, BreaksS6, stays, by_events, by_edges, initial, AssignIsWide, by_value, by_condition, KeepsS7, BreaksS7, ObserverBreaksS7, KeepsS8, BreaksS8, Spot, Rule, S1, S2, S3, S4, S5, S6, S7, S8, BreaksStaticRule, s1, s2, s3, s4, s5, s6, s7, s7_observer, s8, KeepsStaticRule, IsFirstBroken, KeepsAll}
 use Rattle.ar_firing.proofs.Widths.{wide_there}
 use Rattle.ar_firing.proofs.ImageModes.{condition_there, guard_there, action_there, kept_there, transitions_there, is_mode_there, can_at_there, effects_at_there, effects_at_back, reached_there, live_there}
 
@@ -355,7 +355,8 @@ module _ {V W : Type 0} (same : V → W → Type 0) (here : System V) (there : S
         });
   }
 
-  pub breaks_there : {rule : Rule} {spot : Spot} → Breaks here dropped rule spot → Breaks there dropped rule spot
+  pub breaks_there : {rule : Rule} {spot : Spot} → BreaksStaticRule here dropped rule spot
+      → BreaksStaticRule there dropped rule spot
   breaks_there (s1 {n = n} b) = s1 (breaks_s1_there same here there image n b)
   breaks_there (s2 {n = n} b) = s2 (breaks_s2_there same here there image dropped n b)
   breaks_there (s3 {n = n} b) = s3 (breaks_s3_there same here there image dropped n b)
@@ -366,7 +367,7 @@ module _ {V W : Type 0} (same : V → W → Type 0) (here : System V) (there : S
   breaks_there (s7_observer {n = n} b) = s7_observer (observer_breaks_s7_there same here there image n b)
   breaks_there (s8 b) = s8 (breaks_s8_there same here there image dropped b)
 
-  pub keeps_there : (rule : Rule) → Keeps here dropped rule → Keeps there dropped rule
+  pub keeps_there : (rule : Rule) → KeepsStaticRule here dropped rule → KeepsStaticRule there dropped rule
   keeps_there S1 k = keeps_s1_there same here there image k
   keeps_there S2 k = keeps_s2_there same here there image dropped k
   keeps_there S3 k = keeps_s3_there k

@@ -3,16 +3,16 @@ use Rattle.std.proofs.Common.{◌≡◌, ◌<◌, ◌⊎◌, inl, inr, ⊎_elim,
 use Rattle.std.proofs.lemmas.Bool.{cases_eq}
 use Rattle.ar_meaning.specs.Systems.{System}
 use Rattle.ar_meaning.specs.Found.{AreTold}
-use Rattle.ar_firing.specs.Rules.{HasTargets, Spot, AtEvent, AtUnit, AtVariable, AtObserver, AtWhole, IsShownBefore, events, units, variables, observers, variable_first, Rule, S1, S2, S3, S4, S5, S6, S7, S8, Breaks, Keeps, number_of, IsFirstBroken, KeepsAll}
+use Rattle.ar_firing.specs.Rules.{HasTargets, Spot, AtEvent, AtUnit, AtVariable, AtObserver, AtWhole, IsShownBefore, events, units, variables, observers, variable_first, Rule, S1, S2, S3, S4, S5, S6, S7, S8, BreaksStaticRule, KeepsStaticRule, rule_number, IsFirstBroken, KeepsAll}
 use Rattle.ar_firing.proofs.RulesHold.{rule_of, numbered}
 use Rattle.ar_firing.proofs.Unbroken.{Unbroken, keeps_s1, keeps_s2, keeps_s3, keeps_s4, keeps_s5, keeps_s6, keeps_s7, keeps_s8}
 
 -- where the lesser rules are kept and none is the first that is broken, the rule is broken nowhere
 module _ {V : Type 0} (sys : System V) (dropped : List ℕ) (rule : Rule)
-    (lesser : (r : Rule) → number_of r < number_of rule → Keeps sys dropped r)
+    (lesser : (r : Rule) → rule_number r < rule_number rule → KeepsStaticRule sys dropped r)
     (never : (spot : Spot) → IsFirstBroken sys dropped rule spot → ⊥) where
   abbrev Broken : Spot → Type 0
-  Broken spot = Breaks sys dropped rule spot
+  Broken spot = BreaksStaticRule sys dropped rule spot
 
   not_first : (spot : Spot) → Broken spot → ((other : Spot) → IsShownBefore other spot → Broken other → ⊥) → ⊥
   not_first spot b h = never spot (record { breaks = b; lesser_kept = lesser; is_first = h })
@@ -65,22 +65,23 @@ module _ {V : Type 0} (sys : System V) (dropped : List ℕ) (rule : Rule)
   unbroken AtWhole b = not_first AtWhole b none_before
 
 -- a statement on each rule that follows from those on the lesser ones, by refutation
-module _ (P : Rule → Type 0) (step : (r : Rule) → ((l : Rule) → number_of l < number_of r → P l) → (P r → ⊥) → ⊥) where
-  one_more : (n : ℕ) → ((l : Rule) → number_of l < n → P l) → (((l : Rule) → number_of l < suc n → P l) → ⊥)
-      → (number_of (rule_of n) ≡ n) ⊎ (number_of (rule_of n) ≡ n → ⊥) → ⊥
+module _ (P : Rule → Type 0)
+    (step : (r : Rule) → ((l : Rule) → rule_number l < rule_number r → P l) → (P r → ⊥) → ⊥) where
+  one_more : (n : ℕ) → ((l : Rule) → rule_number l < n → P l) → (((l : Rule) → rule_number l < suc n → P l) → ⊥)
+      → (rule_number (rule_of n) ≡ n) ⊎ (rule_number (rule_of n) ≡ n → ⊥) → ⊥
   one_more n below k (inl e) = step (rule_of n) (λ l h. below l (omega (arith, h, e)))
       (λ p. k (λ l h. ⊎_elim (λ i. subst P (ap rule_of (sym i) ∙ numbered l) p) (λ d. below l (omega (arith, h, d)))
-      (cases_eq (number_of l) n)))
+      (cases_eq (rule_number l) n)))
   one_more n below k (inr d) =
       k
-      (λ l h. ⊎_elim (λ i. absurd (d (ap number_of (ap rule_of (sym i) ∙ numbered l) ∙ i)))
-      (λ q. below l (omega (arith, h, q))) (cases_eq (number_of l) n))
+      (λ l h. ⊎_elim (λ i. absurd (d (ap rule_number (ap rule_of (sym i) ∙ numbered l) ∙ i)))
+      (λ q. below l (omega (arith, h, q))) (cases_eq (rule_number l) n))
 
-  by_number : (n : ℕ) → (((l : Rule) → number_of l < n → P l) → ⊥) → ⊥
+  by_number : (n : ℕ) → (((l : Rule) → rule_number l < n → P l) → ⊥) → ⊥
   by_number zero k = k (λ l h. absurd (omega (arith, h)))
-  by_number (suc n) k = by_number n (λ below. one_more n below k (cases_eq (number_of (rule_of n)) n))
+  by_number (suc n) k = by_number n (λ below. one_more n below k (cases_eq (rule_number (rule_of n)) n))
 
-below_nine : (r : Rule) → number_of r < 9
+below_nine : (r : Rule) → rule_number r < 9
 below_nine S1 = omega arith
 below_nine S2 = omega arith
 below_nine S3 = omega arith
@@ -92,8 +93,8 @@ below_nine S8 = omega arith
 
 module _ {V : Type 0} (key_told : AreTold V) (sys : System V) (dropped : List ℕ) (targets : HasTargets sys) where
   -- a rule that is broken nowhere is kept, which for the last one is not refuted
-  kept : (r : Rule) → ((l : Rule) → number_of l < number_of r → Keeps sys dropped l) → Unbroken sys dropped r
-      → (Keeps sys dropped r → ⊥) → ⊥
+  kept : (r : Rule) → ((l : Rule) → rule_number l < rule_number r → KeepsStaticRule sys dropped l) → Unbroken sys
+      dropped r → (KeepsStaticRule sys dropped r → ⊥) → ⊥
   kept S1 below none k = k (keeps_s1 key_told sys dropped none)
   kept S2 below none k = k (keeps_s2 key_told sys dropped none)
   kept S3 below none k = k (keeps_s3 key_told sys dropped (below S2 (omega arith)) none)
@@ -106,5 +107,5 @@ module _ {V : Type 0} (key_told : AreTold V) (sys : System V) (dropped : List �
   pub neither_refuted : (KeepsAll sys dropped → ⊥)
       → ((rule : Rule) (spot : Spot) → IsFirstBroken sys dropped rule spot → ⊥) → ⊥
   neither_refuted none never =
-      by_number (Keeps sys dropped) (λ r below k. kept r below (unbroken sys dropped r below (never r)) k) 9
+      by_number (KeepsStaticRule sys dropped) (λ r below k. kept r below (unbroken sys dropped r below (never r)) k) 9
       (λ ks. none (record { each = λ r. ks r (below_nine r) }))

@@ -10,7 +10,7 @@ use Rattle.ar_meaning.proofs.Dependence.{tests_at}
 use Rattle.ar_firing.specs.Fragment.{GuardNames, guard, ActionNames, action, as_target, as_source, IsModeOf, named, first}
 use Rattle.ar_firing.specs.Static.{IsOf, HasMode, Leads, IsStatic}
 use Rattle.ar_firing.specs.Static as g
-use Rattle.ar_firing.specs.Rules.{IsTransition, transition, KeepsS1, BreaksS1, KeepsS2, BreaksS2, HasModeVariable, KeepsS3, BreaksS3, GivesOne, GivesOther, nothing, two, outside, KeepsS4, BreaksS4, names, gives, AreTwo, ways, variables, modes, KeepsS5, BreaksS5, KeepsS6, BreaksS6, stays, by_events, by_edges, initial, KeepsS7, BreaksS7, ObserverBreaksS7, KeepsS8, BreaksS8, Spot, AtEvent, AtUnit, AtVariable, AtObserver, AtWhole, IsShownBefore, events, units, observers, variable_first, Rule, S1, S2, S3, S4, S5, S6, S7, S8, Breaks, s1, s2, s3, s4, s5, s6, s7, s7_observer, s8, Keeps, number_of, IsFirstBroken, KeepsAll}
+use Rattle.ar_firing.specs.Rules.{IsTransition, transition, KeepsS1, BreaksS1, KeepsS2, BreaksS2, HasModeVariable, KeepsS3, BreaksS3, GivesOne, GivesOther, nothing, two, outside, KeepsS4, BreaksS4, names, gives, AreTwoEdges, ways, variables, modes, KeepsS5, BreaksS5, KeepsS6, BreaksS6, stays, by_events, by_edges, initial, KeepsS7, BreaksS7, ObserverBreaksS7, KeepsS8, BreaksS8, Spot, AtEvent, AtUnit, AtVariable, AtObserver, AtWhole, IsShownBefore, events, units, observers, variable_first, Rule, S1, S2, S3, S4, S5, S6, S7, S8, BreaksStaticRule, s1, s2, s3, s4, s5, s6, s7, s7_observer, s8, KeepsStaticRule, rule_number, IsFirstBroken, KeepsAll}
 use Rattle.ar_firing.specs.Rules as rules
 use Rattle.ar_firing.proofs.Without.{no_more}
 
@@ -26,7 +26,7 @@ rule_of (suc (suc (suc (suc (suc (suc zero)))))) = S6
 rule_of (suc (suc (suc (suc (suc (suc (suc zero))))))) = S7
 rule_of (suc (suc (suc (suc (suc (suc (suc (suc n)))))))) = S8
 
-pub numbered : (r : Rule) → rule_of (number_of r) ≡ r
+pub numbered : (r : Rule) → rule_of (rule_number r) ≡ r
 unfolding rule_of
 numbered S1 = refl
 numbered S2 = refl
@@ -92,7 +92,7 @@ module _ {V : Type 0} (sys : System V) where
     s4_excludes n k (names l w x h y a d) = d (k.alone l w n x h y a)
     s4_excludes n k (gives l w x m h o) = not_other (k.gives l w n x m h) o
 
-    not_two : {k l : Label} {m n : ℕ} {u v : Value} → k.way ≡ l.way → m ≡ n → u ≡ v → AreTwo k l m n u v → ⊥
+    not_two : {k l : Label} {m n : ℕ} {u v : Value} → k.way ≡ l.way → m ≡ n → u ≡ v → AreTwoEdges k l m n u v → ⊥
     not_two e f g (ways h) = h e
     not_two e f g (variables h) = h f
     not_two e f g (modes h) = h g
@@ -175,7 +175,8 @@ module _ {V : Type 0} (sys : System V) where
             })
 
     -- a rule that is kept is broken nowhere
-    pub excludes : (rule : Rule) (spot : Spot) → Keeps sys dropped rule → Breaks sys dropped rule spot → ⊥
+    pub excludes : (rule : Rule) (spot : Spot) → KeepsStaticRule sys dropped rule
+        → BreaksStaticRule sys dropped rule spot → ⊥
     excludes S1 spot k (s1 {n = n} b) = s1_excludes n k b
     excludes S2 spot k (s2 {n = n} b) = s2_excludes n k b
     excludes S3 spot k (s3 {n = n} b) = s3_excludes n k b
@@ -190,7 +191,7 @@ module _ {V : Type 0} (sys : System V) where
     same_number m n h k = omega arith
 
     -- two spots of one rule are one where none is shown before the other
-    same_spot : {rule : Rule} {a b : Spot} → Breaks sys dropped rule a → Breaks sys dropped rule b
+    same_spot : {rule : Rule} {a b : Spot} → BreaksStaticRule sys dropped rule a → BreaksStaticRule sys dropped rule b
         → (IsShownBefore a b → ⊥) → (IsShownBefore b a → ⊥) → a ≡ b
     same_spot (s1 {n = m} x) (s1 {n = n} y) h k = ap AtEvent (same_number m n (λ l. h (events l)) (λ l. k (events l)))
     same_spot (s2 {n = m} x) (s2 {n = n} y) h k = ap AtUnit (same_number m n (λ l. h (units l)) (λ l. k (units l)))
@@ -214,17 +215,17 @@ module _ {V : Type 0} (sys : System V) where
     pub first_broken_same : {r q : Rule} {a b : Spot} → IsFirstBroken sys dropped r a → IsFirstBroken sys dropped q b
         → (r ≡ q) × (a ≡ b)
     first_broken_same {r = r} {q = q} {a = a} {b = b} x y =
-        let h : number_of r < number_of q → ⊥ = λ l. excludes r a (y.lesser_kept r l) x.breaks in
-        let k : number_of q < number_of r → ⊥ = λ l. excludes q b (x.lesser_kept q l) y.breaks in
-        let n : number_of r ≡ number_of q = same_number (number_of r) (number_of q) h k in
+        let h : rule_number r < rule_number q → ⊥ = λ l. excludes r a (y.lesser_kept r l) x.breaks in
+        let k : rule_number q < rule_number r → ⊥ = λ l. excludes q b (x.lesser_kept q l) y.breaks in
+        let n : rule_number r ≡ rule_number q = same_number (rule_number r) (rule_number q) h k in
         let e : r ≡ q = sym (numbered r) ∙ (ap rule_of n ∙ numbered q) in
-        let z : Breaks sys dropped q a = subst (λ z. Breaks sys dropped z a) e x.breaks in (
+        let z : BreaksStaticRule sys dropped q a = subst (λ z. BreaksStaticRule sys dropped z a) e x.breaks in (
           e,
           same_spot z y.breaks (λ l. y.is_first a l z)
-              (λ l. x.is_first b l (subst (λ z. Breaks sys dropped z b) (sym e) y.breaks)),
+              (λ l. x.is_first b l (subst (λ z. BreaksStaticRule sys dropped z b) (sym e) y.breaks)),
         )
 
-    pub kept_or_broken : {r : Rule} {a : Spot} → KeepsAll sys dropped → Breaks sys dropped r a → ⊥
+    pub kept_or_broken : {r : Rule} {a : Spot} → KeepsAll sys dropped → BreaksStaticRule sys dropped r a → ⊥
     kept_or_broken {r = r} {a = a} k b = excludes r a (k.each r) b
 
     pub all_static : KeepsAll sys dropped → IsStatic sys dropped

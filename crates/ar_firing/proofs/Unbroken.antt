@@ -19,7 +19,7 @@ use Rattle.ar_meaning.proofs.Outcomes.{both_told, bool_told, one_told}
 use Rattle.ar_meaning.proofs.Answering.{effects_known}
 use Rattle.ar_firing.specs.Fragment.{Involves, as_target, as_source, GuardNames, guard, ActionNames, action, WayNames, in_guard, in_action, IsStateOf, IsNamedStateOf, IsModeOf, named, first, At, IsLive}
 use Rattle.ar_firing.specs.Static.{IsStatic}
-use Rattle.ar_firing.specs.Rules.{IsTransition, transition, KeepsS1, KeepsS2, HasState, HasModeVariable, KeepsS3, IsLiveAt, GivesOne, GivesOther, nothing, two, outside, KeepsS4, names, gives, AreTwo, ways, variables, modes, HasLive, KeepsS5, KeepsS6, stays, by_events, by_edges, initial, HasTargets, KeepsS7, IsLiveEvent, KeepsS8, Spot, AtEvent, AtUnit, AtVariable, AtObserver, AtWhole, Rule, S1, S2, S3, S4, S5, S6, S7, S8, Breaks, s1, s2, s3, s4, s5, s6, s7, s7_observer, s8}
+use Rattle.ar_firing.specs.Rules.{IsTransition, transition, KeepsS1, KeepsS2, HasState, HasModeVariable, KeepsS3, IsLiveAt, GivesOne, GivesOther, nothing, two, outside, KeepsS4, names, gives, AreTwoEdges, ways, variables, modes, HasLive, KeepsS5, KeepsS6, stays, by_events, by_edges, initial, HasTargets, KeepsS7, IsLiveEvent, KeepsS8, Spot, AtEvent, AtUnit, AtVariable, AtObserver, AtWhole, Rule, S1, S2, S3, S4, S5, S6, S7, S8, BreaksStaticRule, s1, s2, s3, s4, s5, s6, s7, s7_observer, s8}
 use Rattle.ar_firing.proofs.RulesHold.{static}
 
 -- what a way names
@@ -86,7 +86,7 @@ least_refuted P never (suc most) n l p =
 
 -- the rule is broken nowhere
 abbrev pub Unbroken : {V : Type 0} → System V → List ℕ → Rule → Type 0
-Unbroken sys dropped rule = (spot : Spot) → Breaks sys dropped rule spot → ⊥
+Unbroken sys dropped rule = (spot : Spot) → BreaksStaticRule sys dropped rule spot → ⊥
 
 module _ {V : Type 0} (key_told : AreTold V) (sys : System V) (dropped : List ℕ) where
   pub keeps_s1 : Unbroken sys dropped S1 → KeepsS1 sys
@@ -198,7 +198,7 @@ module _ {V : Type 0} (key_told : AreTold V) (sys : System V) (dropped : List �
 
   -- an event with two live edges breaks the fifth rule
   two_edges : Unbroken sys dropped S5 → (k l : Label) (m n : ℕ) (u v x y : Value) → IsLive sys dropped k m u x
-      → IsLive sys dropped l n v y → k.event ≡ l.event → AreTwo k l m n u v → ⊥
+      → IsLive sys dropped l n v y → k.event ≡ l.event → AreTwoEdges k l m n u v → ⊥
   two_edges none k l m n u v x y a b e t =
       let here : HasLive sys dropped k.event m = record { label = k; is_event = refl; from = u; to = x; is_live = a } in
       let there : HasLive sys dropped k.event n =
@@ -234,7 +234,7 @@ module _ {V : Type 0} (key_told : AreTold V) (sys : System V) (dropped : List �
         let e : k.event ≡ l.event =
         ⊎_elim (λ i. i) (λ d. absurd (none (AtVariable n) (s6 (by_events k l u v x h i d))))
         (cases_eq k.event l.event) in
-        let broken : AreTwo k l n n u v → ⊥ = λ t. none (AtVariable n) (s6 (by_edges k l u v x h i e t)) in (
+        let broken : AreTwoEdges k l n n u v → ⊥ = λ t. none (AtVariable n) (s6 (by_edges k l u v x h i e t)) in (
           e,
           ⊎_elim (λ i. i) (λ d. absurd (broken (ways d))) (cases_eq k.way l.way),
           ⊎_elim (λ i. i)

@@ -4,8 +4,8 @@ use Rattle.std.proofs.lemmas.List.Elements.{Contains-append_left, Contains-appen
 use Rattle.domains.specs.declared.Value.{Value}
 use Rattle.domains.proofs.Members.{contains-head}
 use Rattle.typed_expr.specs.Yields.{Level}
-use Rattle.typed_expr.specs.Sets.{HasMoreThan}
-use Rattle.typed_expr.specs.Possible.{IsPart, StepYields, IsWide}
+use Rattle.typed_expr.specs.Sizes.{HasMoreThan}
+use Rattle.typed_expr.specs.Possible.{IsSubexpression, StepYields, IsWide}
 use Rattle.typed_expr.specs.Possible as p
 use Rattle.typed_expr.specs.Renames.{Renames, All_rename, Parts_rename, Cases_rename}
 use Rattle.typed_expr.specs.Renames as r
@@ -98,10 +98,10 @@ module _ {V W : Type 0} (same : V → W → Type 0) where
   -- the subexpression at the same place
   pub record PartThere (e : Level V) (f : Level W) : Type 0 where
     pub other : Level W
-    pub is_part : IsPart other f
+    pub is_part : IsSubexpression other f
     pub renames : Renames same e other
 
-  pub part_there : {e d : Level V} {f : Level W} → IsPart e d → Renames same d f → PartThere e f
+  pub part_there : {e d : Level V} {f : Level W} → IsSubexpression e d → Renames same d f → PartThere e f
   part_there {f = f} p.itself q = record { other = f; is_part = p.itself; renames = q }
   part_there (p.in_not d) (r.opposite q) =
       let o = part_there d q in

@@ -120,10 +120,10 @@ pub data BreaksS4 {V : Type 0} (sys : System V) (dropped : List ℕ) (n : ℕ) :
 -- S5: an event has at most one live edge. Shown with the least mode variable of its live edges
 
 -- two edges are different where their ways, their variables or the modes that they leave are
-pub data AreTwo (k l : Label) (m n : ℕ) (u v : Value) : Type 0 where
-  ways : (k.way ≡ l.way → ⊥) → AreTwo k l m n u v
-  variables : (m ≡ n → ⊥) → AreTwo k l m n u v
-  modes : (u ≡ v → ⊥) → AreTwo k l m n u v
+pub data AreTwoEdges (k l : Label) (m n : ℕ) (u v : Value) : Type 0 where
+  ways : (k.way ≡ l.way → ⊥) → AreTwoEdges k l m n u v
+  variables : (m ≡ n → ⊥) → AreTwoEdges k l m n u v
+  modes : (u ≡ v → ⊥) → AreTwoEdges k l m n u v
 
 -- two live edges of one event are one
 pub record KeepsS5 {V : Type 0} (sys : System V) (dropped : List ℕ) : Type 0 where
@@ -145,7 +145,7 @@ pub record BreaksS5 {V : Type 0} (sys : System V) (dropped : List ℕ) (n : ℕ)
   pub second_variable : ℕ
   pub first : HasLive sys dropped event first_variable
   pub second : HasLive sys dropped event second_variable
-  pub two : AreTwo first.label second.label first_variable second_variable first.from second.from
+  pub two : AreTwoEdges first.label second.label first_variable second_variable first.from second.from
   pub has : HasLive sys dropped event n
   pub least : (k : ℕ) → HasLive sys dropped event k → n ≤ k
 
@@ -166,7 +166,7 @@ pub data BreaksS6 {V : Type 0} (sys : System V) (dropped : List ℕ) (n : ℕ) :
   by_events : (k l : Label) (u v x : Value) → IsLive sys dropped k n u x → IsLive sys dropped l n v x
       → (k.event ≡ l.event → ⊥) → BreaksS6 sys dropped n
   by_edges : (k l : Label) (u v x : Value) → IsLive sys dropped k n u x → IsLive sys dropped l n v x → k.event ≡ l.event
-      → AreTwo k l n n u v → BreaksS6 sys dropped n
+      → AreTwoEdges k l n n u v → BreaksS6 sys dropped n
   initial : (l : Label) (u : Value) (x : Variable V) → Stands sys.net.variables n x → IsLive sys dropped l n u x.value
       → BreaksS6 sys dropped n
 
@@ -247,45 +247,45 @@ pub data Rule : Type 0 where
   S1 S2 S3 S4 S5 S6 S7 S8 : Rule
 
 -- a rule is broken, shown with this
-pub data Breaks {V : Type 0} (sys : System V) (dropped : List ℕ) : Rule → Spot → Type 0 where
-  s1 : {n : ℕ} → BreaksS1 sys n → Breaks sys dropped S1 (AtEvent n)
-  s2 : {n : ℕ} → BreaksS2 sys dropped n → Breaks sys dropped S2 (AtUnit n)
-  s3 : {n : ℕ} → BreaksS3 sys dropped n → Breaks sys dropped S3 (AtVariable n)
-  s4 : {n : ℕ} → BreaksS4 sys dropped n → Breaks sys dropped S4 (AtVariable n)
-  s5 : {n : ℕ} → BreaksS5 sys dropped n → Breaks sys dropped S5 (AtVariable n)
-  s6 : {n : ℕ} → BreaksS6 sys dropped n → Breaks sys dropped S6 (AtVariable n)
-  s7 : {n : ℕ} → BreaksS7 sys n → Breaks sys dropped S7 (AtVariable n)
-  s7_observer : {n : ℕ} → ObserverBreaksS7 sys n → Breaks sys dropped S7 (AtObserver n)
-  s8 : BreaksS8 sys dropped → Breaks sys dropped S8 AtWhole
+pub data BreaksStaticRule {V : Type 0} (sys : System V) (dropped : List ℕ) : Rule → Spot → Type 0 where
+  s1 : {n : ℕ} → BreaksS1 sys n → BreaksStaticRule sys dropped S1 (AtEvent n)
+  s2 : {n : ℕ} → BreaksS2 sys dropped n → BreaksStaticRule sys dropped S2 (AtUnit n)
+  s3 : {n : ℕ} → BreaksS3 sys dropped n → BreaksStaticRule sys dropped S3 (AtVariable n)
+  s4 : {n : ℕ} → BreaksS4 sys dropped n → BreaksStaticRule sys dropped S4 (AtVariable n)
+  s5 : {n : ℕ} → BreaksS5 sys dropped n → BreaksStaticRule sys dropped S5 (AtVariable n)
+  s6 : {n : ℕ} → BreaksS6 sys dropped n → BreaksStaticRule sys dropped S6 (AtVariable n)
+  s7 : {n : ℕ} → BreaksS7 sys n → BreaksStaticRule sys dropped S7 (AtVariable n)
+  s7_observer : {n : ℕ} → ObserverBreaksS7 sys n → BreaksStaticRule sys dropped S7 (AtObserver n)
+  s8 : BreaksS8 sys dropped → BreaksStaticRule sys dropped S8 AtWhole
 
 -- the rule is kept
-abbrev pub Keeps : {V : Type 0} → System V → List ℕ → Rule → Type 0
-Keeps sys dropped S1 = KeepsS1 sys
-Keeps sys dropped S2 = KeepsS2 sys dropped
-Keeps sys dropped S3 = KeepsS3 sys dropped
-Keeps sys dropped S4 = KeepsS4 sys dropped
-Keeps sys dropped S5 = KeepsS5 sys dropped
-Keeps sys dropped S6 = KeepsS6 sys dropped
-Keeps sys dropped S7 = KeepsS7 sys
-Keeps sys dropped S8 = KeepsS8 sys dropped
+abbrev pub KeepsStaticRule : {V : Type 0} → System V → List ℕ → Rule → Type 0
+KeepsStaticRule sys dropped S1 = KeepsS1 sys
+KeepsStaticRule sys dropped S2 = KeepsS2 sys dropped
+KeepsStaticRule sys dropped S3 = KeepsS3 sys dropped
+KeepsStaticRule sys dropped S4 = KeepsS4 sys dropped
+KeepsStaticRule sys dropped S5 = KeepsS5 sys dropped
+KeepsStaticRule sys dropped S6 = KeepsS6 sys dropped
+KeepsStaticRule sys dropped S7 = KeepsS7 sys
+KeepsStaticRule sys dropped S8 = KeepsS8 sys dropped
 
 -- the number of a rule
-abbrev pub number_of : Rule → ℕ
-number_of S1 = 1
-number_of S2 = 2
-number_of S3 = 3
-number_of S4 = 4
-number_of S5 = 5
-number_of S6 = 6
-number_of S7 = 7
-number_of S8 = 8
+abbrev pub rule_number : Rule → ℕ
+rule_number S1 = 1
+rule_number S2 = 2
+rule_number S3 = 3
+rule_number S4 = 4
+rule_number S5 = 5
+rule_number S6 = 6
+rule_number S7 = 7
+rule_number S8 = 8
 
 -- the least rule that is broken, with the first that it is shown with
 pub record IsFirstBroken {V : Type 0} (sys : System V) (dropped : List ℕ) (rule : Rule) (spot : Spot) : Type 0 where
-  pub breaks : Breaks sys dropped rule spot
-  pub lesser_kept : (lesser : Rule) → number_of lesser < number_of rule → Keeps sys dropped lesser
-  pub is_first : (other : Spot) → IsShownBefore other spot → Breaks sys dropped rule other → ⊥
+  pub breaks : BreaksStaticRule sys dropped rule spot
+  pub lesser_kept : (lesser : Rule) → rule_number lesser < rule_number rule → KeepsStaticRule sys dropped lesser
+  pub is_first : (other : Spot) → IsShownBefore other spot → BreaksStaticRule sys dropped rule other → ⊥
 
 -- every rule is kept
 pub record KeepsAll {V : Type 0} (sys : System V) (dropped : List ℕ) : Type 0 where
-  pub each : (rule : Rule) → Keeps sys dropped rule
+  pub each : (rule : Rule) → KeepsStaticRule sys dropped rule

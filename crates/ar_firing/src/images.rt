@@ -10,7 +10,7 @@ ghost use Rattle.ar_meaning.specs.Image.{Expr_renames};
 ghost use Rattle.ar_meaning.specs.FlatOf.{IsNumber, IsFlatOf};
 ghost use Rattle.ar_firing.specs.Cuts.{Reaches, Conflicts, Makes, MeetsConflict, Cut, ConflictSet, IsFirable};
 ghost use Rattle.ar_firing.specs.Forest.{ModeTree, IsModeTree, IsForest, IsLine};
-ghost use Rattle.ar_firing.specs.Rules.{Rule, Spot, Keeps, Breaks, IsFirstBroken, KeepsAll};
+ghost use Rattle.ar_firing.specs.Rules.{Rule, Spot, KeepsStaticRule, BreaksStaticRule, IsFirstBroken, KeepsAll};
 
 /// A system and a flat system of it have the same firing orders, conflicts, cuts and conflict sets.
 pub fn flat_cuts<V>()
@@ -56,10 +56,10 @@ pub fn flat_forests<V>()
 /// same numbers.
 pub fn flat_rules<V>()
     ensures keeps { (things : List V) (sys : System V) (flat : System ℕ) → IsFlatOf things sys flat
-        → (dropped : List ℕ) (rule : Rule) → (Keeps sys dropped rule ↔ Keeps flat dropped rule) }
+        → (dropped : List ℕ) (rule : Rule) → (KeepsStaticRule sys dropped rule ↔ KeepsStaticRule flat dropped rule) }
     ensures breaks { (things : List V) (sys : System V) (flat : System ℕ) → IsFlatOf things sys flat
         → (dropped : List ℕ) (rule : Rule) (spot : Spot)
-        → (Breaks sys dropped rule spot ↔ Breaks flat dropped rule spot) }
+        → (BreaksStaticRule sys dropped rule spot ↔ BreaksStaticRule flat dropped rule spot) }
     ensures first_broken { (things : List V) (sys : System V) (flat : System ℕ)
         → IsFlatOf things sys flat → (dropped : List ℕ) (rule : Rule) (spot : Spot)
         → (IsFirstBroken sys dropped rule spot ↔ IsFirstBroken flat dropped rule spot) }

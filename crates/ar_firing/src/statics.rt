@@ -4,13 +4,13 @@ ghost use Rattle.std.specs.Prelude.{ℕ, List, ◌≡◌};
 ghost use Rattle.ar_meaning.specs.Systems.{System};
 ghost use Rattle.ar_meaning.specs.Found.{AreTold};
 ghost use Rattle.ar_firing.specs.Static.{IsStatic};
-ghost use Rattle.ar_firing.specs.Rules.{Rule, Spot, HasTargets, Keeps, Breaks, IsFirstBroken, KeepsAll};
+ghost use Rattle.ar_firing.specs.Rules.{Rule, Spot, HasTargets, KeepsStaticRule, BreaksStaticRule, IsFirstBroken, KeepsAll};
 
 /// A rule that is kept is broken nowhere, and at most one rule is the first that is broken, with
 /// one thing that it is shown with.
 pub fn kept_or_broken<V>()
     ensures one_rule { (sys : System V) (dropped : List ℕ) (rule : Rule) (spot : Spot)
-        → Keeps sys dropped rule → Breaks sys dropped rule spot → ⊥ }
+        → KeepsStaticRule sys dropped rule → BreaksStaticRule sys dropped rule spot → ⊥ }
     ensures all_rules { (sys : System V) (dropped : List ℕ) → KeepsAll sys dropped
         → (rule : Rule) (spot : Spot) → IsFirstBroken sys dropped rule spot → ⊥ }
     ensures first { (sys : System V) (dropped : List ℕ) (rule other : Rule) (spot there : Spot)
@@ -29,7 +29,7 @@ pub fn rules_make_static<V>()
 /// refuted that a system neither keeps every rule nor has a first one that it breaks.
 pub fn unbroken_rules<V>()
     ensures is_static { AreTold V → (sys : System V) (dropped : List ℕ)
-        → ((rule : Rule) (spot : Spot) → Breaks sys dropped rule spot → ⊥) → IsStatic sys dropped }
+        → ((rule : Rule) (spot : Spot) → BreaksStaticRule sys dropped rule spot → ⊥) → IsStatic sys dropped }
     ensures not_neither { AreTold V → (sys : System V) (dropped : List ℕ) → HasTargets sys
         → (KeepsAll sys dropped → ⊥)
         → ((rule : Rule) (spot : Spot) → IsFirstBroken sys dropped rule spot → ⊥) → ⊥ }

@@ -15,10 +15,10 @@ use Rattle.ar_grammar.specs.declared.lexeme.Refusal.{Refusal}
 use Rattle.ar_grammar.specs.declared.lexeme.Refusal.TheVariants.{Syntax, Depth, Memory}
 use Rattle.ar_base.specs.Numbers.{NameId}
 use Rattle.ar_grammar.specs.Words.{Form, Tokens, kind_or, token, no_kind, deep, ◌▸◌, ◌∣◌, nothing, between, each, many, groups, concat}
-use Rattle.ar_grammar.specs.Members.{IsTypeForm, IsDeclared, IsSingle, boolean, IsMember, named, IsSection, IsLater, AreSections, none, some, IsBody}
-use Rattle.ar_grammar.specs.Texts.{list_of, path_text, is_type, expr_text, instr_text, declared_rest, body_text}
+use Rattle.ar_grammar.specs.Members.{ReadsTypeForm, ReadsDeclared, ReadsSingle, boolean, ReadsMember, named, ReadsSection, ReadsLater, ReadsSections, none, some, ReadsBody}
+use Rattle.ar_grammar.specs.Texts.{list_of, path_tokens, is_type, expr_tokens, instr_tokens, declared_rest, body_tokens}
 use Rattle.ar_grammar.specs.Texts as text
-use Rattle.ar_grammar.specs.Parts.{event_text, transition_of, section_of, declaration_text, alias_text, value_text, kept_value_text, parameter_text, single_text, unit_of, keyed_of, member_text, later_text, sections_text, inside_body}
+use Rattle.ar_grammar.specs.Parts.{event_tokens, transition_of, section_of, declaration_tokens, alias_tokens, value_tokens, kept_value_tokens, parameter_tokens, single_tokens, unit_of, keyed_of, member_tokens, later_tokens, sections_tokens, inside_body}
 use Rattle.ar_grammar.specs.Results.{kind_at, Plain, Spans, Takes, Arrives, Finds, is_word, is_name, ends_transitions, ends_assertions, ends_body, ends_members, ends_section, begins_instr, begins_keyed, begins_member, begins_section, begins_later, begins_body}
 use Rattle.ar_grammar.proofs.Finding.{Follows, Loops, loops_start, loops_next, kind_join, kind_before, kind_behind, plain_kind, apart, fails, token_kind, then_kind, follows_many, spans_then, spans_map, spans_push}
 use Rattle.ar_grammar.proofs.ExpressionForms.{then_map, word_from}
@@ -42,39 +42,40 @@ spans_first {new = new} s = sym (kind_before s.front new) ∙ sym (ap kind_at s.
 
 -- Declarations by their type
 
-declared_kind : {n : ℕ} {m : Member} {next : TokenKind} {ts : Tokens} → (h : IsDeclared n m next ts)
+declared_kind : {n : ℕ} {m : Member} {next : TokenKind} {ts : Tokens} → (h : ReadsDeclared n m next ts)
     → kind_or next ts ≡ kind_or (kind_or next h.reads.back) h.reads.front
 declared_kind {next = next} h = ap (kind_or next) h.reads.split ∙ kind_join h.reads.front h.reads.back next
 
-pub boolean_kind : {n : ℕ} {m : Member} {next : TokenKind} {ts : Tokens} → (h : IsDeclared n m next ts)
+pub boolean_kind : {n : ℕ} {m : Member} {next : TokenKind} {ts : Tokens} → (h : ReadsDeclared n m next ts)
     → h.type.form ≡ type_form.Boolean → kind_or next ts ≡ Reserved BOOLEAN
 boolean_kind {next = next} h e = declared_kind h
-    ∙ token_kind (subst (λ (f : TypeForm). IsTypeForm f (kind_or next h.reads.back) h.reads.front) e h.reads.first.form)
+    ∙ token_kind (subst (λ (f : TypeForm). ReadsTypeForm f (kind_or next h.reads.back) h.reads.front) e
+    h.reads.first.form)
 
-pub named_kind : {n : ℕ} {m : Member} {next : TokenKind} {ts : Tokens} (id : NameId) → (h : IsDeclared n m next ts)
+pub named_kind : {n : ℕ} {m : Member} {next : TokenKind} {ts : Tokens} (id : NameId) → (h : ReadsDeclared n m next ts)
     → h.type.form ≡ type_form.Named id → kind_or next ts ≡ Name
-named_kind {next = next} id h e = let g : IsTypeForm (type_form.Named id) (kind_or next h.reads.back) h.reads.front = subst (λ (f : TypeForm). IsTypeForm f (kind_or next h.reads.back) h.reads.front) e h.reads.first.form in
+named_kind {next = next} id h e = let g : ReadsTypeForm (type_form.Named id) (kind_or next h.reads.back) h.reads.front = subst (λ (f : TypeForm). ReadsTypeForm f (kind_or next h.reads.back) h.reads.front) e h.reads.first.form in
     declared_kind h ∙ ap (kind_or (kind_or next h.reads.back)) g.alone ∙ g.of_kind
 
-form_boolean : (f : TypeForm) (next : TokenKind) (ts : Tokens) → IsTypeForm f next ts
+form_boolean : (f : TypeForm) (next : TokenKind) (ts : Tokens) → ReadsTypeForm f next ts
     → kind_or next ts ≡ Reserved BOOLEAN → f ≡ type_form.Boolean
 form_boolean type_form.Boolean next ts g k = refl
 form_boolean type_form.Integer next ts g k = apart (is_word INTEGER) (token_kind g) k refl refl
 form_boolean (type_form.Named id) next ts g k = apart is_name (ap (kind_or next) g.alone ∙ g.of_kind) k refl refl
 
-form_named : (f : TypeForm) (next : TokenKind) (ts : Tokens) → IsTypeForm f next ts → kind_or next ts ≡ Name
+form_named : (f : TypeForm) (next : TokenKind) (ts : Tokens) → ReadsTypeForm f next ts → kind_or next ts ≡ Name
     → (id : NameId) × (f ≡ type_form.Named id)
 form_named type_form.Boolean next ts g k = apart (is_word BOOLEAN) (token_kind g) k refl refl
 form_named type_form.Integer next ts g k = apart (is_word INTEGER) (token_kind g) k refl refl
 form_named (type_form.Named id) next ts g k = (id, refl)
 
-pub single_declared : (n : ℕ) (m : Member) (next : TokenKind) (ts : Tokens) → IsDeclared n m next ts
-    → kind_or next ts ≡ Reserved BOOLEAN → IsSingle n m next ts
+pub single_declared : (n : ℕ) (m : Member) (next : TokenKind) (ts : Tokens) → ReadsDeclared n m next ts
+    → kind_or next ts ≡ Reserved BOOLEAN → ReadsSingle n m next ts
 single_declared n m next ts h k = boolean h
     (form_boolean h.type.form (kind_or next h.reads.back) h.reads.front h.reads.first.form (sym (declared_kind h) ∙ k))
 
 pub member_declared : (n : ℕ) (Body : List Member → Form) (m : Member) (next : TokenKind) (ts : Tokens)
-    → IsDeclared n m next ts → kind_or next ts ≡ Name → IsMember n Body (m ∷ []) next ts
+    → ReadsDeclared n m next ts → kind_or next ts ≡ Name → ReadsMember n Body (m ∷ []) next ts
 member_declared n Body m next ts h k =
     let f = form_named h.type.form (kind_or next h.reads.back) h.reads.front h.reads.first.form
     (sym (declared_kind h) ∙ k) in
@@ -82,7 +83,7 @@ member_declared n Body m next ts h k =
 
 -- Clauses that make one member
 
-pub single_extends : (n : ℕ) (next : TokenKind) (ts : Tokens) → single_text n next ts
+pub single_extends : (n : ℕ) (next : TokenKind) (ts : Tokens) → single_tokens n next ts
     → kind_or next ts ≡ Reserved EXTENDS → (token (Reserved EXTENDS) ▸ token Name ▸ token (Sign SEMICOLON)) next ts
 single_extends n next ts (inl h) k = h
 single_extends n next ts (inr (inl h)) k = apart (is_word BOOLEAN) (then_kind h) k refl refl
@@ -91,8 +92,8 @@ single_extends n next ts (inr (inr (inr (inl h)))) k = apart (is_word EMBEDS) (t
 single_extends n next ts (inr (inr (inr (inr (inl h))))) k = apart (is_word OBSERVER) (then_kind h) k refl refl
 single_extends n next ts (inr (inr (inr (inr (inr h))))) k = apart (is_word PARAMETER) (then_kind h) k refl refl
 
-pub single_boolean : (n : ℕ) (next : TokenKind) (ts : Tokens) → single_text n next ts
-    → kind_or next ts ≡ Reserved BOOLEAN → (token (Reserved BOOLEAN) ▸ declared_rest (expr_text deep n)) next ts
+pub single_boolean : (n : ℕ) (next : TokenKind) (ts : Tokens) → single_tokens n next ts
+    → kind_or next ts ≡ Reserved BOOLEAN → (token (Reserved BOOLEAN) ▸ declared_rest (expr_tokens deep n)) next ts
 single_boolean n next ts (inl h) k = apart (is_word EXTENDS) (then_kind h) k refl refl
 single_boolean n next ts (inr (inl h)) k = h
 single_boolean n next ts (inr (inr (inl h))) k = apart (is_word CLONES) (then_kind h) k refl refl
@@ -100,8 +101,8 @@ single_boolean n next ts (inr (inr (inr (inl h)))) k = apart (is_word EMBEDS) (t
 single_boolean n next ts (inr (inr (inr (inr (inl h))))) k = apart (is_word OBSERVER) (then_kind h) k refl refl
 single_boolean n next ts (inr (inr (inr (inr (inr h))))) k = apart (is_word PARAMETER) (then_kind h) k refl refl
 
-pub single_clones : (n : ℕ) (next : TokenKind) (ts : Tokens) → single_text n next ts → kind_or next ts ≡ Reserved CLONES
-    → (token (Reserved CLONES) ▸ alias_text) next ts
+pub single_clones : (n : ℕ) (next : TokenKind) (ts : Tokens) → single_tokens n next ts → kind_or next ts ≡ Reserved
+    CLONES → (token (Reserved CLONES) ▸ alias_tokens) next ts
 single_clones n next ts (inl h) k = apart (is_word EXTENDS) (then_kind h) k refl refl
 single_clones n next ts (inr (inl h)) k = apart (is_word BOOLEAN) (then_kind h) k refl refl
 single_clones n next ts (inr (inr (inl h))) k = h
@@ -109,8 +110,8 @@ single_clones n next ts (inr (inr (inr (inl h)))) k = apart (is_word EMBEDS) (th
 single_clones n next ts (inr (inr (inr (inr (inl h))))) k = apart (is_word OBSERVER) (then_kind h) k refl refl
 single_clones n next ts (inr (inr (inr (inr (inr h))))) k = apart (is_word PARAMETER) (then_kind h) k refl refl
 
-pub single_embeds : (n : ℕ) (next : TokenKind) (ts : Tokens) → single_text n next ts → kind_or next ts ≡ Reserved EMBEDS
-    → (token (Reserved EMBEDS) ▸ alias_text) next ts
+pub single_embeds : (n : ℕ) (next : TokenKind) (ts : Tokens) → single_tokens n next ts → kind_or next ts ≡ Reserved
+    EMBEDS → (token (Reserved EMBEDS) ▸ alias_tokens) next ts
 single_embeds n next ts (inl h) k = apart (is_word EXTENDS) (then_kind h) k refl refl
 single_embeds n next ts (inr (inl h)) k = apart (is_word BOOLEAN) (then_kind h) k refl refl
 single_embeds n next ts (inr (inr (inl h))) k = apart (is_word CLONES) (then_kind h) k refl refl
@@ -118,8 +119,8 @@ single_embeds n next ts (inr (inr (inr (inl h)))) k = h
 single_embeds n next ts (inr (inr (inr (inr (inl h))))) k = apart (is_word OBSERVER) (then_kind h) k refl refl
 single_embeds n next ts (inr (inr (inr (inr (inr h))))) k = apart (is_word PARAMETER) (then_kind h) k refl refl
 
-pub single_observer : (n : ℕ) (next : TokenKind) (ts : Tokens) → single_text n next ts
-    → kind_or next ts ≡ Reserved OBSERVER → (token (Reserved OBSERVER) ▸ value_text n) next ts
+pub single_observer : (n : ℕ) (next : TokenKind) (ts : Tokens) → single_tokens n next ts
+    → kind_or next ts ≡ Reserved OBSERVER → (token (Reserved OBSERVER) ▸ value_tokens n) next ts
 single_observer n next ts (inl h) k = apart (is_word EXTENDS) (then_kind h) k refl refl
 single_observer n next ts (inr (inl h)) k = apart (is_word BOOLEAN) (then_kind h) k refl refl
 single_observer n next ts (inr (inr (inl h))) k = apart (is_word CLONES) (then_kind h) k refl refl
@@ -127,9 +128,9 @@ single_observer n next ts (inr (inr (inr (inl h)))) k = apart (is_word EMBEDS) (
 single_observer n next ts (inr (inr (inr (inr (inl h))))) k = h
 single_observer n next ts (inr (inr (inr (inr (inr h))))) k = apart (is_word PARAMETER) (then_kind h) k refl refl
 
-pub single_parameter : (n : ℕ) (next : TokenKind) (ts : Tokens) → single_text n next ts
+pub single_parameter : (n : ℕ) (next : TokenKind) (ts : Tokens) → single_tokens n next ts
     → kind_or next ts ≢ Reserved EXTENDS → kind_or next ts ≢ Reserved BOOLEAN → kind_or next ts ≢ Reserved CLONES
-    → kind_or next ts ≢ Reserved EMBEDS → kind_or next ts ≢ Reserved OBSERVER → parameter_text n next ts
+    → kind_or next ts ≢ Reserved EMBEDS → kind_or next ts ≢ Reserved OBSERVER → parameter_tokens n next ts
 single_parameter n next ts (inl h) a b c g i = absurd (a (then_kind h))
 single_parameter n next ts (inr (inl h)) a b c g i = absurd (b (then_kind h))
 single_parameter n next ts (inr (inr (inl h))) a b c g i = absurd (c (then_kind h))
@@ -137,19 +138,19 @@ single_parameter n next ts (inr (inr (inr (inl h)))) a b c g i = absurd (g (then
 single_parameter n next ts (inr (inr (inr (inr (inl h))))) a b c g i = absurd (i (then_kind h))
 single_parameter n next ts (inr (inr (inr (inr (inr h))))) a b c g i = h
 
-pub parameter_real : (n : ℕ) (next : TokenKind) (ts : Tokens) → (kept_value_text n ∣ value_text n) next ts
-    → kind_or next ts ≡ Reserved REAL → kept_value_text n next ts
+pub parameter_real : (n : ℕ) (next : TokenKind) (ts : Tokens) → (kept_value_tokens n ∣ value_tokens n) next ts
+    → kind_or next ts ≡ Reserved REAL → kept_value_tokens n next ts
 parameter_real n next ts (inl h) k = h
 parameter_real n next ts (inr h) k = fails is_type (one_kind h.first) (sym (first_of h) ∙ k) refl
 
-pub parameter_typed : (n : ℕ) (next : TokenKind) (ts : Tokens) → (kept_value_text n ∣ value_text n) next ts
-    → kind_or next ts ≢ Reserved REAL → value_text n next ts
+pub parameter_typed : (n : ℕ) (next : TokenKind) (ts : Tokens) → (kept_value_tokens n ∣ value_tokens n) next ts
+    → kind_or next ts ≢ Reserved REAL → value_tokens n next ts
 parameter_typed n next ts (inl h) k = absurd (k (then_kind h))
 parameter_typed n next ts (inr h) k = h
 
 -- a declaration that begins with this token
-pub declared_as : (n : ℕ) (next : TokenKind) (ts : Tokens) {k : TokenKind} → declaration_text n next ts
-    → kind_or next ts ≡ k → (token k ▸ declared_rest (expr_text deep n)) next ts
+pub declared_as : (n : ℕ) (next : TokenKind) (ts : Tokens) {k : TokenKind} → declaration_tokens n next ts
+    → kind_or next ts ≡ k → (token k ▸ declared_rest (expr_tokens deep n)) next ts
 declared_as n next ts h k = record {
   front = h.front;
   back = h.back;
@@ -159,16 +160,16 @@ declared_as n next ts h k = record {
 }
 
 pub declared_from : (n : ℕ) (next : TokenKind) (ts : Tokens) {k : TokenKind} → is_type k ≡ true
-    → (token k ▸ declared_rest (expr_text deep n)) next ts → declaration_text n next ts
+    → (token k ▸ declared_rest (expr_tokens deep n)) next ts → declaration_tokens n next ts
 declared_from n next ts e h = then_map h
     (λ next ts j. record { one = j.one; alone = j.alone; passes = ap is_type j.of_kind ∙ e }) (λ next ts j. j)
 
-pub single_of_declared : (n : ℕ) (next : TokenKind) (ts : Tokens) → declaration_text n next ts
-    → kind_or next ts ≡ Reserved BOOLEAN → single_text n next ts
+pub single_of_declared : (n : ℕ) (next : TokenKind) (ts : Tokens) → declaration_tokens n next ts
+    → kind_or next ts ≡ Reserved BOOLEAN → single_tokens n next ts
 single_of_declared n next ts h k = inr (inl (declared_as n next ts h k))
 
-pub single_as_declared : (n : ℕ) (next : TokenKind) (ts : Tokens) → single_text n next ts
-    → kind_or next ts ≡ Reserved BOOLEAN → declaration_text n next ts
+pub single_as_declared : (n : ℕ) (next : TokenKind) (ts : Tokens) → single_tokens n next ts
+    → kind_or next ts ≡ Reserved BOOLEAN → declaration_tokens n next ts
 single_as_declared n next ts h k = declared_from n next ts refl (single_boolean n next ts h k)
 
 -- Clauses that begin with a reserved word
@@ -193,7 +194,7 @@ pub keyed_first : (n : ℕ) (next : TokenKind) (ts : Tokens) → keyed_of n next
 keyed_first = keyed_test begins_keyed refl refl refl refl refl refl refl refl refl
 
 pub keyed_event : (n : ℕ) (next : TokenKind) (ts : Tokens) → keyed_of n next ts → kind_or next ts ≡ Reserved EVENT
-    → between (Reserved EVENT) (Sign SEMICOLON) (list_of (Sign COMMA) (event_text n)) next ts
+    → between (Reserved EVENT) (Sign SEMICOLON) (list_of (Sign COMMA) (event_tokens n)) next ts
 keyed_event n next ts (text.extends h) k = apart (is_word EXTENDS) (then_kind h) k refl refl
 keyed_event n next ts (text.boolean h) k = apart (is_word BOOLEAN) (then_kind h) k refl refl
 keyed_event n next ts (text.clones h) k = apart (is_word CLONES) (then_kind h) k refl refl
@@ -206,7 +207,7 @@ keyed_event n next ts (text.event h) k = h
 keyed_event n next ts (text.hide h) k = apart (is_word HIDE) (then_kind h) k refl refl
 
 pub keyed_hide : (n : ℕ) (next : TokenKind) (ts : Tokens) → keyed_of n next ts → kind_or next ts ≡ Reserved HIDE
-    → between (Reserved HIDE) (Sign SEMICOLON) (list_of (Sign COMMA) path_text) next ts
+    → between (Reserved HIDE) (Sign SEMICOLON) (list_of (Sign COMMA) path_tokens) next ts
 keyed_hide n next ts (text.extends h) k = apart (is_word EXTENDS) (then_kind h) k refl refl
 keyed_hide n next ts (text.boolean h) k = apart (is_word BOOLEAN) (then_kind h) k refl refl
 keyed_hide n next ts (text.clones h) k = apart (is_word CLONES) (then_kind h) k refl refl
@@ -232,7 +233,7 @@ keyed_block n next ts (text.event h) k = apart (is_word EVENT) (then_kind h) k r
 keyed_block n next ts (text.hide h) k = apart (is_word HIDE) (then_kind h) k refl refl
 
 pub keyed_single : (n : ℕ) (next : TokenKind) (ts : Tokens) → keyed_of n next ts → kind_or next ts ≢ Reserved EVENT
-    → kind_or next ts ≢ Reserved HIDE → kind_or next ts ≢ Reserved BLOCK → single_text n next ts
+    → kind_or next ts ≢ Reserved HIDE → kind_or next ts ≢ Reserved BLOCK → single_tokens n next ts
 keyed_single n next ts (text.extends h) a b c = inl h
 keyed_single n next ts (text.boolean h) a b c = inr (inl h)
 keyed_single n next ts (text.clones h) a b c = inr (inr (inl h))
@@ -255,7 +256,7 @@ then_either {A} {B} {C} {next} {ts} h = by_case h.second
     by_case (inl j) = inl (record { front = h.front; back = h.back; split = h.split; first = h.first; second = j })
     by_case (inr j) = inr (record { front = h.front; back = h.back; split = h.split; first = h.first; second = j })
 
-pub keyed_of_single : (n : ℕ) (next : TokenKind) (ts : Tokens) → single_text n next ts → keyed_of n next ts
+pub keyed_of_single : (n : ℕ) (next : TokenKind) (ts : Tokens) → single_tokens n next ts → keyed_of n next ts
 keyed_of_single n next ts (inl h) = text.extends h
 keyed_of_single n next ts (inr (inl h)) = text.boolean h
 keyed_of_single n next ts (inr (inr (inl h))) = text.clones h
@@ -263,29 +264,29 @@ keyed_of_single n next ts (inr (inr (inr (inl h)))) = text.embeds h
 keyed_of_single n next ts (inr (inr (inr (inr (inl h))))) = text.observer h
 keyed_of_single n next ts (inr (inr (inr (inr (inr h))))) = by_case (then_either h)
   where
-    by_case : (token (Reserved PARAMETER) ▸ kept_value_text n) next ts
-        ⊎ (token (Reserved PARAMETER) ▸ value_text n) next ts → keyed_of n next ts
+    by_case : (token (Reserved PARAMETER) ▸ kept_value_tokens n) next ts
+        ⊎ (token (Reserved PARAMETER) ▸ value_tokens n) next ts → keyed_of n next ts
     by_case (inl j) = text.kept j
     by_case (inr j) = text.parameter j
 
 -- Members
 
-pub member_first : (n : ℕ) (next : TokenKind) (ts : Tokens) → member_text n next ts
+pub member_first : (n : ℕ) (next : TokenKind) (ts : Tokens) → member_tokens n next ts
     → begins_member (kind_or next ts) ≡ true
 member_first n next ts (inl h) = or_right (is_name (kind_or next ts)) (begins_keyed (kind_or next ts))
     (keyed_first n next ts h)
 member_first n next ts (inr h) = ap begins_member (then_kind h)
 
-pub member_named : (n : ℕ) (next : TokenKind) (ts : Tokens) → member_text n next ts → kind_or next ts ≡ Name
-    → declaration_text n next ts
+pub member_named : (n : ℕ) (next : TokenKind) (ts : Tokens) → member_tokens n next ts → kind_or next ts ≡ Name
+    → declaration_tokens n next ts
 member_named n next ts (inl h) k = fails begins_keyed (keyed_first n next ts h) k refl
 member_named n next ts (inr h) k = declared_from n next ts refl h
 
-pub member_of_declared : (n : ℕ) (next : TokenKind) (ts : Tokens) → declaration_text n next ts → kind_or next ts ≡ Name
-    → member_text n next ts
+pub member_of_declared : (n : ℕ) (next : TokenKind) (ts : Tokens) → declaration_tokens n next ts → kind_or next ts
+    ≡ Name → member_tokens n next ts
 member_of_declared n next ts h k = inr (declared_as n next ts h k)
 
-pub member_keyed : (n : ℕ) (next : TokenKind) (ts : Tokens) → member_text n next ts → kind_or next ts ≢ Name
+pub member_keyed : (n : ℕ) (next : TokenKind) (ts : Tokens) → member_tokens n next ts → kind_or next ts ≢ Name
     → keyed_of n next ts
 member_keyed n next ts (inl h) k = h
 member_keyed n next ts (inr h) k = absurd (k (then_kind h))
@@ -298,7 +299,7 @@ section_transition n next ts (inl h) k = h
 section_transition n next ts (inr h) k = apart (is_word ASSERTION) (then_kind h) k refl refl
 
 pub section_assertion : (n : ℕ) (next : TokenKind) (ts : Tokens) → section_of n next ts
-    → kind_or next ts ≢ Reserved TRANSITION → (token (Reserved ASSERTION) ▸ many (instr_text deep n)) next ts
+    → kind_or next ts ≢ Reserved TRANSITION → (token (Reserved ASSERTION) ▸ many (instr_tokens deep n)) next ts
 section_assertion n next ts (inl h) k = absurd (k (then_kind h))
 section_assertion n next ts (inr h) k = h
 
@@ -360,7 +361,7 @@ later_open k h = word_fails begins_later END k h refl
 
 -- Later clauses
 
-pub later_first : (n : ℕ) (next : TokenKind) (ts : Tokens) → later_text n next ts
+pub later_first : (n : ℕ) (next : TokenKind) (ts : Tokens) → later_tokens n next ts
     → begins_later (kind_or next ts) ≡ true
 later_first n next ts (inl h) = or_left (begins_section (kind_or next ts)) (begins_keyed (kind_or next ts))
     (section_first n next ts h)
@@ -368,10 +369,10 @@ later_first n next ts (inr h) = or_right (begins_section (kind_or next ts)) (beg
     (keyed_first n next ts h)
 
 -- no later clause begins with `else`
-pub later_clear : (n : ℕ) (next : TokenKind) (ts : Tokens) → later_text n next ts → kind_or next ts ≢ Reserved ELSE
+pub later_clear : (n : ℕ) (next : TokenKind) (ts : Tokens) → later_tokens n next ts → kind_or next ts ≢ Reserved ELSE
 later_clear n next ts h e = fails begins_later (later_first n next ts h) e refl
 
-pub later_some_clear : (n : ℕ) (next : TokenKind) (ts : Tokens) → (later_text n ▸ many (later_text n)) next ts
+pub later_some_clear : (n : ℕ) (next : TokenKind) (ts : Tokens) → (later_tokens n ▸ many (later_tokens n)) next ts
     → kind_or next ts ≢ Reserved ELSE
 later_some_clear n next ts h e = later_clear n (kind_or next h.back) h.front h.first (sym (first_of h) ∙ e)
 
@@ -379,17 +380,17 @@ section_not_keyed : (k : TokenKind) → begins_keyed k ≡ true → begins_secti
 section_not_keyed k h = neither (is_word TRANSITION k) (is_word ASSERTION k)
     (word_fails begins_keyed TRANSITION k h refl) (word_fails begins_keyed ASSERTION k h refl)
 
-pub later_section : (n : ℕ) (next : TokenKind) (ts : Tokens) → later_text n next ts
+pub later_section : (n : ℕ) (next : TokenKind) (ts : Tokens) → later_tokens n next ts
     → begins_section (kind_or next ts) ≡ true → section_of n next ts
 later_section n next ts (inl h) k = h
 later_section n next ts (inr h) k = let x : true ≡ false = sym k ∙ section_not_keyed (kind_or next ts) (keyed_first n next ts h) in absurd (cc)
 
-pub later_keyed : (n : ℕ) (next : TokenKind) (ts : Tokens) → later_text n next ts
+pub later_keyed : (n : ℕ) (next : TokenKind) (ts : Tokens) → later_tokens n next ts
     → begins_section (kind_or next ts) ≡ false → keyed_of n next ts
 later_keyed n next ts (inl h) k = let x : true ≡ false = sym (section_first n next ts h) ∙ k in absurd (cc)
 later_keyed n next ts (inr h) k = h
 
-pub later_follows : Follows (λ n. many (later_text n)) ends_section ends_body
+pub later_follows : Follows (λ n. many (later_tokens n)) ends_section ends_body
 later_follows = follows_many (λ n next ts h. or_left (begins_later (kind_or next ts)) (is_word END (kind_or next ts))
     (later_first n next ts h)) (λ k h. or_right (begins_later k) (is_word END k) h)
 
@@ -397,23 +398,23 @@ later_follows = follows_many (λ n next ts h. or_left (begins_later (kind_or nex
 
 sections_test : (test : TokenKind → Bool) (n : ℕ) (next : TokenKind) (ts : Tokens)
     → ((next : TokenKind) (ts : Tokens) → section_of n next ts → test (kind_or next ts) ≡ true)
-    → (section_of n ▸ many (later_text n)) next ts → test (kind_or next ts) ≡ true
+    → (section_of n ▸ many (later_tokens n)) next ts → test (kind_or next ts) ≡ true
 sections_test test n next ts f h = ap test (first_of h) ∙ f (kind_or next h.back) h.front h.first
 
-pub sections_none : (n : ℕ) (next : TokenKind) (ts : Tokens) → sections_text n next ts
+pub sections_none : (n : ℕ) (next : TokenKind) (ts : Tokens) → sections_tokens n next ts
     → begins_section (kind_or next ts) ≡ false → nothing next ts
 sections_none n next ts (inl h) k = h
 sections_none n next ts (inr h) k = let x : true ≡ false = sym (sections_test begins_section n next ts (section_first n) h) ∙ k in absurd (cc)
 
-pub sections_parts : (n : ℕ) (next : TokenKind) (ts : Tokens) → sections_text n next ts → ends_body next ≡ true
-    → begins_section (kind_or next ts) ≡ true → (section_of n ▸ many (later_text n)) next ts
+pub sections_parts : (n : ℕ) (next : TokenKind) (ts : Tokens) → sections_tokens n next ts → ends_body next ≡ true
+    → begins_section (kind_or next ts) ≡ true → (section_of n ▸ many (later_tokens n)) next ts
 sections_parts n next ts (inl h) s k = let x : true ≡ false = sym k ∙ ap begins_section (ap (kind_or next) h ∙ word_from END next s) in absurd (cc)
 sections_parts n next ts (inr h) s k = h
 
-pub sections_follow : Follows sections_text ends_members ends_body
+pub sections_follow : Follows sections_tokens ends_members ends_body
 sections_follow = record { holds = λ n next ts h s. by_sections n next ts h s }
   where
-    by_sections : (n : ℕ) (next : TokenKind) (ts : Tokens) → sections_text n next ts → ends_body next ≡ true
+    by_sections : (n : ℕ) (next : TokenKind) (ts : Tokens) → sections_tokens n next ts → ends_body next ≡ true
         → ends_members (kind_or next ts) ≡ true
     by_sections n next ts (inl h) s = ap ends_members (ap (kind_or next) h ∙ word_from END next s)
     by_sections n next ts (inr h) s = or_left (begins_section (kind_or next ts)) (is_word END (kind_or next ts))
@@ -422,7 +423,7 @@ sections_follow = record { holds = λ n next ts h s. by_sections n next ts h s }
 -- Bodies
 
 pub finds_body : {A : Type 0} {left : ℕ} {r : Result A Refusal} {old new : Tokens} → left ≢ 0
-    → Finds inside_body ends_body (left - 1) r old new → Finds (body_text deep) ends_body left r old new
+    → Finds inside_body ends_body (left - 1) r old new → Finds (body_tokens deep) ends_body left r old new
 finds_body {A} {left} {r} {old} {new} room f = record {
   front = f.front;
   passed = f.passed;
@@ -444,7 +445,7 @@ finds_body {A} {left} {r} {old} {new} room f = record {
     arrives_inside m new after (Err Memory) a = a
 
     by_nesting : Plain old → (n : ℕ) (other ts after : Tokens) → kind_at other ≡ kind_at new
-        → body_text deep n (kind_at after) ts → f.front ++ other ≡ ts ++ after → ends_body (kind_at after) ≡ true
+        → body_tokens deep n (kind_at after) ts → f.front ++ other ≡ ts ++ after → ends_body (kind_at after) ≡ true
         → Arrives left n r other after
     by_nesting p zero other ts after same (inl h) w s =
         arrives_empty other after r (f.only p 0 other ts after same
@@ -465,42 +466,42 @@ many_some A (x ∷ count) next ts h = inr (h.front, h.back, h.split, h.first)
 
 body_first : (n : ℕ) (next : TokenKind) (ts : Tokens) → inside_body n next ts
     → (ts ≡ []) ⊎ (begins_body (kind_or next ts) ≡ true)
-body_first n next ts h = by_members (many_some (member_text n) h.first.0 (kind_or next h.back) h.front h.first.1)
+body_first n next ts h = by_members (many_some (member_tokens n) h.first.0 (kind_or next h.back) h.front h.first.1)
   where
-    by_sections : sections_text n next h.back → ts ≡ h.back → (ts ≡ []) ⊎ (begins_body (kind_or next ts) ≡ true)
+    by_sections : sections_tokens n next h.back → ts ≡ h.back → (ts ≡ []) ⊎ (begins_body (kind_or next ts) ≡ true)
     by_sections (inl e) q = inl (q ∙ e)
     by_sections (inr f) q = inr (or_left (begins_section (kind_or next ts)) (begins_member (kind_or next ts))
         (ap begins_section (ap (kind_or next) q) ∙ sections_test begins_section n next h.back (section_first n) f))
 
     by_members : (h.front ≡ []) ⊎ ((a : Tokens) × (b : Tokens) × (h.front ≡ a ++ b)
-        × member_text n (kind_or (kind_or next h.back) b) a) → (ts ≡ []) ⊎ (begins_body (kind_or next ts) ≡ true)
+        × member_tokens n (kind_or (kind_or next h.back) b) a) → (ts ≡ []) ⊎ (begins_body (kind_or next ts) ≡ true)
     by_members (inl e) = by_sections h.second (h.split ∙ ap (λ (t : Tokens). t ++ h.back) e)
     by_members (inr (a, b, e, m)) = inr (or_right (begins_section (kind_or next ts)) (begins_member (kind_or next ts))
         (ap begins_member (first_of h ∙ ap (kind_or (kind_or next h.back)) e ∙ kind_join a b (kind_or next h.back))
         ∙ member_first n (kind_or (kind_or next h.back) b) a m))
 
-pub body_empty : (n : ℕ) (next : TokenKind) (ts : Tokens) → body_text deep n next ts
+pub body_empty : (n : ℕ) (next : TokenKind) (ts : Tokens) → body_tokens deep n next ts
     → begins_body (kind_or next ts) ≡ false → (kind_or next ts ≡ no_kind → ⊥) → nothing next ts
 body_empty zero next ts (inl h) k real = h
 body_empty zero next ts (inr h) k real = absurd (real (token_kind h))
 body_empty (suc n) next ts h k real = elim (body_first n next ts h) as (λ _. ts ≡ []) [ inl e ↦ e | inr b ↦ (let x : true ≡ false = sym b ∙ k in absurd (cc)) ]
 
-pub body_some : (n : ℕ) (next : TokenKind) (ts : Tokens) → body_text deep n next ts → ends_body next ≡ true
+pub body_some : (n : ℕ) (next : TokenKind) (ts : Tokens) → body_tokens deep n next ts → ends_body next ≡ true
     → begins_body (kind_or next ts) ≡ true → (kind_or next ts ≡ no_kind → ⊥) → n ≢ 0
 body_some zero next ts (inl h) s k real = let x : true ≡ false = sym k ∙ ap begins_body (ap (kind_or next) h ∙ word_from END next s) in absurd (cc)
 body_some zero next ts (inr h) s k real = absurd (real (token_kind h))
 body_some (suc n) next ts h s k real = λ e. absurd (cc)
 
 pub body_in : (n : ℕ) (old_items xs ys items mid : List Member) {old rest new : Tokens} → n ≢ 0 → old_items ≡ []
-    → mid ≡ old_items ++ xs → items ≡ mid ++ ys → Spans (groups (IsMember (n - 1) (IsBody (n - 1))) xs) old rest
-    → Spans (AreSections (n - 1) (IsBody (n - 1)) ys) rest new → Spans (IsBody n items) old new
+    → mid ≡ old_items ++ xs → items ≡ mid ++ ys → Spans (groups (ReadsMember (n - 1) (ReadsBody (n - 1))) xs) old rest
+    → Spans (ReadsSections (n - 1) (ReadsBody (n - 1)) ys) rest new → Spans (ReadsBody n items) old new
 body_in zero old_items xs ys items mid n0 e m i a b = absurd (n0 refl)
 body_in (suc n) old_items xs ys items mid n0 e m i a b =
     spans_map (spans_then a b) (λ next ts h. record {
       xs = xs;
       ys = ys;
       all = i ∙ ap (λ (zs : List Member). zs ++ ys) (m ∙ ap (λ (zs : List Member). zs ++ xs) e);
-      reads = subst (λ (m : ℕ). (groups (IsMember m (IsBody m)) xs ▸ AreSections m (IsBody m) ys) next ts)
+      reads = subst (λ (m : ℕ). (groups (ReadsMember m (ReadsBody m)) xs ▸ ReadsSections m (ReadsBody m) ys) next ts)
           (sub-one (suc n)) h;
     })
 
@@ -565,9 +566,9 @@ adds_map P Q (Err x) before items old new h f = h
 
 pub sections_added : (n : ℕ) (Body : List Member → Form) (before mid items xs ys : List Member) {old rest new : Tokens}
     →
-    mid ≡ before ++ xs → items ≡ mid ++ ys → Spans (IsSection n xs) old rest
-    → Spans (groups (IsLater n Body) ys) rest new →
-    (ms : List Member) × (items ≡ before ++ ms) × Spans (AreSections n Body ms) old new
+    mid ≡ before ++ xs → items ≡ mid ++ ys → Spans (ReadsSection n xs) old rest
+    → Spans (groups (ReadsLater n Body) ys) rest new →
+    (ms : List Member) × (items ≡ before ++ ms) × Spans (ReadsSections n Body ms) old new
 sections_added n Body before mid items xs ys e f a b = (
   xs ++ ys,
   f ∙ ap (λ (zs : List Member). zs ++ ys) e
@@ -576,6 +577,6 @@ sections_added n Body before mid items xs ys e f a b = (
 )
 
 pub sections_nothing : (n : ℕ) (Body : List Member → Form) (before : List Member) (old : Tokens)
-    → (ms : List Member) × (before ≡ before ++ ms) × Spans (AreSections n Body ms) old old
+    → (ms : List Member) × (before ≡ before ++ ms) × Spans (ReadsSections n Body ms) old old
 sections_nothing n Body before old =
     ([], sym (append-nil before), record { front = []; split = refl; form = none refl refl })

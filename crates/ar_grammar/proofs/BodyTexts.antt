@@ -13,10 +13,10 @@ use Rattle.ar_syntax.specs.declared.members.Unit.{Unit as UnitTree}
 use Rattle.ar_grammar.specs.declared.lexeme.Lexeme.{Lexeme}
 use Rattle.ar_grammar.specs.Words.{Form, Tokens, token, deep, ◌▸◌, ◌∣◌, between, many, groups, covering}
 use Rattle.ar_grammar.specs.Members as tree
-use Rattle.ar_grammar.specs.Members.{kept, IsAssertion, IsTypeForm, IsDeclared, IsSingle, IsKeyed, IsUnit, IsMember, IsSection, IsLater, AreSections, IsBody}
+use Rattle.ar_grammar.specs.Members.{kept, ReadsAssertion, ReadsTypeForm, ReadsDeclared, ReadsSingle, ReadsKeyed, ReadsUnit, ReadsMember, ReadsSection, ReadsLater, ReadsSections, ReadsBody}
 use Rattle.ar_grammar.specs.Texts as text
-use Rattle.ar_grammar.specs.Texts.{one_of, maybe, expr_text, instr_text, bracketed_text, is_type, declared_rest, unit_text, keyed_text, body_of, body_text}
-use Rattle.ar_grammar.specs.Parts.{alias_text, value_text, single_text, section_of, unit_of, keyed_of, member_text}
+use Rattle.ar_grammar.specs.Texts.{one_of, maybe, expr_tokens, instr_tokens, bracketed_tokens, is_type, declared_rest, unit_tokens, keyed_tokens, body_made_of, body_tokens}
+use Rattle.ar_grammar.specs.Parts.{alias_tokens, value_tokens, single_tokens, section_of, unit_of, keyed_of, member_tokens}
 use Rattle.ar_grammar.specs.Results.{Begins, is_word, is_name, begins_keyed, begins_member, begins_section, begins_body}
 use Rattle.ar_grammar.proofs.ExpressionForms.{word_from}
 use Rattle.ar_grammar.proofs.Standing.{Turns, turns_token, turns_then, begins_token, begins_one, begins_here, begins_nothing, begins_no_more, begins_then, begins_after, begins_map, begins_maybe, begins_some}
@@ -28,13 +28,14 @@ use Rattle.ar_grammar.proofs.MemberParts.{turns_type, turns_names, turns_setting
 
 -- Sections
 
-pub moves_assertion : (n m : ℕ) → n ≤ m → (a : Member) → Moves (IsAssertion n a) (instr_text deep m)
+pub moves_assertion : (n m : ℕ) → n ≤ m → (a : Member) → Moves (ReadsAssertion n a) (instr_tokens deep m)
 moves_assertion n m l a = λ next next' ts y h. moves_instr n m l h.i next next' ts y h.reads
 
-pub moves_section : (n m : ℕ) → n ≤ m → (ms : List Member) → Moves (IsSection n ms) (section_of m)
+pub moves_section : (n m : ℕ) → n ≤ m → (ms : List Member) → Moves (ReadsSection n ms) (section_of m)
 moves_section n m l ms = λ next next' ts y h. by_case next next' ts y h
   where
-    by_case : (next next' : TokenKind) (ts : Tokens) → May next next' → IsSection n ms next ts → section_of m next' ts
+    by_case : (next next' : TokenKind) (ts : Tokens) → May next next' → ReadsSection n ms next ts
+        → section_of m next' ts
     by_case next next' ts y (inl h) = inl
         (moves_then moves_token (moves_each (moves_transition n m l) ms) next next' ts y h)
     by_case next next' ts y (inr h) = inr
@@ -44,25 +45,25 @@ moves_section n m l ms = λ next next' ts y h. by_case next next' ts y h
 
 -- what is declared of a type, behind the type's one token
 turns_rest : (n m : ℕ) → n ≤ m → (d : Member) (f : TypeForm) (k : TokenKind)
-    → ((next : TokenKind) (ts : Tokens) → IsTypeForm f next ts → token k next ts)
-    → (next next' : TokenKind) (ts : Tokens) → (h : IsDeclared n d next ts) → h.type.form ≡ f
-    → (token k ▸ declared_rest (expr_text deep m)) next' ts
+    → ((next : TokenKind) (ts : Tokens) → ReadsTypeForm f next ts → token k next ts)
+    → (next next' : TokenKind) (ts : Tokens) → (h : ReadsDeclared n d next ts) → h.type.form ≡ f
+    → (token k ▸ declared_rest (expr_tokens deep m)) next' ts
 turns_rest n m l d f k g next next' ts h e =
     turns_then (λ next next' ts j. turns_token next next' ts
-    (g next ts (subst (λ (x : TypeForm). IsTypeForm x next ts) e j.form)))
+    (g next ts (subst (λ (x : TypeForm). ReadsTypeForm x next ts) e j.form)))
     (turns_then (turns_names h.names.items) (turns_then (turns_settings n m l h.settings.items) turns_token)) next next'
     ts h.reads
 
 -- with what may stand in the bodies of units
 module _ (n m : ℕ) (l : n ≤ m) (Body : List Member → Form) (B : Form) (g : (ms : List Member) → Moves (Body ms) B) where
-  turns_unit : (u : UnitTree) → Turns (IsUnit Body u) (unit_text B)
+  turns_unit : (u : UnitTree) → Turns (ReadsUnit Body u) (unit_tokens B)
   turns_unit u = turns_then (turns_placed (u.name, u.at)) (moves_closed (g u.members.items))
 
-  turns_single : (s : Member) → Turns (IsSingle n s) (keyed_text (expr_text deep m) (bracketed_text deep m) B)
+  turns_single : (s : Member) → Turns (ReadsSingle n s) (keyed_tokens (expr_tokens deep m) (bracketed_tokens deep m) B)
   turns_single s = λ next next' ts h. by_case next next' ts h
     where
-      by_case : (next next' : TokenKind) (ts : Tokens) → IsSingle n s next ts
-          → keyed_text (expr_text deep m) (bracketed_text deep m) B next' ts
+      by_case : (next next' : TokenKind) (ts : Tokens) → ReadsSingle n s next ts
+          → keyed_tokens (expr_tokens deep m) (bracketed_tokens deep m) B next' ts
       by_case next next' ts (tree.extends name at e h) =
           text.extends (turns_then turns_token (turns_then (turns_placed (name, at)) turns_token) next next' ts h)
       by_case next next' ts (tree.boolean h e) =
@@ -89,85 +90,90 @@ module _ (n m : ℕ) (l : n ≤ m) (Body : List Member → Form) (B : Form) (g :
           (turns_then (turns_type type) (turns_then (turns_placed (name, at))
           (turns_then turns_token (turns_then (turns_tree n m l value) turns_token)))) next next' ts h)
 
-  turns_keyed : (ms : List Member) → Turns (IsKeyed n Body ms) (keyed_text (expr_text deep m) (bracketed_text deep m) B)
+  turns_keyed : (ms : List Member) → Turns (ReadsKeyed n Body ms)
+      (keyed_tokens (expr_tokens deep m) (bracketed_tokens deep m) B)
   turns_keyed ms = λ next next' ts h. by_case next next' ts h
     where
-      by_case : (next next' : TokenKind) (ts : Tokens) → IsKeyed n Body ms next ts
-          → keyed_text (expr_text deep m) (bracketed_text deep m) B next' ts
+      by_case : (next next' : TokenKind) (ts : Tokens) → ReadsKeyed n Body ms next ts
+          → keyed_tokens (expr_tokens deep m) (bracketed_tokens deep m) B next' ts
       by_case next next' ts (tree.single s e h) = turns_single s next next' ts h
       by_case next next' ts (tree.block u e h) = text.block (turns_then turns_token (turns_unit u) next next' ts h)
       by_case next next' ts (tree.event h) =
           text.event (turns_then turns_token
-          (turns_then (turns_list (tree.IsEvent n) _ (Sign COMMA) (turns_event n m l) ms) turns_token) next next' ts h)
+          (turns_then (turns_list (tree.ReadsEvent n) _ (Sign COMMA) (turns_event n m l) ms) turns_token) next next' ts
+          h)
       by_case next next' ts (tree.hide h) =
           text.hide (turns_then turns_token
-          (turns_then (turns_list tree.IsHidden _ (Sign COMMA) turns_hidden ms) turns_token) next next' ts h)
+          (turns_then (turns_list tree.ReadsHidden _ (Sign COMMA) turns_hidden ms) turns_token) next next' ts h)
 
-  turns_member : (ms : List Member) → Turns (IsMember n Body ms)
-      (keyed_text (expr_text deep m) (bracketed_text deep m) B ∣ (token Name ▸ declared_rest (expr_text deep m)))
+  turns_member : (ms : List Member) → Turns (ReadsMember n Body ms)
+      (keyed_tokens (expr_tokens deep m) (bracketed_tokens deep m) B
+      ∣ (token Name ▸ declared_rest (expr_tokens deep m)))
   turns_member ms = λ next next' ts h. by_case next next' ts h
     where
-      by_case : (next next' : TokenKind) (ts : Tokens) → IsMember n Body ms next ts
-          → (keyed_text (expr_text deep m) (bracketed_text deep m) B ∣ (token Name ▸ declared_rest (expr_text deep m)))
+      by_case : (next next' : TokenKind) (ts : Tokens) → ReadsMember n Body ms next ts
+          → (keyed_tokens (expr_tokens deep m) (bracketed_tokens deep m) B
+          ∣ (token Name ▸ declared_rest (expr_tokens deep m)))
           next' ts
       by_case next next' ts (tree.keyed h) = inl (turns_keyed ms next next' ts h)
       by_case next next' ts (tree.named d e h name f) =
           inr (turns_rest n m l d (type_form.Named name) Name
           (λ next ts j. record { one = j.one; alone = j.alone; of_kind = j.of_kind }) next next' ts h f)
 
-  moves_later : (ms : List Member) → Moves (IsLater n Body ms)
-      (section_of m ∣ keyed_text (expr_text deep m) (bracketed_text deep m) B)
+  moves_later : (ms : List Member) → Moves (ReadsLater n Body ms)
+      (section_of m ∣ keyed_tokens (expr_tokens deep m) (bracketed_tokens deep m) B)
   moves_later ms = λ next next' ts y h. by_case next next' ts y h
     where
-      by_case : (next next' : TokenKind) (ts : Tokens) → May next next' → IsLater n Body ms next ts
-          → (section_of m ∣ keyed_text (expr_text deep m) (bracketed_text deep m) B) next' ts
+      by_case : (next next' : TokenKind) (ts : Tokens) → May next next' → ReadsLater n Body ms next ts
+          → (section_of m ∣ keyed_tokens (expr_tokens deep m) (bracketed_tokens deep m) B) next' ts
       by_case next next' ts y (inl h) = inl (moves_section n m l ms next next' ts y h)
       by_case next next' ts y (inr h) = inr (turns_keyed ms next next' ts h)
 
   moves_sections : (ms : List Member)
-      → Moves (AreSections n Body ms) (maybe
-      (section_of m ▸ many (section_of m ∣ keyed_text (expr_text deep m) (bracketed_text deep m) B)))
+      → Moves (ReadsSections n Body ms) (maybe
+      (section_of m ▸ many (section_of m ∣ keyed_tokens (expr_tokens deep m) (bracketed_tokens deep m) B)))
   moves_sections ms = λ next next' ts y h. by_case next next' ts y h
     where
-      by_case : (next next' : TokenKind) (ts : Tokens) → May next next' → AreSections n Body ms next ts
-          → maybe (section_of m ▸ many (section_of m ∣ keyed_text (expr_text deep m) (bracketed_text deep m) B)) next'
+      by_case : (next next' : TokenKind) (ts : Tokens) → May next next' → ReadsSections n Body ms next ts
+          → maybe (section_of m ▸ many (section_of m ∣ keyed_tokens (expr_tokens deep m) (bracketed_tokens deep m) B))
+          next'
           ts
       by_case next next' ts y (tree.none e h) = inl h
       by_case next next' ts y (tree.some xs ys e h) =
           inr (moves_then (moves_section n m l xs) (moves_groups moves_later ys) next next' ts y h)
 
-  moves_inside : (ms : List Member) → Moves (tree.IsBodyOf n Body ms)
-      (body_of (expr_text deep m) (instr_text deep m) (bracketed_text deep m) B)
+  moves_inside : (ms : List Member) → Moves (tree.ReadsBodyOf n Body ms)
+      (body_made_of (expr_tokens deep m) (instr_tokens deep m) (bracketed_tokens deep m) B)
   moves_inside ms = λ next next' ts y h. moves_then (moves_of (turns_groups turns_member h.xs)) (moves_sections h.ys)
       next next' ts y h.reads
 
 body_case : (n m : ℕ) → n ≤ m → (ms : List Member) (next next' : TokenKind) (ts : Tokens) → May next next'
-    → IsBody n ms next ts → body_text deep m next' ts
+    → ReadsBody n ms next ts → body_tokens deep m next' ts
 body_case zero zero l ms next next' ts y h = inl h.1
 body_case zero (suc m) l ms next next' ts y h =
     record { front = []; back = ts; split = refl; first = ([], refl); second = inl h.1 }
 body_case (suc n) zero l ms next next' ts y h = absurd (omega (arith, l))
 body_case (suc n) (suc m) l ms next next' ts y h =
-    moves_inside n m (omega (arith, l)) (IsBody n) (body_text deep m)
+    moves_inside n m (omega (arith, l)) (ReadsBody n) (body_tokens deep m)
     (λ xs next next' ts z j. body_case n m (omega (arith, l)) xs next next' ts z j) ms next next' ts y h
 
-pub moves_body : (n m : ℕ) → n ≤ m → (ms : List Member) → Moves (IsBody n ms) (body_text deep m)
+pub moves_body : (n m : ℕ) → n ≤ m → (ms : List Member) → Moves (ReadsBody n ms) (body_tokens deep m)
 moves_body n m l ms = λ next next' ts y h. body_case n m l ms next next' ts y h
 
-pub turns_a_unit : (n m : ℕ) → n ≤ m → (u : UnitTree) → Turns (IsUnit (IsBody n) u) (unit_of m)
-turns_a_unit n m l u = turns_unit n m l (IsBody n) (body_text deep m) (moves_body n m l) u
+pub turns_a_unit : (n m : ℕ) → n ≤ m → (u : UnitTree) → Turns (ReadsUnit (ReadsBody n) u) (unit_of m)
+turns_a_unit n m l u = turns_unit n m l (ReadsBody n) (body_tokens deep m) (moves_body n m l) u
 
 pub turns_members : (n m : ℕ) → n ≤ m → (ms : List Member)
-    → Turns (groups (IsMember n (IsBody n)) ms) (many (member_text m))
-turns_members n m l ms = turns_groups (turns_member n m l (IsBody n) (body_text deep m) (moves_body n m l)) ms
+    → Turns (groups (ReadsMember n (ReadsBody n)) ms) (many (member_tokens m))
+turns_members n m l ms = turns_groups (turns_member n m l (ReadsBody n) (body_tokens deep m) (moves_body n m l)) ms
 
 pub moves_laters : (n m : ℕ) → n ≤ m → (ms : List Member)
-    → Moves (groups (IsLater n (IsBody n)) ms) (many (section_of m ∣ keyed_of m))
-moves_laters n m l ms = moves_groups (moves_later n m l (IsBody n) (body_text deep m) (moves_body n m l)) ms
+    → Moves (groups (ReadsLater n (ReadsBody n)) ms) (many (section_of m ∣ keyed_of m))
+moves_laters n m l ms = moves_groups (moves_later n m l (ReadsBody n) (body_tokens deep m) (moves_body n m l)) ms
 
 -- Texts to come
 
-pub some_body : (m : ℕ) → Begins (body_text deep m) []
+pub some_body : (m : ℕ) → Begins (body_tokens deep m) []
 some_body zero = begins_map begins_nothing (λ next ts h. inl h)
 some_body (suc m) = begins_then begins_no_more begins_maybe
 
@@ -177,24 +183,24 @@ some_unit m = begins_then (begins_token Name) (begins_then (some_body m) (begins
 pub some_as : Begins (between (Reserved AS) (Sign SEMICOLON) (token Name)) []
 some_as = begins_then (begins_token (Reserved AS)) (begins_then (begins_token Name) (begins_token (Sign SEMICOLON)))
 
-pub some_alias : Begins alias_text []
+pub some_alias : Begins alias_tokens []
 some_alias = begins_then some_path some_as
 
-pub some_equals : (m : ℕ) → Begins (between (Sign EQUALS) (Sign SEMICOLON) (expr_text deep m)) []
+pub some_equals : (m : ℕ) → Begins (between (Sign EQUALS) (Sign SEMICOLON) (expr_tokens deep m)) []
 some_equals m = begins_then (begins_token (Sign EQUALS)) (begins_then (some_expr m) (begins_token (Sign SEMICOLON)))
 
-pub some_value : (m : ℕ) → Begins (value_text m) []
+pub some_value : (m : ℕ) → Begins (value_tokens m) []
 some_value m = begins_then (begins_one {test = is_type} Name refl) (begins_then (begins_token Name) (some_equals m))
 
 pub some_keyed : (m : ℕ) → Begins (keyed_of m) []
 some_keyed m = begins_map (begins_then (begins_token (Reserved EXTENDS))
     (begins_then (begins_token Name) (begins_token (Sign SEMICOLON)))) (λ next ts h. text.extends h)
 
-pub some_single : (m : ℕ) → Begins (single_text m) []
+pub some_single : (m : ℕ) → Begins (single_tokens m) []
 some_single m = begins_map (begins_then (begins_token (Reserved EXTENDS))
     (begins_then (begins_token Name) (begins_token (Sign SEMICOLON)))) (λ next ts h. inl h)
 
-pub some_member : (m : ℕ) → Begins (member_text m) []
+pub some_member : (m : ℕ) → Begins (member_tokens m) []
 some_member m = begins_map (some_keyed m) (λ next ts h. inl h)
 
 -- Texts of which the first token was passed
@@ -277,19 +283,19 @@ name_from (Sign s) h = absurd (cc)
 name_from (Reserved w) h = absurd (cc)
 name_from End h = absurd (cc)
 
-member_at : (m : ℕ) (t : Lexeme) → begins_member t.kind ≡ true → Begins (member_text m) (t ∷ [])
+member_at : (m : ℕ) (t : Lexeme) → begins_member t.kind ≡ true → Begins (member_tokens m) (t ∷ [])
 member_at m t h = by_either (or_cases (is_name t.kind) (begins_keyed t.kind) h)
   where
-    by_either : (is_name t.kind ≡ true) ⊎ (begins_keyed t.kind ≡ true) → Begins (member_text m) (t ∷ [])
+    by_either : (is_name t.kind ≡ true) ⊎ (begins_keyed t.kind ≡ true) → Begins (member_tokens m) (t ∷ [])
     by_either (inl q) = begins_map (begins_then (begins_here t Name (name_from t.kind q)) (some_declared_rest m))
         (λ next ts h. inr h)
     by_either (inr q) = begins_map (keyed_at m t q) (λ next ts h. inl h)
 
-pub body_at : (m : ℕ) (t : Lexeme) → begins_body t.kind ≡ true → Begins (body_text deep (suc m)) (t ∷ [])
+pub body_at : (m : ℕ) (t : Lexeme) → begins_body t.kind ≡ true → Begins (body_tokens deep (suc m)) (t ∷ [])
 body_at m t h = by_either (or_cases (begins_section t.kind) (begins_member t.kind) h)
   where
     by_either : (begins_section t.kind ≡ true) ⊎ (begins_member t.kind ≡ true)
-        → Begins (body_text deep (suc m)) (t ∷ [])
+        → Begins (body_tokens deep (suc m)) (t ∷ [])
     by_either (inl q) = begins_after (λ next. ([], refl))
         (begins_map (begins_then (section_at m t q) begins_no_more) (λ next ts h. inr h))
     by_either (inr q) = begins_then (begins_some (member_at m t q)) begins_maybe

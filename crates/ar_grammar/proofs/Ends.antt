@@ -2,16 +2,16 @@
 use Rattle.std.proofs.Common.{◌≡◌, ℕ, suc, ◌-◌, ◌+◌, [], ◌∷◌, ◌++◌, length, get_or, refl, ap, ◌∙◌, arith}
 use Rattle.std.proofs.lemmas.List.{length-append}
 use Rattle.ar_grammar.specs.declared.lexeme.Lexeme.{Lexeme}
-use Rattle.ar_grammar.specs.Words.{Tokens, end_of}
+use Rattle.ar_grammar.specs.Words.{Tokens, end_of_tokens}
 
 -- the last of the tokens before `rest` ends them
 pub end_of_last : (ts rest : Tokens) (t d : Lexeme)
-    → (get_or ((t ∷ ts) ++ rest) (length ts) d).span.to ≡ end_of t.span.to ts
+    → (get_or ((t ∷ ts) ++ rest) (length ts) d).span.to ≡ end_of_tokens t.span.to ts
 end_of_last [] rest t d = refl
 end_of_last (u ∷ ts) rest t d = end_of_last ts rest u d
 
 pub last_end : (d t : Lexeme) (ts start rest : Tokens) (n : ℕ) → start ≡ (t ∷ ts) ++ rest
-    → n ≡ length start - length rest - 1 → (get_or start n d).span.to ≡ end_of t.span.to ts
+    → n ≡ length start - length rest - 1 → (get_or start n d).span.to ≡ end_of_tokens t.span.to ts
 last_end d t ts start rest n e k =
     let s : length start ≡ suc (length (ts ++ rest)) = ap length e in
     let j : length (ts ++ rest) ≡ length ts + length rest = length-append ts rest in

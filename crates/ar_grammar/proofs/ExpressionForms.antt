@@ -14,9 +14,9 @@ use Rattle.ar_syntax.specs.declared.expressions.RawForm.{RawForm}
 use Rattle.ar_syntax.specs.declared.expressions.RawForm.TheVariants as form
 use Rattle.ar_grammar.specs.declared.lexeme.Lexeme.{Lexeme}
 use Rattle.ar_base.specs.Numbers.{NameId}
-use Rattle.ar_grammar.specs.Words.{Form, Tokens, kind_or, token, ◌▸◌, separated, StandsAt, Covers}
-use Rattle.ar_grammar.specs.Paths.{IsName, IsStart, IsPath}
-use Rattle.ar_grammar.specs.Expressions.{Node, OneOrMore, one, more, IsProduct, AreTerms, IsSum, IsCompare, two, negated, plain, IsAnd, IsOr, choice, IsPrimary, truth, falsehood, whole, real, path, brackets, least, greatest, count, switch, IsExpr, IsNot, IsMinus}
+use Rattle.ar_grammar.specs.Words.{Form, Tokens, kind_or, token, ◌▸◌, separated_by, StandsAt, IsSpanOf}
+use Rattle.ar_grammar.specs.Paths.{ReadsName, ReadsStart, ReadsPath}
+use Rattle.ar_grammar.specs.Expressions.{Node, OneOrMore, one, more, ReadsProduct, ReadsTerms, ReadsSum, ReadsCompare, two, negated, plain, ReadsAnd, ReadsOr, choice, ReadsPrimary, truth, falsehood, whole, real, path, brackets, least, greatest, count, switch, ReadsExpr, ReadsNot, ReadsMinus}
 use Rattle.ar_grammar.specs.Results.{kind_at, Spans, is_sign, is_word, begins_primary, begins_minus, begins_not, begins_expr}
 use Rattle.ar_grammar.proofs.Finding.{kind_join, token_kind, then_kind}
 
@@ -87,7 +87,7 @@ node_some Is e next (t ∷ ts) h z = absurd (cc)
 pub record Places (e : RawExpr) (f : RawForm) (old new : Tokens) : Type 0 where
   pub form : e.form ≡ f
   pub there : (t : Lexeme) (ts : Tokens) → old ≡ (t ∷ ts) ++ new → StandsAt e.at (t ∷ ts)
-  pub span : (ts : Tokens) → old ≡ ts ++ new → Covers e.span ts
+  pub span : (ts : Tokens) → old ≡ ts ++ new → IsSpanOf e.span ts
 
 pub node_made : (A : Form) (Is : RawForm → Form) (e : RawExpr) (f : RawForm) {old new : Tokens} → Places e f old new
     → Spans A old new → ((next : TokenKind) (ts : Tokens) → A next ts → ts ≡ [] → ⊥)
@@ -136,26 +136,26 @@ word_from n End h = absurd (cc)
 
 -- a path begins with a name, `owner` or `main`
 pub path_first : (test : TokenKind → Bool) → test Name ≡ true → test (Reserved OWNER) ≡ true
-    → test (Reserved MAIN) ≡ true → (p : Path) (next : TokenKind) (ts : Tokens) → IsPath p next ts
+    → test (Reserved MAIN) ≡ true → (p : Path) (next : TokenKind) (ts : Tokens) → ReadsPath p next ts
     → test (kind_or next ts) ≡ true
 path_first test name owner main p next ts h =
     ap test (ap (kind_or next) h.form.split ∙ kind_join h.form.front h.form.back next)
     ∙ by_start p.start (kind_or next h.form.back) h.form.front h.form.first
     (names p.names.items next h.form.back h.form.second)
   where
-    names : (ids : List NameId) (next : TokenKind) (ts : Tokens) → separated (Sign DOT) IsName ids next ts
+    names : (ids : List NameId) (next : TokenKind) (ts : Tokens) → separated_by (Sign DOT) ReadsName ids next ts
         → kind_or next ts ≡ Name
     names [] next ts h = elim h [ ]
     names (x ∷ xs) next ts h = ap (kind_or next) (h.split ∙ ap (λ (t : Tokens). t ++ h.back) h.first.alone)
         ∙ h.first.of_kind
 
-    by_start : (start : PathStart) (next : TokenKind) (ts : Tokens) → IsStart start next ts → next ≡ Name
+    by_start : (start : PathStart) (next : TokenKind) (ts : Tokens) → ReadsStart start next ts → next ≡ Name
         → test (kind_or next ts) ≡ true
     by_start Here next ts h k = ap test (ap (kind_or next) h ∙ k) ∙ name
     by_start Owner next ts h k = ap test (then_kind h) ∙ owner
     by_start Main next ts h k = ap test (then_kind h) ∙ main
 
-pub primary_first : (Expr : RawForm → Form) (f : RawForm) (next : TokenKind) (ts : Tokens) → IsPrimary Expr f next ts
+pub primary_first : (Expr : RawForm → Form) (f : RawForm) (next : TokenKind) (ts : Tokens) → ReadsPrimary Expr f next ts
     → begins_primary (kind_or next ts) ≡ true
 primary_first Expr f next ts (truth e h) = ap begins_primary (token_kind h)
 primary_first Expr f next ts (falsehood e h) = ap begins_primary (token_kind h)
@@ -168,12 +168,13 @@ primary_first Expr f next ts (greatest v e h) = ap begins_primary (then_kind h)
 primary_first Expr f next ts (count v e h) = ap begins_primary (then_kind h)
 primary_first Expr f next ts (switch h) = ap begins_primary (then_kind h.reads)
 
-pub minus_first : (n : ℕ) (f : RawForm) (next : TokenKind) (ts : Tokens) → IsMinus n f next ts
+pub minus_first : (n : ℕ) (f : RawForm) (next : TokenKind) (ts : Tokens) → ReadsMinus n f next ts
     → begins_minus (kind_or next ts) ≡ true
 minus_first zero f next ts h = elim h [ ]
 minus_first (suc n) f next ts (negated x e h) = ap begins_minus (then_kind h)
 minus_first (suc n) f next ts (plain h) =
-    or_right (is_sign MINUS (kind_or next ts)) (begins_primary (kind_or next ts)) (primary_first (IsExpr n) f next ts h)
+    or_right (is_sign MINUS (kind_or next ts)) (begins_primary (kind_or next ts))
+    (primary_first (ReadsExpr n) f next ts h)
 
 pub node_first : (test : TokenKind → Bool) (Is : RawForm → Form)
     → ((f : RawForm) (next : TokenKind) (ts : Tokens) → Is f next ts → test (kind_or next ts) ≡ true)
@@ -187,42 +188,42 @@ pub chain_first : (test : TokenKind → Bool) (make : Vec RawExpr Global → Raw
 chain_first test make separator Is first f next ts (one h) = first f next ts h
 chain_first test make separator Is first f next ts (more v e several h) = by_items v.items h
   where
-    by_items : (xs : List RawExpr) → separated separator (Node Is) xs next ts → test (kind_or next ts) ≡ true
+    by_items : (xs : List RawExpr) → separated_by separator (Node Is) xs next ts → test (kind_or next ts) ≡ true
     by_items [] h = elim h [ ]
     by_items (x ∷ xs) h = then_first test h (node_first test Is first x)
 
-pub sum_first : (n : ℕ) (f : RawForm) (next : TokenKind) (ts : Tokens) → IsSum (IsProduct (IsMinus n)) f next ts
-    → begins_minus (kind_or next ts) ≡ true
-sum_first n f next ts (one h) = chain_first begins_minus form.Product (Sign STAR) (IsMinus n) (minus_first n) f next ts
-    h
+pub sum_first : (n : ℕ) (f : RawForm) (next : TokenKind) (ts : Tokens) → ReadsSum (ReadsProduct (ReadsMinus n)) f next
+    ts → begins_minus (kind_or next ts) ≡ true
+sum_first n f next ts (one h) = chain_first begins_minus form.Product (Sign STAR) (ReadsMinus n) (minus_first n) f next
+    ts h
 sum_first n f next ts (more v e several h) = by_items v.items h
   where
-    by_items : (xs : List (Bool × RawExpr)) → AreTerms (IsProduct (IsMinus n)) xs next ts
+    by_items : (xs : List (Bool × RawExpr)) → ReadsTerms (ReadsProduct (ReadsMinus n)) xs next ts
         → begins_minus (kind_or next ts) ≡ true
     by_items [] h = elim h [ ]
     by_items ((plus, x) ∷ xs) h = then_first begins_minus h.1
-        (node_first begins_minus (IsProduct (IsMinus n))
-        (chain_first begins_minus form.Product (Sign STAR) (IsMinus n) (minus_first n)) x)
+        (node_first begins_minus (ReadsProduct (ReadsMinus n))
+        (chain_first begins_minus form.Product (Sign STAR) (ReadsMinus n) (minus_first n)) x)
 
 pub compare_first : (n : ℕ) (f : RawForm) (next : TokenKind) (ts : Tokens)
-    → IsCompare (IsSum (IsProduct (IsMinus n))) f next ts → begins_minus (kind_or next ts) ≡ true
+    → ReadsCompare (ReadsSum (ReadsProduct (ReadsMinus n))) f next ts → begins_minus (kind_or next ts) ≡ true
 compare_first n f next ts (one h) = sum_first n f next ts h
 compare_first n f next ts (two r x y e h) =
-    then_first begins_minus h (node_first begins_minus (IsSum (IsProduct (IsMinus n))) (sum_first n) x.value)
+    then_first begins_minus h (node_first begins_minus (ReadsSum (ReadsProduct (ReadsMinus n))) (sum_first n) x.value)
 
-pub not_first : (n : ℕ) (f : RawForm) (next : TokenKind) (ts : Tokens) → IsNot n f next ts
+pub not_first : (n : ℕ) (f : RawForm) (next : TokenKind) (ts : Tokens) → ReadsNot n f next ts
     → begins_not (kind_or next ts) ≡ true
 not_first zero f next ts h = elim h [ ]
 not_first (suc n) f next ts (negated x e h) = ap begins_not (then_kind h)
 not_first (suc n) f next ts (plain h) =
     or_right (is_word NOT (kind_or next ts)) (begins_minus (kind_or next ts)) (compare_first n f next ts h)
 
-pub or_first : (n : ℕ) (f : RawForm) (next : TokenKind) (ts : Tokens) → IsOr (IsNot n) f next ts
+pub or_first : (n : ℕ) (f : RawForm) (next : TokenKind) (ts : Tokens) → ReadsOr (ReadsNot n) f next ts
     → begins_not (kind_or next ts) ≡ true
-or_first n = chain_first begins_not form.Any (Reserved OR) (IsAnd (IsNot n))
-    (chain_first begins_not form.All (Reserved AND) (IsNot n) (not_first n))
+or_first n = chain_first begins_not form.Any (Reserved OR) (ReadsAnd (ReadsNot n))
+    (chain_first begins_not form.All (Reserved AND) (ReadsNot n) (not_first n))
 
-pub expr_first : (n : ℕ) (f : RawForm) (next : TokenKind) (ts : Tokens) → IsExpr n f next ts
+pub expr_first : (n : ℕ) (f : RawForm) (next : TokenKind) (ts : Tokens) → ReadsExpr n f next ts
     → begins_expr (kind_or next ts) ≡ true
 expr_first zero f next ts h = elim h [ ]
 expr_first (suc n) f next ts (choice h) = then_first begins_expr h.reads (λ next ts g. ap begins_expr (then_kind g))

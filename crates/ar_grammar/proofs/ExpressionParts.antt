@@ -14,8 +14,8 @@ use Rattle.ar_syntax.specs.declared.expressions.RawRelation.{RawRelation}
 use Rattle.ar_syntax.specs.declared.expressions.RawRelation.TheVariants as relation
 use Rattle.ar_grammar.specs.declared.terms.Chain.{Chain}
 use Rattle.ar_grammar.specs.declared.terms.Chain.TheVariants.{Any, All, Product}
-use Rattle.ar_grammar.specs.Words.{Tokens, token, ◌▸◌, between, each, separated}
-use Rattle.ar_grammar.specs.Expressions.{Node, one, more, IsProduct, IsTerm, AreTerms, IsSum, IsCompare, two, sign_of, negated, plain, IsIf, choice, IsPrimary, IsExpr, IsNot, IsMinus}
+use Rattle.ar_grammar.specs.Words.{Tokens, token, ◌▸◌, between, each, separated_by}
+use Rattle.ar_grammar.specs.Expressions.{Node, one, more, ReadsProduct, ReadsTerm, ReadsTerms, ReadsSum, ReadsCompare, two, sign_of, negated, plain, ReadsIf, choice, ReadsPrimary, ReadsExpr, ReadsNot, ReadsMinus}
 use Rattle.ar_grammar.specs.Chains.{separator_of, chain_of, operand_form, chain_form, ends_operand, ends_chain, IsComparison, IsOneCase}
 use Rattle.ar_grammar.specs.Results.{kind_at, Spans, Eats, begins_term, is_relation, ends_path, ends_product, ends_sum, ends_not, ends_and}
 use Rattle.ar_grammar.proofs.Finding.{spans_then}
@@ -24,17 +24,17 @@ use Rattle.ar_grammar.proofs.ExpressionForms.{then_some, token_some, node_some, 
 -- Expr
 
 pub expr_choice_in : (n : ℕ) (e : RawExpr) (next : TokenKind) (ts : Tokens) → n ≢ 0
-    → Node (IsIf (IsExpr (n - 1))) e next ts → Node (IsExpr n) e next ts
+    → Node (ReadsIf (ReadsExpr (n - 1))) e next ts → Node (ReadsExpr n) e next ts
 expr_choice_in zero e next ts some h = absurd (some refl)
 expr_choice_in (suc n) e next ts some h =
     record {
       there = h.there;
       span_is = h.span_is;
-      form = choice (subst (λ (m : ℕ). IsIf (IsExpr m) e.form next ts) (sub-one (suc n)) h.form);
+      form = choice (subst (λ (m : ℕ). ReadsIf (ReadsExpr m) e.form next ts) (sub-one (suc n)) h.form);
     }
 
 pub expr_plain_in : (n : ℕ) (e : RawExpr) (next : TokenKind) (ts : Tokens) → n ≢ 0
-    → Node (chain_form Any (n - 1)) e next ts → Node (IsExpr n) e next ts
+    → Node (chain_form Any (n - 1)) e next ts → Node (ReadsExpr n) e next ts
 expr_plain_in zero e next ts some h = absurd (some refl)
 expr_plain_in (suc n) e next ts some h =
     record {
@@ -47,12 +47,12 @@ expr_plain_in (suc n) e next ts some h =
 
 pub if_made : (n : ℕ) (test value other : RawExpr) (f : RawForm) (e : RawExpr) {old mid rest last new : Tokens}
     → IsOneCase test value other f → Places e f old new →
-    Spans (between (Reserved IF) (Reserved THEN) (Node (IsExpr n) test)) old mid
-    → Spans (Node (IsExpr n) value) mid rest → Spans (token (Reserved ELSE)) rest last
-    → Spans (Node (IsExpr n) other) last new → Spans (Node (IsIf (IsExpr n)) e) old new
+    Spans (between (Reserved IF) (Reserved THEN) (Node (ReadsExpr n) test)) old mid
+    → Spans (Node (ReadsExpr n) value) mid rest → Spans (token (Reserved ELSE)) rest last
+    → Spans (Node (ReadsExpr n) other) last new → Spans (Node (ReadsIf (ReadsExpr n)) e) old new
 if_made n test value other f e c p a b t d =
-    node_made (between (Reserved IF) (Reserved THEN) (Node (IsExpr n) test) ▸ Node (IsExpr n) value ▸ token
-    (Reserved ELSE) ▸ Node (IsExpr n) other) (IsIf (IsExpr n)) e f p
+    node_made (between (Reserved IF) (Reserved THEN) (Node (ReadsExpr n) test) ▸ Node (ReadsExpr n) value ▸ token
+    (Reserved ELSE) ▸ Node (ReadsExpr n) other) (ReadsIf (ReadsExpr n)) e f p
     (spans_then a (spans_then b (spans_then t d)))
     (λ next ts h. then_some h (λ next ts g. then_some g (token_some (Reserved IF))))
     (λ next ts h. record {
@@ -62,8 +62,8 @@ if_made n test value other f e c p a b t d =
       value = value;
       is = c.is;
       one = c.one;
-      reads = subst (λ (x : RawExpr). (between (Reserved IF) (Reserved THEN) (Node (IsExpr n) test) ▸ Node (IsExpr n)
-          value ▸ token (Reserved ELSE) ▸ Node (IsExpr n) x) next ts) (sym c.other_is) h;
+      reads = subst (λ (x : RawExpr). (between (Reserved IF) (Reserved THEN) (Node (ReadsExpr n) test) ▸ Node (ReadsExpr
+          n) value ▸ token (Reserved ELSE) ▸ Node (ReadsExpr n) x) next ts) (sym c.other_is) h;
     })
 
 -- x { separator x }
@@ -98,7 +98,7 @@ chain_made c n first rest v e {old} {mid} {new} items p a b at over =
     (chain_form c n) e (chain_of c v) p (spans_then a b)
     (λ next ts h. then_some h (node_some (operand_form c n) first))
     (λ next ts h. more v refl (subst (λ (xs : List RawExpr). 2 ≤ length xs) (sym items) (some_more rest (none rest b)))
-    (subst (λ (xs : List RawExpr). separated (separator_of c) (Node (operand_form c n)) xs next ts) (sym items) h))
+    (subst (λ (xs : List RawExpr). separated_by (separator_of c) (Node (operand_form c n)) xs next ts) (sym items) h))
   where
     none : (rest : List RawExpr) → Spans (each (λ x. token (separator_of c) ▸ Node (operand_form c n) x) rest) mid new
         → rest ≡ [] → ⊥
@@ -108,26 +108,26 @@ chain_made c n first rest v e {old} {mid} {new} items p a b at over =
 -- Not
 
 pub not_plain_in : (n : ℕ) (e : RawExpr) (next : TokenKind) (ts : Tokens) → n ≢ 0
-    → Node (IsCompare (IsSum (IsProduct (IsMinus (n - 1))))) e next ts → Node (IsNot n) e next ts
+    → Node (ReadsCompare (ReadsSum (ReadsProduct (ReadsMinus (n - 1))))) e next ts → Node (ReadsNot n) e next ts
 not_plain_in zero e next ts some h = absurd (some refl)
 not_plain_in (suc n) e next ts some h =
     record {
       there = h.there;
       span_is = h.span_is;
-      form = plain (subst (λ (m : ℕ). IsCompare (IsSum (IsProduct (IsMinus m))) e.form next ts) (sub-one (suc n))
-          h.form);
+      form = plain (subst (λ (m : ℕ). ReadsCompare (ReadsSum (ReadsProduct (ReadsMinus m))) e.form next ts) (sub-one
+          (suc n)) h.form);
     }
 
 pub not_made : (n : ℕ) (x : Box RawExpr Global) (operand : RawExpr) (e : RawExpr) {old mid new : Tokens} → n ≢ 0
     → x.value ≡ operand → Places e (form.Not x) old new → Spans (token (Reserved NOT)) old mid
-    → Spans (Node (IsNot (n - 1)) operand) mid new → Spans (Node (IsNot n) e) old new
+    → Spans (Node (ReadsNot (n - 1)) operand) mid new → Spans (Node (ReadsNot n) e) old new
 not_made zero x operand e some same p a b = absurd (some refl)
 not_made (suc n) x operand e some same p a b =
-    node_made (token (Reserved NOT) ▸ Node (IsNot (suc n - 1)) operand) (IsNot (suc n)) e (form.Not x) p
+    node_made (token (Reserved NOT) ▸ Node (ReadsNot (suc n - 1)) operand) (ReadsNot (suc n)) e (form.Not x) p
     (spans_then a b)
     (λ next ts h. then_some h (token_some (Reserved NOT)))
-    (λ next ts h. negated x refl (subst (λ (m : ℕ). (token (Reserved NOT) ▸ Node (IsNot m) x.value) next ts)
-    (sub-one (suc n)) (subst (λ (y : RawExpr). (token (Reserved NOT) ▸ Node (IsNot (suc n - 1)) y) next ts)
+    (λ next ts h. negated x refl (subst (λ (m : ℕ). (token (Reserved NOT) ▸ Node (ReadsNot m) x.value) next ts)
+    (sub-one (suc n)) (subst (λ (y : RawExpr). (token (Reserved NOT) ▸ Node (ReadsNot (suc n - 1)) y) next ts)
     (sym same) h)))
 
 -- Compare
@@ -159,18 +159,19 @@ relation_open relation.AtLeast = refl
 
 pub compare_made : (n : ℕ) (r : RawRelation) (first second : RawExpr) (f : RawForm) (e : RawExpr)
     {old mid rest new : Tokens} → IsComparison r first second f → Places e f old new →
-    Spans (Node (IsSum (IsProduct (IsMinus n))) first) old mid → Spans (token (Sign (sign_of r))) mid rest
-    → Spans (Node (IsSum (IsProduct (IsMinus n))) second) rest new
-    → Spans (Node (IsCompare (IsSum (IsProduct (IsMinus n)))) e) old new
+    Spans (Node (ReadsSum (ReadsProduct (ReadsMinus n))) first) old mid → Spans (token (Sign (sign_of r))) mid rest
+    → Spans (Node (ReadsSum (ReadsProduct (ReadsMinus n))) second) rest new
+    → Spans (Node (ReadsCompare (ReadsSum (ReadsProduct (ReadsMinus n)))) e) old new
 compare_made n r first second f e c p a t b =
-    node_made (Node (IsSum (IsProduct (IsMinus n))) first ▸ token (Sign (sign_of r)) ▸ Node
-    (IsSum (IsProduct (IsMinus n))) second) (IsCompare (IsSum (IsProduct (IsMinus n)))) e f p
-    (spans_then a (spans_then t b)) (λ next ts h. then_some h (node_some (IsSum (IsProduct (IsMinus n))) first))
+    node_made (Node (ReadsSum (ReadsProduct (ReadsMinus n))) first ▸ token (Sign (sign_of r)) ▸ Node
+    (ReadsSum (ReadsProduct (ReadsMinus n))) second) (ReadsCompare (ReadsSum (ReadsProduct (ReadsMinus n)))) e f p
+    (spans_then a (spans_then t b))
+    (λ next ts h. then_some h (node_some (ReadsSum (ReadsProduct (ReadsMinus n))) first))
     (λ next ts h. two r c.x c.y c.is
-    (subst (λ (x : RawExpr). (Node (IsSum (IsProduct (IsMinus n))) x ▸ token (Sign (sign_of r)) ▸ Node
-    (IsSum (IsProduct (IsMinus n))) c.y.value) next ts) (sym c.x_is)
-    (subst (λ (y : RawExpr). (Node (IsSum (IsProduct (IsMinus n))) first ▸ token (Sign (sign_of r)) ▸ Node
-    (IsSum (IsProduct (IsMinus n))) y) next ts) (sym c.y_is) h)))
+    (subst (λ (x : RawExpr). (Node (ReadsSum (ReadsProduct (ReadsMinus n))) x ▸ token (Sign (sign_of r)) ▸ Node
+    (ReadsSum (ReadsProduct (ReadsMinus n))) c.y.value) next ts) (sym c.x_is)
+    (subst (λ (y : RawExpr). (Node (ReadsSum (ReadsProduct (ReadsMinus n))) first ▸ token (Sign (sign_of r)) ▸ Node
+    (ReadsSum (ReadsProduct (ReadsMinus n))) y) next ts) (sym c.y_is) h)))
 
 -- Sum
 
@@ -187,48 +188,50 @@ term_open k h = by_tests (ends_product k) (begins_term k) h
     by_tests false q h = refl
 
 pub sum_one : (n : ℕ) (e : RawExpr) (next : TokenKind) (ts : Tokens) → Node (chain_form Product n) e next ts
-    → Node (IsSum (IsProduct (IsMinus n))) e next ts
+    → Node (ReadsSum (ReadsProduct (ReadsMinus n))) e next ts
 sum_one n e next ts h = record { there = h.there; span_is = h.span_is; form = one h.form }
 
 pub sum_made : (n : ℕ) (first : RawExpr) (rest : List (Bool × RawExpr)) (v : Vec (Bool × RawExpr) Global) (e : RawExpr)
     {old mid new : Tokens} → v.items ≡ (true, first) ∷ rest → Places e (form.Sum v) old new →
-    Spans (Node (chain_form Product n) first) old mid → Spans (each (IsTerm (IsProduct (IsMinus n))) rest) mid new
+    Spans (Node (chain_form Product n) first) old mid → Spans (each (ReadsTerm (ReadsProduct (ReadsMinus n))) rest) mid
+    new
     → begins_term (kind_at mid) ≡ true → begins_term (kind_at new) ≡ false
-    → Spans (Node (IsSum (IsProduct (IsMinus n))) e) old new
+    → Spans (Node (ReadsSum (ReadsProduct (ReadsMinus n))) e) old new
 sum_made n first rest v e {old} {mid} {new} items p a b at over =
-    node_made (Node (IsProduct (IsMinus n)) first ▸ each (IsTerm (IsProduct (IsMinus n))) rest)
-    (IsSum (IsProduct (IsMinus n))) e (form.Sum v) p (spans_then a b)
-    (λ next ts h. then_some h (node_some (IsProduct (IsMinus n)) first))
+    node_made (Node (ReadsProduct (ReadsMinus n)) first ▸ each (ReadsTerm (ReadsProduct (ReadsMinus n))) rest)
+    (ReadsSum (ReadsProduct (ReadsMinus n))) e (form.Sum v) p (spans_then a b)
+    (λ next ts h. then_some h (node_some (ReadsProduct (ReadsMinus n)) first))
     (λ next ts h. more v refl (subst (λ (xs : List (Bool × RawExpr)). 2 ≤ length xs) (sym items)
     (some_more rest (none rest b)))
-    (subst (λ (xs : List (Bool × RawExpr)). AreTerms (IsProduct (IsMinus n)) xs next ts) (sym items) (refl, h)))
+    (subst (λ (xs : List (Bool × RawExpr)). ReadsTerms (ReadsProduct (ReadsMinus n)) xs next ts) (sym items) (refl, h)))
   where
-    none : (rest : List (Bool × RawExpr)) → Spans (each (IsTerm (IsProduct (IsMinus n))) rest) mid new → rest ≡ [] → ⊥
+    none : (rest : List (Bool × RawExpr)) → Spans (each (ReadsTerm (ReadsProduct (ReadsMinus n))) rest) mid new
+        → rest ≡ [] → ⊥
     none [] s z = let q : true ≡ false = sym at ∙ ap begins_term (ap kind_at (s.split ∙ ap (λ (t : Tokens). t ++ new) s.form)) ∙ over in absurd (cc)
     none (x ∷ rest) s z = absurd (cc)
 
 -- Minus
 
 pub minus_plain_in : (n : ℕ) (e : RawExpr) (next : TokenKind) (ts : Tokens) → n ≢ 0
-    → Node (IsPrimary (IsExpr (n - 1))) e next ts → Node (IsMinus n) e next ts
+    → Node (ReadsPrimary (ReadsExpr (n - 1))) e next ts → Node (ReadsMinus n) e next ts
 minus_plain_in zero e next ts some h = absurd (some refl)
 minus_plain_in (suc n) e next ts some h =
     record {
       there = h.there;
       span_is = h.span_is;
-      form = plain (subst (λ (m : ℕ). IsPrimary (IsExpr m) e.form next ts) (sub-one (suc n)) h.form);
+      form = plain (subst (λ (m : ℕ). ReadsPrimary (ReadsExpr m) e.form next ts) (sub-one (suc n)) h.form);
     }
 
 pub minus_made : (n : ℕ) (x : Box RawExpr Global) (operand : RawExpr) (e : RawExpr) {old mid new : Tokens} → n ≢ 0
     → x.value ≡ operand → Places e (form.Minus x) old new → Spans (token (Sign MINUS)) old mid
-    → Spans (Node (IsMinus (n - 1)) operand) mid new → Spans (Node (IsMinus n) e) old new
+    → Spans (Node (ReadsMinus (n - 1)) operand) mid new → Spans (Node (ReadsMinus n) e) old new
 minus_made zero x operand e some same p a b = absurd (some refl)
 minus_made (suc n) x operand e some same p a b =
-    node_made (token (Sign MINUS) ▸ Node (IsMinus (suc n - 1)) operand) (IsMinus (suc n)) e (form.Minus x) p
+    node_made (token (Sign MINUS) ▸ Node (ReadsMinus (suc n - 1)) operand) (ReadsMinus (suc n)) e (form.Minus x) p
     (spans_then a b)
     (λ next ts h. then_some h (token_some (Sign MINUS)))
-    (λ next ts h. negated x refl (subst (λ (m : ℕ). (token (Sign MINUS) ▸ Node (IsMinus m) x.value) next ts)
-    (sub-one (suc n)) (subst (λ (y : RawExpr). (token (Sign MINUS) ▸ Node (IsMinus (suc n - 1)) y) next ts)
+    (λ next ts h. negated x refl (subst (λ (m : ℕ). (token (Sign MINUS) ▸ Node (ReadsMinus m) x.value) next ts)
+    (sub-one (suc n)) (subst (λ (y : RawExpr). (token (Sign MINUS) ▸ Node (ReadsMinus (suc n - 1)) y) next ts)
     (sym same) h)))
 
 -- Terms
@@ -243,5 +246,6 @@ term_eats true p m = p refl
 term_eats false p m = m refl
 
 pub compare_one : (n : ℕ) (e : RawExpr) (next : TokenKind) (ts : Tokens)
-    → Node (IsSum (IsProduct (IsMinus n))) e next ts → Node (IsCompare (IsSum (IsProduct (IsMinus n)))) e next ts
+    → Node (ReadsSum (ReadsProduct (ReadsMinus n))) e next ts
+    → Node (ReadsCompare (ReadsSum (ReadsProduct (ReadsMinus n)))) e next ts
 compare_one n e next ts h = record { there = h.there; span_is = h.span_is; form = one h.form }

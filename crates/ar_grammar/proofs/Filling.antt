@@ -6,9 +6,9 @@ use Rattle.ar_lexer.specs.declared.token.TokenKind.TheVariants.{Sign, Reserved, 
 use Rattle.ar_lexer.specs.declared.signs.TheConstants.{OPEN_PARENTHESIS, CLOSE_PARENTHESIS, SEMICOLON}
 use Rattle.ar_lexer.specs.declared.words.TheConstants.{ASSERTION, ELSE, SKIP, TRUE}
 use Rattle.ar_grammar.specs.declared.lexeme.Lexeme.{Lexeme}
-use Rattle.ar_grammar.specs.Words.{Form, Tokens, kind_or, token, no_kind, deep, never, nothing, not_before, ◌▸◌, ◌∣◌, between, each, many, Has}
-use Rattle.ar_grammar.specs.Paths.{IsStart}
-use Rattle.ar_grammar.specs.Texts.{one_of, list_of, maybe, names_text, path_text, plus_text, product_text, sum_text, relation_text, compare_text, and_text, or_text, if_text, case_form, switch_text, operands_text, primary_text, expr_text, not_text, minus_text, simple_text, else_text, conditional_text, group_text, instr_of, instr_text, is_type, is_target_word, setting_text, settings_text, is_unread, is_kept, bracketed_text, kept_text, declared_rest, valued_text, is_part, transition_text, section_text, unit_text, keyed_text, body_of, body_text, bound_text, whole_text, domain_text, item_text, model_text, Viable, FitsNesting, begins_constant}
+use Rattle.ar_grammar.specs.Words.{Form, Tokens, kind_or, token, no_kind, deep, never, nothing, not_before, ◌▸◌, ◌∣◌, between, each, many, ReadsSome}
+use Rattle.ar_grammar.specs.Paths.{ReadsStart}
+use Rattle.ar_grammar.specs.Texts.{one_of, list_of, maybe, names_tokens, path_tokens, plus_tokens, product_tokens, sum_tokens, relation_tokens, compare_tokens, and_tokens, or_tokens, if_tokens, case_made_of, switch_tokens, operands_tokens, primary_tokens, expr_tokens, not_tokens, minus_tokens, simple_tokens, else_tokens, conditional_tokens, group_tokens, instr_of, instr_tokens, is_type, is_target_word, setting_tokens, settings_tokens, is_unread, is_kept, bracketed_tokens, kept_tokens, declared_rest, valued_tokens, is_part, transition_tokens, section_tokens, unit_tokens, keyed_tokens, body_made_of, body_tokens, bound_tokens, whole_tokens, domain_tokens, item_tokens, model_tokens, Viable, FitsNesting, begins_constant}
 use Rattle.ar_grammar.specs.Texts as text
 use Rattle.ar_grammar.specs.Results.{Plain, is_word, is_sign}
 use Rattle.ar_grammar.proofs.Finding.{apart}
@@ -132,17 +132,17 @@ pub fills_between : {opens closes : TokenKind} {A B : Form} → Fills A B
     → Fills (between opens closes A) (between opens closes B)
 fills_between f = fills_then fills_token (fills_then f fills_token)
 
-fills_start : Fills (Has IsStart) (Has IsStart)
+fills_start : Fills (ReadsSome ReadsStart) (ReadsSome ReadsStart)
 fills_start = fills_turn (λ next next' ts h. turns_start h.0 next next' ts h.1)
 
-fills_path : Fills path_text path_text
+fills_path : Fills path_tokens path_tokens
 fills_path = fills_then fills_start (fills_list fills_token)
 
-fills_names : Fills names_text names_text
+fills_names : Fills names_tokens names_tokens
 fills_names = fills_list fills_token
 
 fills_has : {X : Type 0} {kind : X → TokenKind}
-    → Fills (Has (λ (x : X). token (kind x))) (Has (λ (x : X). token (kind x)))
+    → Fills (ReadsSome (λ (x : X). token (kind x))) (ReadsSome (λ (x : X). token (kind x)))
 fills_has = fills_turn (λ next next' ts h. (h.0, turns_token next next' ts h.1))
 
 fills_not_before : Fills (not_before (Reserved ELSE)) (not_before (Reserved ELSE))
@@ -157,18 +157,18 @@ up k zero = k
 up k (suc n) = suc (up k n)
 
 pub record Cuts (cut cut' : Form) (k : ℕ) : Type 0 where
-  pub expr : Fills cut (expr_text cut' k)
-  pub not : Fills cut (not_text cut' k)
-  pub minus : Fills cut (minus_text cut' k)
-  pub instr : Fills cut (instr_text cut' k)
-  pub bracketed : Fills cut (bracketed_text cut' k)
-  pub body : Fills (nothing ∣ cut) (body_text cut' k)
+  pub expr : Fills cut (expr_tokens cut' k)
+  pub not : Fills cut (not_tokens cut' k)
+  pub minus : Fills cut (minus_tokens cut' k)
+  pub instr : Fills cut (instr_tokens cut' k)
+  pub bracketed : Fills cut (bracketed_tokens cut' k)
+  pub body : Fills (nothing ∣ cut) (body_tokens cut' k)
 
 module _ {E E' : Form} where
-  fills_case : Fills E E' → Fills (case_form E) (case_form E')
+  fills_case : Fills E E' → Fills (case_made_of E) (case_made_of E')
   fills_case f = fills_then (fills_between f) f
 
-  fills_primary : Fills E E' → Fills (primary_text E) (primary_text E')
+  fills_primary : Fills E E' → Fills (primary_tokens E) (primary_tokens E')
   fills_primary f next ts (text.constant h) = fills_map fills_one (λ next ts j. text.constant j) next ts h
   fills_primary f next ts (text.path h) = fills_map fills_path (λ next ts j. text.path j) next ts h
   fills_primary f next ts (text.brackets h) = fills_map (fills_between f) (λ next ts j. text.brackets j) next ts h
@@ -181,30 +181,31 @@ module _ {E E' : Form} where
       (fills_then (fills_case f) (fills_then (fills_many (fills_case f)) (fills_then fills_token (fills_between f))))))
       (λ next ts j. text.switch j) next ts h
 
-fills_sum : {M M' : Form} → Fills M M' → Fills (sum_text (product_text M)) (sum_text (product_text M'))
+fills_sum : {M M' : Form} → Fills M M' → Fills (sum_tokens (product_tokens M)) (sum_tokens (product_tokens M'))
 fills_sum f = fills_then (fills_list f) (fills_many (fills_then fills_has (fills_list f)))
 
 fills_compare : {M M' : Form} → Fills M M'
-    → Fills (compare_text (sum_text (product_text M))) (compare_text (sum_text (product_text M')))
+    → Fills (compare_tokens (sum_tokens (product_tokens M))) (compare_tokens (sum_tokens (product_tokens M')))
 fills_compare f = fills_then (fills_sum f) (fills_maybe (fills_then fills_has (fills_sum f)))
 
 module _ {cut cut' : Form} {k : ℕ} (c : Cuts cut cut' k) where
   mutual
-    expr_fill : (n : ℕ) (next : TokenKind) (ts : Tokens) → expr_text cut n next ts
-        → Fill (expr_text cut' (up k n)) next ts
+    expr_fill : (n : ℕ) (next : TokenKind) (ts : Tokens) → expr_tokens cut n next ts
+        → Fill (expr_tokens cut' (up k n)) next ts
     expr_fill zero next ts h = c.expr next ts h
     expr_fill (suc n) next ts h = fills_or
         (fills_then (fills_between (λ next ts j. expr_fill n next ts j))
         (fills_then (λ next ts j. expr_fill n next ts j) (fills_then fills_token (λ next ts j. expr_fill n next ts j))))
         (fills_list (fills_list (λ next ts j. not_fill n next ts j))) next ts h
 
-    not_fill : (n : ℕ) (next : TokenKind) (ts : Tokens) → not_text cut n next ts → Fill (not_text cut' (up k n)) next ts
+    not_fill : (n : ℕ) (next : TokenKind) (ts : Tokens) → not_tokens cut n next ts
+        → Fill (not_tokens cut' (up k n)) next ts
     not_fill zero next ts h = c.not next ts h
     not_fill (suc n) next ts h = fills_or (fills_then fills_token (λ next ts j. not_fill n next ts j))
         (fills_compare (λ next ts j. minus_fill n next ts j)) next ts h
 
-    minus_fill : (n : ℕ) (next : TokenKind) (ts : Tokens) → minus_text cut n next ts
-        → Fill (minus_text cut' (up k n)) next ts
+    minus_fill : (n : ℕ) (next : TokenKind) (ts : Tokens) → minus_tokens cut n next ts
+        → Fill (minus_tokens cut' (up k n)) next ts
     minus_fill zero next ts h = c.minus next ts h
     minus_fill (suc n) next ts h = fills_or (fills_then fills_token (λ next ts j. minus_fill n next ts j))
         (fills_primary (λ next ts j. expr_fill n next ts j)) next ts h
@@ -220,14 +221,14 @@ module _ {cut cut' : Form} {k : ℕ} (c : Cuts cut cut' k) where
       fills_map (fills_then (fills_between f) (fills_then g (fills_or fills_not_before (fills_then fills_token g))))
       (λ next ts j. text.conditional j) next ts h
 
-  instr_fill : (n : ℕ) (next : TokenKind) (ts : Tokens) → instr_text cut n next ts
-      → Fill (instr_text cut' (up k n)) next ts
+  instr_fill : (n : ℕ) (next : TokenKind) (ts : Tokens) → instr_tokens cut n next ts
+      → Fill (instr_tokens cut' (up k n)) next ts
   instr_fill zero next ts h = c.instr next ts h
   instr_fill (suc n) next ts h = fills_instr_of (λ next ts j. expr_fill n next ts j)
       (λ next ts j. instr_fill n next ts j) next ts h
 
-  bracketed_fill : (n : ℕ) (next : TokenKind) (ts : Tokens) → bracketed_text cut n next ts
-      → Fill (bracketed_text cut' (up k n)) next ts
+  bracketed_fill : (n : ℕ) (next : TokenKind) (ts : Tokens) → bracketed_tokens cut n next ts
+      → Fill (bracketed_tokens cut' (up k n)) next ts
   bracketed_fill zero next ts h = c.bracketed next ts h
   bracketed_fill (suc n) next ts h = fills_between
       (fills_many (fills_or fills_one (λ next ts j. bracketed_fill n next ts j))) next ts h
@@ -237,10 +238,10 @@ module _ {cut cut' : Form} {k : ℕ} (c : Cuts cut cut' k) where
       (fills_then (fills_maybe (fills_between
       (fills_list (fills_then (fills_list fills_one) (fills_then fills_token f))))) fills_token)
 
-  fills_valued : {E E' : Form} → Fills E E' → Fills (valued_text E) (valued_text E')
+  fills_valued : {E E' : Form} → Fills E E' → Fills (valued_tokens E) (valued_tokens E')
   fills_valued f = fills_then fills_one (fills_then fills_token (fills_between f))
 
-  fills_section : {E E' I I' : Form} → Fills E E' → Fills I I' → Fills (section_text E I) (section_text E' I')
+  fills_section : {E E' I I' : Form} → Fills E E' → Fills I I' → Fills (section_tokens E I) (section_tokens E' I')
   fills_section f g =
       fills_or (fills_then fills_token (fills_many
       (fills_then fills_token (fills_then fills_token
@@ -248,11 +249,11 @@ module _ {cut cut' : Form} {k : ℕ} (c : Cuts cut cut' k) where
       (fills_then f (fills_then fills_token g)))))))
       (fills_then fills_token (fills_many g))
 
-  fills_unit : {B B' : Form} → Fills B B' → Fills (unit_text B) (unit_text B')
+  fills_unit : {B B' : Form} → Fills B B' → Fills (unit_tokens B) (unit_tokens B')
   fills_unit f = fills_then fills_token (fills_then f fills_token)
 
   fills_keyed : {E E' R R' B B' : Form} → Fills E E' → Fills R R' → Fills B B'
-      → Fills (keyed_text E R B) (keyed_text E' R' B')
+      → Fills (keyed_tokens E R B) (keyed_tokens E' R' B')
   fills_keyed f g b next ts (text.extends h) =
       fills_map (fills_then fills_token (fills_then fills_token fills_token)) (λ next ts j. text.extends j) next ts h
   fills_keyed f g b next ts (text.boolean h) =
@@ -280,36 +281,36 @@ module _ {cut cut' : Form} {k : ℕ} (c : Cuts cut cut' k) where
       fills_map (fills_between (fills_list fills_path)) (λ next ts j. text.hide j) next ts h
 
   fills_body : {E E' I I' R R' B B' : Form} → Fills E E' → Fills I I' → Fills R R' → Fills B B'
-      → Fills (body_of E I R B) (body_of E' I' R' B')
+      → Fills (body_made_of E I R B) (body_made_of E' I' R' B')
   fills_body f g r b =
       fills_then (fills_many (fills_or (fills_keyed f r b) (fills_then fills_token (fills_declared f))))
       (fills_maybe (fills_then (fills_section f g) (fills_many (fills_or (fills_section f g) (fills_keyed f r b)))))
 
-  body_fill : (n : ℕ) (next : TokenKind) (ts : Tokens) → body_text cut n next ts
-      → Fill (body_text cut' (up k n)) next ts
+  body_fill : (n : ℕ) (next : TokenKind) (ts : Tokens) → body_tokens cut n next ts
+      → Fill (body_tokens cut' (up k n)) next ts
   body_fill zero next ts h = c.body next ts h
   body_fill (suc n) next ts h = fills_body (λ next ts j. expr_fill n next ts j) (λ next ts j. instr_fill n next ts j)
       (λ next ts j. bracketed_fill n next ts j) (λ next ts j. body_fill n next ts j) next ts h
 
-  fills_whole : Fills whole_text whole_text
+  fills_whole : Fills whole_tokens whole_tokens
   fills_whole = fills_turn (λ next next' ts h. record
       { z = h.z; no_sign = h.no_sign; reads = turns_token next next' ts h.reads })
 
-  fills_bound : Fills bound_text bound_text
+  fills_bound : Fills bound_tokens bound_tokens
   fills_bound = fills_or fills_whole (fills_then fills_token fills_whole)
 
-  fills_domain : Fills domain_text domain_text
+  fills_domain : Fills domain_tokens domain_tokens
   fills_domain = fills_then fills_token
       (fills_then fills_token (fills_then
       (fills_or (fills_between fills_names)
       (fills_then (fills_between fills_bound) (fills_then fills_bound fills_token))) (fills_maybe fills_token)))
 
-  fills_item : (n : ℕ) → Fills (item_text cut n) (item_text cut' (up k n))
+  fills_item : (n : ℕ) → Fills (item_tokens cut n) (item_tokens cut' (up k n))
   fills_item n = fills_or fills_domain
       (fills_or (fills_then fills_token (fills_unit (λ next ts j. body_fill n next ts j)))
       (fills_then fills_token (fills_unit (λ next ts j. body_fill n next ts j))))
 
-  pub fills_model : (n : ℕ) → Fills (model_text cut n) (model_text cut' (up k n))
+  pub fills_model : (n : ℕ) → Fills (model_tokens cut n) (model_tokens cut' (up k n))
   fills_model n = fills_then (fills_item n) (fills_many (fills_item n))
 
 -- A text of the grammar is one that may be cut.
@@ -340,16 +341,16 @@ one_token k next = record { one = some_token k; alone = refl; of_kind = refl }
 alone : {A B : Form} (t : Lexeme) (next : TokenKind) → A next (t ∷ []) → B next [] → (A ▸ B) next (t ∷ [])
 alone t next a b = record { front = t ∷ []; back = []; split = refl; first = a; second = b }
 
-true_minus : (m : ℕ) (next : TokenKind) → minus_text never (suc m) next (some_token (Reserved TRUE) ∷ [])
+true_minus : (m : ℕ) (next : TokenKind) → minus_tokens never (suc m) next (some_token (Reserved TRUE) ∷ [])
 true_minus m next = inr (text.constant (record { one = some_token (Reserved TRUE); alone = refl; passes = refl }))
 
-true_not : (m : ℕ) (next : TokenKind) → not_text never (suc (suc m)) next (some_token (Reserved TRUE) ∷ [])
+true_not : (m : ℕ) (next : TokenKind) → not_tokens never (suc (suc m)) next (some_token (Reserved TRUE) ∷ [])
 true_not m next = let t = some_token (Reserved TRUE) in inr (alone t next (alone t next (alone t next (true_minus m next) ([], refl)) ([], refl)) (inl refl))
 
-true_expr : (next : TokenKind) → expr_text never 3 next (some_token (Reserved TRUE) ∷ [])
+true_expr : (next : TokenKind) → expr_tokens never 3 next (some_token (Reserved TRUE) ∷ [])
 true_expr next = let t = some_token (Reserved TRUE) in inr (alone t next (alone t next (true_not 0 next) ([], refl)) ([], refl))
 
-skip_instr : (next : TokenKind) → instr_text never 3 next
+skip_instr : (next : TokenKind) → instr_tokens never 3 next
     (some_token (Reserved SKIP) ∷ some_token (Sign SEMICOLON) ∷ [])
 skip_instr next = text.simple (inl (record {
   front = some_token (Reserved SKIP) ∷ [];
@@ -359,7 +360,7 @@ skip_instr next = text.simple (inl (record {
   second = one_token (Sign SEMICOLON) next;
 }))
 
-no_unread : (next : TokenKind) → bracketed_text never 3 next
+no_unread : (next : TokenKind) → bracketed_tokens never 3 next
     (some_token (Sign OPEN_PARENTHESIS) ∷ some_token (Sign CLOSE_PARENTHESIS) ∷ [])
 no_unread next = record {
   front = some_token (Sign OPEN_PARENTHESIS) ∷ [];
@@ -375,7 +376,7 @@ no_unread next = record {
   };
 }
 
-no_assertion : (next : TokenKind) → body_text never 3 next (some_token (Reserved ASSERTION) ∷ [])
+no_assertion : (next : TokenKind) → body_tokens never 3 next (some_token (Reserved ASSERTION) ∷ [])
 no_assertion next = let t = some_token (Reserved ASSERTION) in record {
   front = [];
   back = t ∷ [];
@@ -396,21 +397,21 @@ to_fill = record {
   body = λ next ts h. by_case next ts h;
 }
   where
-    by_case : (next : TokenKind) (ts : Tokens) → (nothing ∣ deep) next ts → Fill (body_text never 3) next ts
-    by_case next ts (inl h) = fills_turn {B = body_text never 3}
+    by_case : (next : TokenKind) (ts : Tokens) → (nothing ∣ deep) next ts → Fill (body_tokens never 3) next ts
+    by_case next ts (inl h) = fills_turn {B = body_tokens never 3}
         (λ next next' ts h. record { front = []; back = ts; split = refl; first = ([], refl); second = inl h }) next ts
         h
-    by_case next ts (inr h) = fills_with {B = body_text never 3} (some_token (Reserved ASSERTION)) []
+    by_case next ts (inr h) = fills_with {B = body_tokens never 3} (some_token (Reserved ASSERTION)) []
         (λ e. apart (is_word ASSERTION) refl e refl refl) no_assertion next ts h
 
 -- What is passed and begins a text with no token too deep begins a text of the grammar.
-pub viable_of : (n : ℕ) (front more : Tokens) → Plain front → model_text deep n End (front ++ more) → Viable front
+pub viable_of : (n : ℕ) (front more : Tokens) → Plain front → model_tokens deep n End (front ++ more) → Viable front
 viable_of n front more p h =
     let f = fills_model to_fill n End (front ++ more) h in
     let r = filled_front front more f.text p f.filled in
     record {
       n = up 3 n;
       more = r.0;
-      reads = subst (λ (t : Tokens). model_text never (up 3 n) End t) r.1
+      reads = subst (λ (t : Tokens). model_tokens never (up 3 n) End t) r.1
           (f.form End (λ z. z));
     }

@@ -6,7 +6,7 @@ use Rattle.ar_lexer.proofs.NumberLemmas.{cons_tail}
 use Rattle.ar_grammar.specs.declared.lexeme.Lexeme.{Lexeme}
 use Rattle.ar_grammar.specs.declared.lexeme.Refusal.{Refusal}
 use Rattle.ar_grammar.specs.declared.lexeme.Refusal.TheVariants.{Syntax, Depth, Memory}
-use Rattle.ar_grammar.specs.Words.{Form, Tokens, kind_or, no_kind, token, ◌▸◌, nothing, each, many, Has}
+use Rattle.ar_grammar.specs.Words.{Form, Tokens, kind_or, no_kind, token, ◌▸◌, nothing, each, many, ReadsSome}
 use Rattle.std.specs.Bool.{OnTrue, OnFalse}
 use Rattle.ar_grammar.specs.Results.{kind_at, Spans, Takes, Arrives, Finds, Eats, Plain, anything}
 
@@ -404,7 +404,7 @@ spans_push One more x {start} {rest} {new} a b = record {
 
 -- each of some values is many of the form
 pub each_many : {X : Type 0} (One : X → Form) (xs : List X) (next : TokenKind) (ts : Tokens) → each One xs next ts
-    → many (Has One) next ts
+    → many (ReadsSome One) next ts
 each_many One [] next ts h = ([], h)
 each_many One (x ∷ xs) next ts h =
     let more = each_many One xs next h.back h.second in

@@ -5,7 +5,7 @@ use Rattle.ar_lexer.specs.declared.token.TokenKind.{TokenKind}
 use Rattle.ar_lexer.specs.declared.token.TokenKind.TheVariants.{Sign}
 use Rattle.ar_syntax.specs.declared.instructions.Instr.{Instr}
 use Rattle.ar_grammar.specs.Words.{Form, Tokens, kind_or, ◌▸◌, between}
-use Rattle.ar_grammar.specs.Instructions.{simple, group, conditional, IsInstr, IsSimple, IsGroup, IsConditional}
+use Rattle.ar_grammar.specs.Instructions.{simple, group, conditional, ReadsInstr, ReadsSimple, ReadsGroup, ReadsConditional}
 use Rattle.ar_grammar.specs.Results.{is_sign}
 use Rattle.ar_grammar.proofs.Finding.{kind_join, then_kind}
 use Rattle.ar_grammar.proofs.ExpressionForms.{sign_from}
@@ -26,20 +26,21 @@ pub between_kind : {opens closes next : TokenKind} {ts : Tokens} {A B : Form} �
 between_kind {next = next} h = ap (kind_or next) h.split ∙ kind_join h.front h.back next ∙ then_kind h.first
 
 -- the first token of a simple instruction
-pub conditional_in : (n : ℕ) (i : Instr) (next : TokenKind) (ts : Tokens) → n ≢ 0 → IsConditional (n - 1) i next ts
-    → IsInstr n i next ts
+pub conditional_in : (n : ℕ) (i : Instr) (next : TokenKind) (ts : Tokens) → n ≢ 0 → ReadsConditional (n - 1) i next ts
+    → ReadsInstr n i next ts
 conditional_in zero i next ts some h = absurd (some refl)
-conditional_in (suc n) i next ts some h = conditional (subst (λ (m : ℕ). IsConditional m i next ts) (sub-one (suc n)) h)
+conditional_in (suc n) i next ts some h =
+    conditional (subst (λ (m : ℕ). ReadsConditional m i next ts) (sub-one (suc n)) h)
 
-pub group_in : (n : ℕ) (i : Instr) (next : TokenKind) (ts : Tokens) → n ≢ 0 → IsGroup (n - 1) i next ts
-    → IsInstr n i next ts
+pub group_in : (n : ℕ) (i : Instr) (next : TokenKind) (ts : Tokens) → n ≢ 0 → ReadsGroup (n - 1) i next ts
+    → ReadsInstr n i next ts
 group_in zero i next ts some h = absurd (some refl)
-group_in (suc n) i next ts some h = group (subst (λ (m : ℕ). IsGroup m i next ts) (sub-one (suc n)) h)
+group_in (suc n) i next ts some h = group (subst (λ (m : ℕ). ReadsGroup m i next ts) (sub-one (suc n)) h)
 
-pub simple_in : (n : ℕ) (i : Instr) (next : TokenKind) (ts : Tokens) → n ≢ 0 → IsSimple (n - 1) i next ts
-    → IsInstr n i next ts
+pub simple_in : (n : ℕ) (i : Instr) (next : TokenKind) (ts : Tokens) → n ≢ 0 → ReadsSimple (n - 1) i next ts
+    → ReadsInstr n i next ts
 simple_in zero i next ts some h = absurd (some refl)
-simple_in (suc n) i next ts some h = simple (subst (λ (m : ℕ). IsSimple m i next ts) (sub-one (suc n)) h)
+simple_in (suc n) i next ts some h = simple (subst (λ (m : ℕ). ReadsSimple m i next ts) (sub-one (suc n)) h)
 
 -- Simple instructions
 

@@ -12,12 +12,12 @@ use Rattle.ar_syntax.specs.declared.instructions.Instr.{Instr}
 use Rattle.ar_syntax.specs.declared.paths.PathStart.TheVariants.{Here}
 use Rattle.ar_grammar.specs.declared.lexeme.Lexeme.{Lexeme}
 use Rattle.ar_grammar.specs.declared.lexeme.Refusal.{Refusal}
-use Rattle.ar_grammar.specs.Words.{Form, Tokens, kind_or, token, no_kind, deep, nothing, ◌▸◌, ◌∣◌, between, each, many, Has}
-use Rattle.ar_grammar.specs.Paths.{IsStart}
-use Rattle.ar_grammar.specs.Expressions.{Node, IsExpr}
-use Rattle.ar_grammar.specs.Instructions.{IsElse, IsSimpleOf, assign, tie, skip, IsInstr, IsInstrOf, IsGroupOf, IsIfOf}
+use Rattle.ar_grammar.specs.Words.{Form, Tokens, kind_or, token, no_kind, deep, nothing, ◌▸◌, ◌∣◌, between, each, many, ReadsSome}
+use Rattle.ar_grammar.specs.Paths.{ReadsStart}
+use Rattle.ar_grammar.specs.Expressions.{Node, ReadsExpr}
+use Rattle.ar_grammar.specs.Instructions.{ReadsElse, ReadsSimpleOf, assign, tie, skip, ReadsInstr, ReadsInstrOf, ReadsGroupOf, ReadsIfOf}
 use Rattle.ar_grammar.specs.Instructions as tree
-use Rattle.ar_grammar.specs.Texts.{path_text, expr_text, simple_text, else_text, conditional_text, group_text, instr_of, simple, group, conditional, instr_text}
+use Rattle.ar_grammar.specs.Texts.{path_tokens, expr_tokens, simple_tokens, else_tokens, conditional_tokens, group_tokens, instr_of, simple, group, conditional, instr_tokens}
 use Rattle.ar_grammar.specs.Results.{kind_at, Spans, Begins, Refuses, is_sign, is_word, anything, ends_path, begins_path, begins_instr}
 use Rattle.ar_grammar.proofs.Finding.{Follows, inside, token_kind, then_kind, apart, fails, each_push}
 use Rattle.ar_grammar.proofs.Standing.{Turns, turns_token, turns_then, tells_most, refuses_map, begins_token, begins_here, begins_no_more, begins_then, begins_map, begins_after, turns_each}
@@ -30,13 +30,13 @@ use Rattle.ar_grammar.proofs.Standing.{each_some}
 -- First tokens
 
 path_other : (test : TokenKind → Bool) → test Name ≡ true → test (Reserved OWNER) ≡ true → test (Reserved MAIN) ≡ true
-    → {B : Form} (next : TokenKind) (ts : Tokens) → (path_text ▸ B) next ts → test (kind_or next ts) ≡ true
+    → {B : Form} (next : TokenKind) (ts : Tokens) → (path_tokens ▸ B) next ts → test (kind_or next ts) ≡ true
 path_other test name owner main next ts h =
     ap test (first_of h) ∙ path_starts test name owner main (kind_or next h.back) h.front h.first
 
 simple_starts : (test : TokenKind → Bool) → test Name ≡ true → test (Reserved OWNER) ≡ true
     → test (Reserved MAIN) ≡ true → test (Reserved SKIP) ≡ true → (Expr : Form) (next : TokenKind) (ts : Tokens)
-    → simple_text Expr next ts → test (kind_or next ts) ≡ true
+    → simple_tokens Expr next ts → test (kind_or next ts) ≡ true
 simple_starts test name owner main skips Expr next ts (inl h) = ap test (then_kind h) ∙ skips
 simple_starts test name owner main skips Expr next ts (inr h) = path_other test name owner main next ts h
 
@@ -47,67 +47,70 @@ instr_starts test a b c d e f Expr Inner next ts (simple h) = simple_starts test
 instr_starts test a b c d e f Expr Inner next ts (group h) = ap test (then_kind h) ∙ e
 instr_starts test a b c d e f Expr Inner next ts (conditional h) = ap test (first_of h ∙ then_kind h.first) ∙ f
 
-pub instr_begins : (n : ℕ) (next : TokenKind) (ts : Tokens) → instr_text deep n next ts
+pub instr_begins : (n : ℕ) (next : TokenKind) (ts : Tokens) → instr_tokens deep n next ts
     → (kind_or next ts ≡ no_kind → ⊥) → begins_instr (kind_or next ts) ≡ true
 instr_begins zero next ts h none = absurd (none (token_kind h))
 instr_begins (suc n) next ts h none =
-    instr_starts begins_instr refl refl refl refl refl refl (expr_text deep n) (instr_text deep n) next ts h
+    instr_starts begins_instr refl refl refl refl refl refl (expr_tokens deep n) (instr_tokens deep n) next ts h
 
-pub instr_some : (n : ℕ) (next : TokenKind) (ts : Tokens) → instr_text deep n next ts → (kind_or next ts ≡ no_kind → ⊥)
-    → n ≢ 0
+pub instr_some : (n : ℕ) (next : TokenKind) (ts : Tokens) → instr_tokens deep n next ts → (kind_or next ts ≡ no_kind
+    → ⊥) → n ≢ 0
 instr_some zero next ts h none = absurd (none (token_kind h))
 instr_some (suc n) next ts h none = λ e. absurd (cc)
 
 -- no instruction begins with `else`
-pub instr_clear : (n : ℕ) (next : TokenKind) (ts : Tokens) → instr_text deep n next ts → kind_or next ts ≢ Reserved ELSE
+pub instr_clear : (n : ℕ) (next : TokenKind) (ts : Tokens) → instr_tokens deep n next ts
+    → kind_or next ts ≢ Reserved ELSE
 instr_clear zero next ts h k = apart (is_sign 256) (token_kind h) k refl refl
 instr_clear (suc n) next ts h k = fails (λ j. not (is_word ELSE j))
-    (instr_starts (λ j. not (is_word ELSE j)) refl refl refl refl refl refl (expr_text deep n) (instr_text deep n) next
+    (instr_starts (λ j. not (is_word ELSE j)) refl refl refl refl refl refl (expr_tokens deep n) (instr_tokens deep n)
+    next
     ts h) k refl
 
-pub instr_not_over : (n : ℕ) (next : TokenKind) (ts : Tokens) → instr_text deep n next ts
+pub instr_not_over : (n : ℕ) (next : TokenKind) (ts : Tokens) → instr_tokens deep n next ts
     → kind_or next ts ≡ Sign CLOSE_BRACE → ⊥
 instr_not_over n next ts h k = fails begins_instr (instr_begins n next ts h (λ z. apart (is_sign 256) z k refl refl)) k
     refl
 
-pub instr_if : (n : ℕ) (next : TokenKind) (ts : Tokens) → instr_text deep n next ts → kind_or next ts ≡ Reserved IF
-    → inside (λ m. conditional_text (expr_text deep m) (instr_text deep m)) n next ts
+pub instr_if : (n : ℕ) (next : TokenKind) (ts : Tokens) → instr_tokens deep n next ts → kind_or next ts ≡ Reserved IF
+    → inside (λ m. conditional_tokens (expr_tokens deep m) (instr_tokens deep m)) n next ts
 instr_if zero next ts h k = apart (is_sign 256) (token_kind h) k refl refl
 instr_if (suc n) next ts (simple h) k =
-    fails (λ j. not (is_word IF j)) (simple_starts (λ j. not (is_word IF j)) refl refl refl refl (expr_text deep n) next
+    fails (λ j. not (is_word IF j))
+    (simple_starts (λ j. not (is_word IF j)) refl refl refl refl (expr_tokens deep n) next
     ts h) k refl
 instr_if (suc n) next ts (group h) k = apart (is_sign OPEN_BRACE) (then_kind h) k refl refl
 instr_if (suc n) next ts (conditional h) k = (n, refl, h)
 
-pub instr_group : (n : ℕ) (next : TokenKind) (ts : Tokens) → instr_text deep n next ts
-    → kind_or next ts ≡ Sign OPEN_BRACE → inside (λ m. group_text (instr_text deep m)) n next ts
+pub instr_group : (n : ℕ) (next : TokenKind) (ts : Tokens) → instr_tokens deep n next ts
+    → kind_or next ts ≡ Sign OPEN_BRACE → inside (λ m. group_tokens (instr_tokens deep m)) n next ts
 instr_group zero next ts h k = apart (is_sign 256) (token_kind h) k refl refl
 instr_group (suc n) next ts (simple h) k =
     fails (λ j. not (is_sign OPEN_BRACE j))
-    (simple_starts (λ j. not (is_sign OPEN_BRACE j)) refl refl refl refl (expr_text deep n) next ts h) k refl
+    (simple_starts (λ j. not (is_sign OPEN_BRACE j)) refl refl refl refl (expr_tokens deep n) next ts h) k refl
 instr_group (suc n) next ts (group h) k = (n, refl, h)
 instr_group (suc n) next ts (conditional h) k = apart (is_word IF) (first_of h ∙ then_kind h.first) k refl refl
 
-pub instr_simple : (n : ℕ) (next : TokenKind) (ts : Tokens) → instr_text deep n next ts → kind_or next ts ≢ Reserved IF
-    → kind_or next ts ≢ Sign OPEN_BRACE → (kind_or next ts ≡ no_kind → ⊥)
-    → inside (λ m. simple_text (expr_text deep m)) n next ts
+pub instr_simple : (n : ℕ) (next : TokenKind) (ts : Tokens) → instr_tokens deep n next ts → kind_or next ts ≢ Reserved
+    IF → kind_or next ts ≢ Sign OPEN_BRACE → (kind_or next ts ≡ no_kind → ⊥)
+    → inside (λ m. simple_tokens (expr_tokens deep m)) n next ts
 instr_simple zero next ts h k l none = absurd (none (token_kind h))
 instr_simple (suc n) next ts (simple h) k l none = (n, refl, h)
 instr_simple (suc n) next ts (group h) k l none = absurd (l (then_kind h))
 instr_simple (suc n) next ts (conditional h) k l none = absurd (k (first_of h ∙ then_kind h.first))
 
-pub simple_skip : (n : ℕ) (next : TokenKind) (ts : Tokens) → simple_text (expr_text deep n) next ts
+pub simple_skip : (n : ℕ) (next : TokenKind) (ts : Tokens) → simple_tokens (expr_tokens deep n) next ts
     → kind_or next ts ≡ Reserved SKIP → (token (Reserved SKIP) ▸ token (Sign SEMICOLON)) next ts
 simple_skip n next ts (inl h) k = h
 simple_skip n next ts (inr h) k = fails (λ j. not (is_word SKIP j))
     (path_other (λ j. not (is_word SKIP j)) refl refl refl next ts h) k refl
 
 abbrev pub simple_rest : ℕ → Form
-simple_rest n = between (Sign ASSIGN) (Sign SEMICOLON) (expr_text deep n) ∣ between (Sign TIE) (Sign SEMICOLON)
-    path_text
+simple_rest n = between (Sign ASSIGN) (Sign SEMICOLON) (expr_tokens deep n) ∣ between (Sign TIE) (Sign SEMICOLON)
+    path_tokens
 
-pub simple_parts : (n : ℕ) (next : TokenKind) (ts : Tokens) → simple_text (expr_text deep n) next ts
-    → kind_or next ts ≢ Reserved SKIP → (path_text ▸ simple_rest n) next ts
+pub simple_parts : (n : ℕ) (next : TokenKind) (ts : Tokens) → simple_tokens (expr_tokens deep n) next ts
+    → kind_or next ts ≢ Reserved SKIP → (path_tokens ▸ simple_rest n) next ts
 simple_parts n next ts (inl h) k = absurd (k (then_kind h))
 simple_parts n next ts (inr h) k = h
 
@@ -119,35 +122,36 @@ simple_follows = record { holds = λ n next ts h s. by_rest n next ts h }
     by_rest n next ts (inr h) = ap ends_path (then_kind h)
 
 pub simple_tie : (n : ℕ) (next : TokenKind) (ts : Tokens) → simple_rest n next ts → kind_or next ts ≡ Sign TIE
-    → between (Sign TIE) (Sign SEMICOLON) path_text next ts
+    → between (Sign TIE) (Sign SEMICOLON) path_tokens next ts
 simple_tie n next ts (inl h) k = apart (is_sign ASSIGN) (then_kind h) k refl refl
 simple_tie n next ts (inr h) k = h
 
 pub simple_assign : (n : ℕ) (next : TokenKind) (ts : Tokens) → simple_rest n next ts → kind_or next ts ≢ Sign TIE
-    → between (Sign ASSIGN) (Sign SEMICOLON) (expr_text deep n) next ts
+    → between (Sign ASSIGN) (Sign SEMICOLON) (expr_tokens deep n) next ts
 simple_assign n next ts (inl h) k = h
 simple_assign n next ts (inr h) k = absurd (k (then_kind h))
 
-pub else_taken : (n : ℕ) (next : TokenKind) (ts : Tokens) → else_text (instr_text deep n) next ts
-    → kind_or next ts ≡ Reserved ELSE → (token (Reserved ELSE) ▸ instr_text deep n) next ts
+pub else_taken : (n : ℕ) (next : TokenKind) (ts : Tokens) → else_tokens (instr_tokens deep n) next ts
+    → kind_or next ts ≡ Reserved ELSE → (token (Reserved ELSE) ▸ instr_tokens deep n) next ts
 else_taken n next ts (inl h) k = absurd (h.other (sym (ap (kind_or next) h.empty) ∙ k))
 else_taken n next ts (inr h) k = h
 
-pub else_none : (n : ℕ) (next : TokenKind) (ts : Tokens) → else_text (instr_text deep n) next ts
+pub else_none : (n : ℕ) (next : TokenKind) (ts : Tokens) → else_tokens (instr_tokens deep n) next ts
     → kind_or next ts ≢ Reserved ELSE → nothing next ts
 else_none n next ts (inl h) k = h.empty
 else_none n next ts (inr h) k = absurd (k (then_kind h))
 
 -- Texts to come
 
-pub some_path : Begins path_text []
-some_path = begins_after {A = Has IsStart} (λ next. (Here, refl)) (begins_then (begins_token Name) begins_no_more)
+pub some_path : Begins path_tokens []
+some_path = begins_after {A = ReadsSome ReadsStart} (λ next. (Here, refl))
+    (begins_then (begins_token Name) begins_no_more)
 
 pub some_assign : (m : ℕ) → Begins (simple_rest m) []
 some_assign m = begins_map (begins_then (begins_token (Sign ASSIGN))
     (begins_then (some_expr m) (begins_token (Sign SEMICOLON)))) (λ next ts h. inl h)
 
-pub some_instr : (m : ℕ) → Begins (instr_text deep m) []
+pub some_instr : (m : ℕ) → Begins (instr_tokens deep m) []
 some_instr zero = begins_token no_kind
 some_instr (suc m) = begins_map (begins_then (begins_token (Reserved SKIP)) (begins_token (Sign SEMICOLON)))
     (λ next ts h. simple (inl h))
@@ -155,14 +159,14 @@ some_instr (suc m) = begins_map (begins_then (begins_token (Reserved SKIP)) (beg
 pub some_group_end : {A : Form} → Begins (many A ▸ token (Sign CLOSE_BRACE)) []
 some_group_end = begins_then begins_no_more (begins_token (Sign CLOSE_BRACE))
 
-pub instr_at : (m : ℕ) (t : Lexeme) → begins_instr t.kind ≡ true → Begins (instr_text deep (suc m)) (t ∷ [])
+pub instr_at : (m : ℕ) (t : Lexeme) → begins_instr t.kind ≡ true → Begins (instr_tokens deep (suc m)) (t ∷ [])
 instr_at m t h = by_kind t.kind refl h
   where
-    by_path : begins_path t.kind ≡ true → Begins (instr_text deep (suc m)) (t ∷ [])
+    by_path : begins_path t.kind ≡ true → Begins (instr_tokens deep (suc m)) (t ∷ [])
     by_path p = begins_map (begins_then (path_at t p) (some_assign m)) (λ next ts h. simple (inr h))
 
     by_word : (w : ℕ) → t.kind ≡ Reserved w → (((w == OWNER) || (w == MAIN) || (w == SKIP)) ≡ true) ⊎ ((w == IF) ≡ true)
-        → Begins (instr_text deep (suc m)) (t ∷ [])
+        → Begins (instr_tokens deep (suc m)) (t ∷ [])
     by_word w e (inr q) = begins_map (begins_then
         (begins_then (begins_here t (Reserved IF) (e ∙ ap Reserved (eqb-true w IF q)))
         (begins_then (some_expr m) (begins_token (Reserved THEN))))
@@ -171,13 +175,13 @@ instr_at m t h = by_kind t.kind refl h
     by_word w e (inl q) = by_simple (or_cases ((w == OWNER) || (w == MAIN)) (w == SKIP) q)
       where
         by_simple : (((w == OWNER) || (w == MAIN)) ≡ true) ⊎ ((w == SKIP) ≡ true)
-            → Begins (instr_text deep (suc m)) (t ∷ [])
+            → Begins (instr_tokens deep (suc m)) (t ∷ [])
         by_simple (inl p) = by_path (ap begins_path e ∙ p)
         by_simple (inr p) = begins_map (begins_then
             (begins_here t (Reserved SKIP) (e ∙ ap Reserved (eqb-true w SKIP p))) (begins_token (Sign SEMICOLON)))
             (λ next ts h. simple (inl h))
 
-    by_kind : (k : TokenKind) → t.kind ≡ k → begins_instr k ≡ true → Begins (instr_text deep (suc m)) (t ∷ [])
+    by_kind : (k : TokenKind) → t.kind ≡ k → begins_instr k ≡ true → Begins (instr_tokens deep (suc m)) (t ∷ [])
     by_kind Name e h = by_path (ap begins_path e)
     by_kind (Sign s) e h = begins_map (begins_then
         (begins_here t (Sign OPEN_BRACE) (e ∙ ap Sign (eqb-true s OPEN_BRACE h))) some_group_end) (λ next ts h. group h)
@@ -232,7 +236,7 @@ moves_each f (x ∷ xs) = λ next next' ts m h.
     )
 
 pub moves_enclosed : (opens closes : TokenKind) (n m : ℕ) → n ≤ m → (e : RawExpr)
-    → Moves (between opens closes (Node (IsExpr n) e)) (between opens closes (expr_text deep m))
+    → Moves (between opens closes (Node (ReadsExpr n) e)) (between opens closes (expr_tokens deep m))
 moves_enclosed opens closes n m l e = moves_of (turns_then turns_token (turns_then (turns_tree n m l e) turns_token))
 
 not_else : (next next' : TokenKind) → May next next' → next ≢ Reserved ELSE → next' ≢ Reserved ELSE
@@ -240,17 +244,17 @@ not_else next next' (inl n) o = n
 not_else next next' (inr q) o = λ e. o (sym q ∙ e)
 
 moves_else : (Inner : Instr → Form) (B : Form) → ((i : Instr) → Moves (Inner i) B) → (no : Option (Box Instr Global))
-    → Moves (IsElse Inner no) (else_text B)
+    → Moves (ReadsElse Inner no) (else_tokens B)
 moves_else Inner B g None = λ next next' ts m h. inl (record { empty = h.empty; other = not_else next next' m h.other })
 moves_else Inner B g (Some d) = λ next next' ts m h. inr (moves_then moves_token (g d.value) next next' ts m h)
 
 instr_case : (n m : ℕ) → n ≤ m → (i : Instr) (next next' : TokenKind) (ts : Tokens) → May next next'
-    → IsInstr n i next ts → instr_text deep m next' ts
+    → ReadsInstr n i next ts → instr_tokens deep m next' ts
 instr_case zero m l i next next' ts y h = elim h [ ]
 instr_case (suc n) zero l i next next' ts y h = absurd (omega (arith, l))
 instr_case (suc n) (suc m) l i next next' ts y (tree.simple h) = simple (by_simple h)
   where
-    by_simple : IsSimpleOf (IsExpr n) i next ts → simple_text (expr_text deep m) next' ts
+    by_simple : ReadsSimpleOf (ReadsExpr n) i next ts → simple_tokens (expr_tokens deep m) next' ts
     by_simple (assign p e q h) = inr (turns_then (turns_path p)
         (λ next next' ts j. inl (turns_then turns_token (turns_then (turns_tree n m (omega (arith, l)) e) turns_token)
         next next' ts j)) next next' ts h)
@@ -265,10 +269,10 @@ instr_case (suc n) (suc m) l i next next' ts y (tree.group h) =
 instr_case (suc n) (suc m) l i next next' ts y (tree.conditional h) =
     conditional (moves_then (moves_enclosed (Reserved IF) (Reserved THEN) n m (omega (arith, l)) h.test)
     (moves_then (λ next next' ts z k. instr_case n m (omega (arith, l)) h.yes.value next next' ts z k)
-    (moves_else (IsInstr n) (instr_text deep m)
+    (moves_else (ReadsInstr n) (instr_tokens deep m)
     (λ j next next' ts z k. instr_case n m (omega (arith, l)) j next next' ts z k) h.no)) next next' ts y h.reads)
 
-pub moves_instr : (n m : ℕ) → n ≤ m → (i : Instr) → Moves (IsInstr n i) (instr_text deep m)
+pub moves_instr : (n m : ℕ) → n ≤ m → (i : Instr) → Moves (ReadsInstr n i) (instr_tokens deep m)
 moves_instr n m l i = λ next next' ts y h. instr_case n m l i next next' ts y h
 
 -- What was taken, before any token but `else`, and before what follows

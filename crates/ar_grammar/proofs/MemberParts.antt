@@ -16,11 +16,11 @@ use Rattle.ar_syntax.specs.declared.members.TypeForm.TheVariants as type_form
 use Rattle.ar_syntax.specs.declared.members.Word.{Word}
 use Rattle.ar_syntax.specs.declared.members.Word.TheVariants as word
 use Rattle.ar_base.specs.Numbers.{NameId}
-use Rattle.ar_grammar.specs.Words.{Form, Tokens, kind_or, token, deep, ◌▸◌, nothing, each, many, separated, standing, StandsAt, place_at, between, ◌∣◌}
-use Rattle.ar_grammar.specs.Paths.{IsName, IsPlacedName, AreNames}
-use Rattle.ar_grammar.specs.Expressions.{Node, IsExpr}
-use Rattle.ar_grammar.specs.Members.{IsType, IsTypeForm, IsWord, IsSetting, AreSettings}
-use Rattle.ar_grammar.specs.Texts.{one_of, list_of, names_text, is_type, is_target_word, expr_text, setting_text, settings_text}
+use Rattle.ar_grammar.specs.Words.{Form, Tokens, kind_or, token, deep, ◌▸◌, nothing, each, many, separated_by, standing, StandsAt, place_at, between, ◌∣◌}
+use Rattle.ar_grammar.specs.Paths.{ReadsName, ReadsPlacedName, ReadsNames}
+use Rattle.ar_grammar.specs.Expressions.{Node, ReadsExpr}
+use Rattle.ar_grammar.specs.Members.{ReadsType, ReadsTypeForm, ReadsWord, ReadsSetting, ReadsSettings}
+use Rattle.ar_grammar.specs.Texts.{one_of, list_of, names_tokens, is_type, is_target_word, expr_tokens, setting_tokens, settings_tokens}
 use Rattle.ar_grammar.specs.Results.{kind_at, Spans, Begins, anything, ends_names, ends_expr, ends_list, ends_attribute, is_sign}
 use Rattle.ar_grammar.proofs.Finding.{Follows, kind_join, fails, token_kind, then_kind, follows_many, spans_then}
 use Rattle.ar_grammar.proofs.PathForms.{stands_there}
@@ -35,10 +35,10 @@ use Rattle.ar_syntax.specs.declared.members.Member.{Member}
 use Rattle.ar_syntax.specs.declared.members.Member.TheVariants as member
 use Rattle.ar_syntax.specs.declared.members.Part.{Part}
 use Rattle.ar_syntax.specs.declared.instructions.Instr.{Instr}
-use Rattle.ar_grammar.specs.Instructions.{IsInstr}
-use Rattle.ar_grammar.specs.Members.{IsDeclared, IsEvent, IsHidden, IsPart, IsTransition, sync, local}
-use Rattle.ar_grammar.specs.Texts.{path_text, is_part, declared_rest}
-use Rattle.ar_grammar.specs.Parts.{declaration_text, event_text, part_text, parts_text, guarded_text, transition_of}
+use Rattle.ar_grammar.specs.Instructions.{ReadsInstr}
+use Rattle.ar_grammar.specs.Members.{ReadsDeclared, ReadsEvent, ReadsHidden, ReadsPart, ReadsTransition, sync, local}
+use Rattle.ar_grammar.specs.Texts.{path_tokens, is_part, declared_rest}
+use Rattle.ar_grammar.specs.Parts.{declaration_tokens, event_tokens, part_tokens, parts_tokens, guarded_tokens, transition_of}
 use Rattle.ar_grammar.specs.Results.{ends_path, ends_semicolon, begins_expr, begins_part}
 use Rattle.ar_grammar.proofs.Finding.{spans_map}
 use Rattle.ar_grammar.proofs.ExpressionForms.{then_unassoc}
@@ -61,14 +61,14 @@ stand_made A end at {old} {new} e s some = record {
   };
 }
 
-pub name_some : (id : NameId) (next : TokenKind) (ts : Tokens) → IsName id next ts → ts ≡ [] → ⊥
+pub name_some : (id : NameId) (next : TokenKind) (ts : Tokens) → ReadsName id next ts → ts ≡ [] → ⊥
 name_some id next ts h z = let q : h.one ∷ [] ≡ [] = sym h.alone ∙ z in absurd (cc)
 
 -- Types
 
 -- Words
 
-pub word_some : (w : Word) (next : TokenKind) (ts : Tokens) → IsWord w next ts → ts ≡ [] → ⊥
+pub word_some : (w : Word) (next : TokenKind) (ts : Tokens) → ReadsWord w next ts → ts ≡ [] → ⊥
 word_some (word.Name id) = name_some id
 word_some word.Init = token_some (Reserved INIT)
 word_some word.Reset = token_some (Reserved RESET)
@@ -76,9 +76,9 @@ word_some word.Reset = token_some (Reserved RESET)
 -- x { separator x }, as one form and the rest
 pub separated_made : {X : Type 0} (separator : TokenKind) (One : X → Form) (x : X) (more items : List X)
     {old mid new : Tokens} → items ≡ x ∷ more → Spans (One x) old mid
-    → Spans (each (λ y. token separator ▸ One y) more) mid new → Spans (separated separator One items) old new
+    → Spans (each (λ y. token separator ▸ One y) more) mid new → Spans (separated_by separator One items) old new
 separated_made separator One x more items {old} {mid} {new} e a b =
-    subst (λ (xs : List _). Spans (separated separator One xs) old new) (sym e) (spans_then a b)
+    subst (λ (xs : List _). Spans (separated_by separator One xs) old new) (sym e) (spans_then a b)
 
 -- what is pushed behind the first
 pub pushed_both : {X : Type 0} (old more : List X) (x : X) {mid new : List X} → mid ≡ old ++ x ∷ [] → new ≡ mid ++ more
@@ -106,24 +106,25 @@ separated_more separator A ends ends' e weaker = follows_many (λ n next ts g. a
 pub list_end : (k : TokenKind) → ends_list k ≡ true → ends_expr k ≡ true
 list_end k h = ap ends_expr (sign_from CLOSE_PARENTHESIS k h)
 
-target_some : (xs : List Word) (next : TokenKind) (ts : Tokens) → separated (Sign DOT) IsWord xs next ts → ts ≡ [] → ⊥
+target_some : (xs : List Word) (next : TokenKind) (ts : Tokens) → separated_by (Sign DOT) ReadsWord xs next ts → ts ≡ []
+    → ⊥
 target_some [] next ts h z = h
 target_some (x ∷ xs) next ts h z = then_some h (word_some x) z
 
 pub setting_made : (n : ℕ) (end : Place) (at : Place) (target : Vec Word Global) (value : RawExpr)
-    {old a b new : Tokens} → at ≡ place_at end old → Spans (separated (Sign DOT) IsWord target.items) old a
-    → Spans (token (Sign EQUALS)) a b → Spans (Node (IsExpr n) value) b new
-    → Spans (IsSetting n (record { target = target; at = at; value = value })) old new
+    {old a b new : Tokens} → at ≡ place_at end old → Spans (separated_by (Sign DOT) ReadsWord target.items) old a
+    → Spans (token (Sign EQUALS)) a b → Spans (Node (ReadsExpr n) value) b new
+    → Spans (ReadsSetting n (record { target = target; at = at; value = value })) old new
 setting_made n end at target value e s t v =
-    spans_then (stand_made (separated (Sign DOT) IsWord target.items) end at e s (target_some target.items))
+    spans_then (stand_made (separated_by (Sign DOT) ReadsWord target.items) end at e s (target_some target.items))
     (spans_then t v)
 
 pub settings_made : (n : ℕ) (x : Setting) (more items : List Setting) {old a b c new : Tokens} → items ≡ x ∷ more
-    → Spans (token (Sign OPEN_PARENTHESIS)) old a → Spans (IsSetting n x) a b
-    → Spans (each (λ s. token (Sign COMMA) ▸ IsSetting n s) more) b c → Spans (token (Sign CLOSE_PARENTHESIS)) c new
-    → Spans (AreSettings n items) old new
+    → Spans (token (Sign OPEN_PARENTHESIS)) old a → Spans (ReadsSetting n x) a b
+    → Spans (each (λ s. token (Sign COMMA) ▸ ReadsSetting n s) more) b c → Spans (token (Sign CLOSE_PARENTHESIS)) c new
+    → Spans (ReadsSettings n items) old new
 settings_made n x more items {old} {new = new} e o f m d =
-    subst (λ (xs : List Setting). Spans (AreSettings n xs) old new) (sym e)
+    subst (λ (xs : List Setting). Spans (ReadsSettings n xs) old new) (sym e)
     (spans_then o (spans_then (spans_then f m) d))
 
 -- Declarations
@@ -162,76 +163,76 @@ word_named next ts h k l = one_as h (by_kind (kind_or next ts) (one_kind h) k l)
     by_kind (Sign s) e b i = absurd (cc)
     by_kind End e b i = absurd (cc)
 
-pub settings_none : (n : ℕ) (next : TokenKind) (ts : Tokens) → settings_text (expr_text deep n) next ts
+pub settings_none : (n : ℕ) (next : TokenKind) (ts : Tokens) → settings_tokens (expr_tokens deep n) next ts
     → kind_or next ts ≢ Sign OPEN_PARENTHESIS → nothing next ts
 settings_none n next ts (inl h) k = h
 settings_none n next ts (inr h) k = absurd (k (then_kind h))
 
-pub settings_parts : (n : ℕ) (next : TokenKind) (ts : Tokens) → settings_text (expr_text deep n) next ts
+pub settings_parts : (n : ℕ) (next : TokenKind) (ts : Tokens) → settings_tokens (expr_tokens deep n) next ts
     → ends_attribute next ≡ true → kind_or next ts ≡ Sign OPEN_PARENTHESIS
-    → (token (Sign OPEN_PARENTHESIS) ▸ setting_text (expr_text deep n) ▸ many
-    (token (Sign COMMA) ▸ setting_text (expr_text deep n)) ▸ token (Sign CLOSE_PARENTHESIS)) next ts
+    → (token (Sign OPEN_PARENTHESIS) ▸ setting_tokens (expr_tokens deep n) ▸ many
+    (token (Sign COMMA) ▸ setting_tokens (expr_tokens deep n)) ▸ token (Sign CLOSE_PARENTHESIS)) next ts
 settings_parts n next ts (inl h) s k = fails ends_attribute s (sym (ap (kind_or next) h) ∙ k) refl
 settings_parts n next ts (inr h) s k = then_map h (λ next ts j. j) (λ next ts j. then_assoc j)
 
 settings_starts : (test : TokenKind → Bool) → test (Sign OPEN_PARENTHESIS) ≡ true
-    → (n : ℕ) (next : TokenKind) (ts : Tokens) → settings_text (expr_text deep n) next ts → test next ≡ true
+    → (n : ℕ) (next : TokenKind) (ts : Tokens) → settings_tokens (expr_tokens deep n) next ts → test next ≡ true
     → test (kind_or next ts) ≡ true
 settings_starts test open_too n next ts (inl h) s = ap test (ap (kind_or next) h) ∙ s
 settings_starts test open_too n next ts (inr h) s = ap test (then_kind h) ∙ open_too
 
-pub names_follow : Follows (λ n. settings_text (expr_text deep n) ▸ token (Sign SEMICOLON)) ends_names anything
+pub names_follow : Follows (λ n. settings_tokens (expr_tokens deep n) ▸ token (Sign SEMICOLON)) ends_names anything
 names_follow = record {
   holds = λ n next ts h s. ap ends_names (first_of h)
       ∙ settings_starts ends_names refl n (kind_or next h.back) h.front h.first (ap ends_names (token_kind h.second));
 }
 
-pub turns_type : (t : TypeName) → Turns (IsType t) (one_of is_type)
+pub turns_type : (t : TypeName) → Turns (ReadsType t) (one_of is_type)
 turns_type t = λ next next' ts h. by_form t.form next ts h.form
   where
-    by_form : (f : TypeForm) (next : TokenKind) (ts : Tokens) → IsTypeForm f next ts → {next' : TokenKind}
+    by_form : (f : TypeForm) (next : TokenKind) (ts : Tokens) → ReadsTypeForm f next ts → {next' : TokenKind}
         → one_of is_type next' ts
     by_form type_form.Boolean next ts g = record { one = g.one; alone = g.alone; passes = ap is_type g.of_kind }
     by_form type_form.Integer next ts g = record { one = g.one; alone = g.alone; passes = ap is_type g.of_kind }
     by_form (type_form.Named id) next ts g = record { one = g.one; alone = g.alone; passes = ap is_type g.of_kind }
 
-pub turns_word : (w : Word) → Turns (IsWord w) (one_of is_target_word)
+pub turns_word : (w : Word) → Turns (ReadsWord w) (one_of is_target_word)
 turns_word (word.Name id) = λ next next' ts g. record
     { one = g.one; alone = g.alone; passes = ap is_target_word g.of_kind }
 turns_word word.Init = λ next next' ts g. record { one = g.one; alone = g.alone; passes = ap is_target_word g.of_kind }
 turns_word word.Reset = λ next next' ts g. record { one = g.one; alone = g.alone; passes = ap is_target_word g.of_kind }
 
 pub turns_target : (xs : List Word)
-    → Turns (separated (Sign DOT) IsWord xs) (list_of (Sign DOT) (one_of is_target_word))
-turns_target xs = turns_list IsWord (one_of is_target_word) (Sign DOT) turns_word xs
+    → Turns (separated_by (Sign DOT) ReadsWord xs) (list_of (Sign DOT) (one_of is_target_word))
+turns_target xs = turns_list ReadsWord (one_of is_target_word) (Sign DOT) turns_word xs
 
-pub turns_setting : (n m : ℕ) → n ≤ m → (s : Setting) → Turns (IsSetting n s) (setting_text (expr_text deep m))
+pub turns_setting : (n m : ℕ) → n ≤ m → (s : Setting) → Turns (ReadsSetting n s) (setting_tokens (expr_tokens deep m))
 turns_setting n m l s = turns_then (λ next next' ts h. turns_target s.target.items next next' ts h.form)
     (turns_then turns_token (turns_tree n m l s.value))
 
 pub turns_settings : (n m : ℕ) → n ≤ m → (xs : List Setting)
-    → Turns (AreSettings n xs) (settings_text (expr_text deep m))
+    → Turns (ReadsSettings n xs) (settings_tokens (expr_tokens deep m))
 turns_settings n m l [] = λ next next' ts h. inl h
 turns_settings n m l (s ∷ more) = λ next next' ts h. inr
     (turns_then turns_token (turns_then
-    (turns_list (IsSetting n) (setting_text (expr_text deep m)) (Sign COMMA) (turns_setting n m l) (s ∷ more))
+    (turns_list (ReadsSetting n) (setting_tokens (expr_tokens deep m)) (Sign COMMA) (turns_setting n m l) (s ∷ more))
     turns_token) next next' ts h)
 
-pub turns_names : (xs : List (NameId × Place)) → Turns (AreNames xs) names_text
-turns_names xs = turns_list IsPlacedName (token Name) (Sign COMMA) turns_placed xs
+pub turns_names : (xs : List (NameId × Place)) → Turns (ReadsNames xs) names_tokens
+turns_names xs = turns_list ReadsPlacedName (token Name) (Sign COMMA) turns_placed xs
 
-pub some_setting : (m : ℕ) → Begins (setting_text (expr_text deep m)) []
+pub some_setting : (m : ℕ) → Begins (setting_tokens (expr_tokens deep m)) []
 some_setting m = begins_then (begins_then (begins_one {test = is_target_word} Name refl) begins_no_more)
     (begins_then (begins_token (Sign EQUALS)) (some_expr m))
 
 -- Declarations before any token
 
-pub turns_declared : (n m : ℕ) → n ≤ m → (d : Member) → Turns (IsDeclared n d) (declaration_text m)
+pub turns_declared : (n m : ℕ) → n ≤ m → (d : Member) → Turns (ReadsDeclared n d) (declaration_tokens m)
 turns_declared n m l d = λ next next' ts h. turns_then (turns_type h.type)
     (turns_then (turns_names h.names.items) (turns_then (turns_settings n m l h.settings.items) turns_token)) next next'
     ts h.reads
 
-pub some_declared_rest : (m : ℕ) → Begins (declared_rest (expr_text deep m)) []
+pub some_declared_rest : (m : ℕ) → Begins (declared_rest (expr_tokens deep m)) []
 some_declared_rest m = begins_then (begins_then (begins_token Name) begins_no_more)
     (begins_then (begins_map begins_nothing (λ next ts h. inl h)) (begins_token (Sign SEMICOLON)))
 
@@ -249,11 +250,11 @@ pub listed_parts : {A : Form} {opens closes separator next : TokenKind} {ts : To
     → (token opens ▸ A ▸ many (token separator ▸ A) ▸ token closes) next ts
 listed_parts h = then_map h (λ next ts j. j) (λ next ts j. then_assoc j)
 
-pub turns_event : (n m : ℕ) → n ≤ m → (e : Member) → Turns (IsEvent n e) (event_text m)
+pub turns_event : (n m : ℕ) → n ≤ m → (e : Member) → Turns (ReadsEvent n e) (event_tokens m)
 turns_event n m l e = λ next next' ts h. turns_then (turns_placed (h.name, h.at)) (turns_attribute n m l h.attribute)
     next next' ts h.reads
 
-pub turns_hidden : (e : Member) → Turns (IsHidden e) path_text
+pub turns_hidden : (e : Member) → Turns (ReadsHidden e) path_tokens
 turns_hidden e = λ next next' ts h. turns_path h.event next next' ts h.reads
 
 -- what stands behind the first of a list that closes
@@ -282,7 +283,7 @@ pub turns_must : (must : Bool) → Turns (token (Sign (if must then EXCLAMATION 
 turns_must true = λ next next' ts h. record { one = h.one; alone = h.alone; passes = ap is_part h.of_kind }
 turns_must false = λ next next' ts h. record { one = h.one; alone = h.alone; passes = ap is_part h.of_kind }
 
-pub turns_part : (p : Part) → Turns (IsPart p) part_text
+pub turns_part : (p : Part) → Turns (ReadsPart p) part_tokens
 turns_part p = turns_then (turns_must p.must) (turns_path p.event)
 
 begins_part_from : (k : TokenKind) → is_part k ≡ true → begins_part k ≡ true
@@ -301,7 +302,7 @@ begins_part_from End e = absurd (cc)
 
 -- what stands behind the colon
 abbrev pub transition_rest : ℕ → Form
-transition_rest n = parts_text ∣ guarded_text n
+transition_rest n = parts_tokens ∣ guarded_tokens n
 
 expr_no_part : (k : TokenKind) → begins_expr k ≡ true → begins_part k ≡ true → ⊥
 expr_no_part k h p = by_either (or_cases (is_sign EXCLAMATION k) (is_sign QUESTION k) p)
@@ -311,7 +312,7 @@ expr_no_part k h p = by_either (or_cases (is_sign EXCLAMATION k) (is_sign QUESTI
     by_either (inr q) = fails begins_expr h (sign_from QUESTION k q) refl
 
 pub transition_sync : (n : ℕ) (next : TokenKind) (ts : Tokens) → transition_rest n next ts
-    → begins_part (kind_or next ts) ≡ true → parts_text next ts
+    → begins_part (kind_or next ts) ≡ true → parts_tokens next ts
 transition_sync n next ts (inl h) k = h
 transition_sync n next ts (inr h) k =
     absurd (expr_no_part (kind_or (kind_or next h.back) h.front)
@@ -319,7 +320,7 @@ transition_sync n next ts (inr h) k =
     (sym (ap begins_part (first_of h)) ∙ k))
 
 pub transition_local : (n : ℕ) (next : TokenKind) (ts : Tokens) → transition_rest n next ts
-    → begins_part (kind_or next ts) ≡ false → guarded_text n next ts
+    → begins_part (kind_or next ts) ≡ false → guarded_tokens n next ts
 transition_local n next ts (inl h) k =
     let q : true ≡ false = sym (begins_part_from (kind_or next ts) (ap is_part (first_of h ∙ first_of h.first ∙ first_of h.first.first) ∙ one_kind h.first.first.first)) ∙ k in absurd (cc)
 transition_local n next ts (inr h) k = h
@@ -328,24 +329,25 @@ pub transition_kind : (n : ℕ) (next : TokenKind) (ts : Tokens) → transition_
 transition_kind n next ts h = then_kind h
 
 pub local_made : (n : ℕ) (name : NameId) (at : Place) (guard : RawExpr) (action : Instr) {old a b new : Tokens}
-    → Spans (IsPlacedName (name, at)) old a → Spans (token (Sign COLON)) a b
-    → Spans (Node (IsExpr n) guard ▸ token (Sign ARROW) ▸ IsInstr n action) b new
-    → Spans (IsTransition n (member.Local name at guard action)) old new
+    → Spans (ReadsPlacedName (name, at)) old a → Spans (token (Sign COLON)) a b
+    → Spans (Node (ReadsExpr n) guard ▸ token (Sign ARROW) ▸ ReadsInstr n action) b new
+    → Spans (ReadsTransition n (member.Local name at guard action)) old new
 local_made n name at guard action s t g =
     spans_map (spans_then s (spans_then t g))
     (λ next ts h. local name at guard action refl
     (then_map h (λ next ts j. j) (λ next ts j. then_unassoc
     (then_map j (λ next ts k. k) (λ next ts k. then_unassoc k)))))
 
-pub moves_transition : (n m : ℕ) → n ≤ m → (t : Member) → Moves (IsTransition n t) (transition_of m)
+pub moves_transition : (n m : ℕ) → n ≤ m → (t : Member) → Moves (ReadsTransition n t) (transition_of m)
 moves_transition n m l t = λ next next' ts y h. by_case next next' ts y h
   where
-    by_case : (next next' : TokenKind) (ts : Tokens) → May next next' → IsTransition n t next ts
+    by_case : (next next' : TokenKind) (ts : Tokens) → May next next' → ReadsTransition n t next ts
         → transition_of m next' ts
     by_case next next' ts y (sync name at parts e h) =
         turns_then (turns_placed (name, at))
         (λ next next' ts j. then_map (turns_then turns_token
-        (turns_then (turns_list IsPart part_text (Sign AMPERSAND) turns_part parts.items) turns_token) next next' ts
+        (turns_then (turns_list ReadsPart part_tokens (Sign AMPERSAND) turns_part parts.items) turns_token) next next'
+        ts
         j) (λ next ts i. i) (λ next ts i. inl i)) next next' ts h
     by_case next next' ts y (local name at guard action e h) =
         moves_then (moves_of (turns_placed (name, at)))
@@ -354,7 +356,7 @@ moves_transition n m l t = λ next next' ts y h. by_case next next' ts y h
         (moves_instr n m l action) next next' ts y j)) (λ next ts i. i) (λ next ts i. inr (then_assoc i))) next
         next' ts y h
 
-pub some_guarded : (m : ℕ) → Begins (guarded_text m) []
+pub some_guarded : (m : ℕ) → Begins (guarded_tokens m) []
 some_guarded m = begins_then (some_expr m) (begins_then (begins_token (Sign ARROW)) (some_instr m))
 
 pub some_transition_rest : (m : ℕ) → Begins (transition_rest m) []

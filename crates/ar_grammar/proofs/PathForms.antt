@@ -6,8 +6,8 @@ use Rattle.ar_lexer.specs.declared.signs.TheConstants.{DOT, COMMA}
 use Rattle.ar_lexer.specs.declared.words.TheConstants.{OWNER, MAIN}
 use Rattle.ar_syntax.specs.declared.paths.PathStart.TheVariants.{Here, Owner, Main}
 use Rattle.ar_base.specs.Numbers.{NameId}
-use Rattle.ar_grammar.specs.Words.{Form, Tokens, kind_or, token, nothing, ◌▸◌, each, separated, StandsAt, Has, place_at}
-use Rattle.ar_grammar.specs.Paths.{IsName, IsPlacedName, AreNames, IsStart, IsPath}
+use Rattle.ar_grammar.specs.Words.{Form, Tokens, kind_or, token, nothing, ◌▸◌, each, separated_by, StandsAt, ReadsSome, place_at}
+use Rattle.ar_grammar.specs.Paths.{ReadsName, ReadsPlacedName, ReadsNames, ReadsStart, ReadsPath}
 use Rattle.ar_grammar.specs.Results.{Spans, kind_at, is_name, is_word}
 use Rattle.std.specs.Prelude.{Vec}
 use Rattle.std.specs.declared.alloc.Global.{Global}
@@ -16,31 +16,31 @@ use Rattle.ar_syntax.specs.declared.paths.PathStart.{PathStart}
 use Rattle.ar_grammar.specs.declared.lexeme.Lexeme.{Lexeme}
 use Rattle.ar_grammar.proofs.Finding.{apart, fails, then_kind, spans_then}
 
-pub name_token : (next : TokenKind) (ts : Tokens) → Has IsName next ts → token Name next ts
+pub name_token : (next : TokenKind) (ts : Tokens) → ReadsSome ReadsName next ts → token Name next ts
 name_token next ts (x, h) = record { one = h.one; alone = h.alone; of_kind = h.of_kind }
 
-pub placed_token : (next : TokenKind) (ts : Tokens) → Has IsPlacedName next ts → token Name next ts
+pub placed_token : (next : TokenKind) (ts : Tokens) → ReadsSome ReadsPlacedName next ts → token Name next ts
 placed_token next ts (x, h) = record { one = h.one; alone = h.alone; of_kind = h.of_kind }
 
-pub start_owner : (next : TokenKind) (ts : Tokens) → Has IsStart next ts → is_name next ≡ true
+pub start_owner : (next : TokenKind) (ts : Tokens) → ReadsSome ReadsStart next ts → is_name next ≡ true
     → kind_or next ts ≡ Reserved OWNER → (token (Reserved OWNER) ▸ token (Sign DOT)) next ts
 start_owner next ts (Here, h) s k = fails is_name s (sym (ap (kind_or next) h) ∙ k) refl
 start_owner next ts (Owner, h) s k = h
 start_owner next ts (Main, h) s k = apart (is_word MAIN) (then_kind h) k refl refl
 
-pub start_main : (next : TokenKind) (ts : Tokens) → Has IsStart next ts → is_name next ≡ true
+pub start_main : (next : TokenKind) (ts : Tokens) → ReadsSome ReadsStart next ts → is_name next ≡ true
     → kind_or next ts ≡ Reserved MAIN → (token (Reserved MAIN) ▸ token (Sign DOT)) next ts
 start_main next ts (Here, h) s k = fails is_name s (sym (ap (kind_or next) h) ∙ k) refl
 start_main next ts (Owner, h) s k = apart (is_word OWNER) (then_kind h) k refl refl
 start_main next ts (Main, h) s k = h
 
-pub start_here : (next : TokenKind) (ts : Tokens) → Has IsStart next ts → (kind_or next ts ≡ Reserved OWNER → ⊥)
-    → (kind_or next ts ≡ Reserved MAIN → ⊥) → nothing next ts
+pub start_here : (next : TokenKind) (ts : Tokens) → ReadsSome ReadsStart next ts → (kind_or next ts ≡ Reserved OWNER
+    → ⊥) → (kind_or next ts ≡ Reserved MAIN → ⊥) → nothing next ts
 start_here next ts (Here, h) none nor = h
 start_here next ts (Owner, h) none nor = absurd (none (then_kind h))
 start_here next ts (Main, h) none nor = absurd (nor (then_kind h))
 
-pub spans_name : {old new : Tokens} {t : Lexeme} → (old ≡ t ∷ new) × (t.kind ≡ Name) → Spans (IsName t.name) old new
+pub spans_name : {old new : Tokens} {t : Lexeme} → (old ≡ t ∷ new) × (t.kind ≡ Name) → Spans (ReadsName t.name) old new
 spans_name {t = t} f = record {
   front = t ∷ [];
   split = f.0;
@@ -57,11 +57,11 @@ pushed_more {more = more} e e' = e' ∙ ap (λ (xs : List _). xs ++ more) e
 
 -- names, from the first and the rest
 pub names_made : {old mid new : Tokens} {x : NameId × Place} (more : List (NameId × Place))
-    {items : List (NameId × Place)} → Spans (IsPlacedName x) old mid
-    → Spans (each (λ y. token (Sign COMMA) ▸ IsPlacedName y) more) mid new → items ≡ x ∷ more
-    → Spans (AreNames items) old new
+    {items : List (NameId × Place)} → Spans (ReadsPlacedName x) old mid
+    → Spans (each (λ y. token (Sign COMMA) ▸ ReadsPlacedName y) more) mid new → items ≡ x ∷ more
+    → Spans (ReadsNames items) old new
 names_made {old} {mid} {new} more a b e =
-    subst (λ (xs : List (NameId × Place)). Spans (AreNames xs) old new) (sym e) (spans_then a b)
+    subst (λ (xs : List (NameId × Place)). Spans (ReadsNames xs) old new) (sym e) (spans_then a b)
 
 pub append_some : {X : Type 0} (a : List X) (t : X) (b : List X) → a ++ t ∷ b ≡ [] → ⊥
 append_some [] t b e = absurd (cc)
@@ -74,7 +74,7 @@ stands_there end [] old new e some = absurd (some refl)
 stands_there end (t ∷ ts) old new e some = ap (place_at end) e
 
 path_some : (start : PathStart) {n : NameId} {X : Form} {next : TokenKind} {ts : Tokens}
-    → (IsStart start ▸ IsName n ▸ X) next ts → ts ≡ [] → ⊥
+    → (ReadsStart start ▸ ReadsName n ▸ X) next ts → ts ≡ [] → ⊥
 path_some start h z =
     append_some h.front h.second.first.one h.second.back
     (sym (h.split ∙ ap (λ (t : Tokens). h.front ++ t)
@@ -83,9 +83,9 @@ path_some start h z =
 -- a path, from its start, its first name and the rest
 pub path_made : (end : Place) (start : PathStart) (v : Vec NameId Global) (more : List NameId)
     {old mid rest new : Tokens} {at : Place} {first : Lexeme} →
-    at ≡ place_at end old → Spans (IsStart start) old mid → (mid ≡ first ∷ rest) × (first.kind ≡ Name)
-    → Spans (each (λ x. token (Sign DOT) ▸ IsName x) more) rest new → v.items ≡ first.name ∷ more →
-    Spans (IsPath (record { start = start; names = v; at = at })) old new
+    at ≡ place_at end old → Spans (ReadsStart start) old mid → (mid ≡ first ∷ rest) × (first.kind ≡ Name)
+    → Spans (each (λ x. token (Sign DOT) ▸ ReadsName x) more) rest new → v.items ≡ first.name ∷ more →
+    Spans (ReadsPath (record { start = start; names = v; at = at })) old new
 path_made end start v more {old} {mid} {rest} {new} {at} {first} a s f m e =
     let whole = spans_then s (spans_then (spans_name f) m) in
     record {
@@ -94,7 +94,7 @@ path_made end start v more {old} {mid} {rest} {new} {at} {first} a s f m e =
       form = record {
         there = subst (λ (p : Place). StandsAt p whole.front) (sym a)
             (stands_there end whole.front old new whole.split (path_some start whole.form));
-        form = subst (λ (xs : List NameId). (IsStart start ▸ separated (Sign DOT) IsName xs) (kind_at new) whole.front)
-            (sym e) whole.form;
+        form = subst (λ (xs : List NameId). (ReadsStart start ▸ separated_by (Sign DOT) ReadsName xs) (kind_at new)
+            whole.front) (sym e) whole.form;
       };
     }

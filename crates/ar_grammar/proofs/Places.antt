@@ -6,7 +6,7 @@ use Rattle.ar_grammar.specs.declared.lexeme.Lexeme.{Lexeme}
 use Rattle.ar_grammar.specs.declared.lexeme.Refusal.{Refusal}
 use Rattle.ar_grammar.specs.declared.lexeme.Refusal.TheVariants.{Syntax, Depth}
 use Rattle.ar_grammar.specs.Words.{Tokens, deep, never}
-use Rattle.ar_grammar.specs.Texts.{model_text, Viable, FitsNesting, Ends, IsSyntaxAt, IsDepthAt}
+use Rattle.ar_grammar.specs.Texts.{model_tokens, Viable, FitsNesting, Ends, IsSyntaxAt, IsDepthAt}
 use Rattle.ar_grammar.specs.Results.{kind_at, Plain, Arrives, Finds, Stands, before, through, is_end}
 use Rattle.ar_grammar.proofs.Filling.{up, Filled, fills_model, not_cut, to_fill, viable_of, filled_front}
 
@@ -14,47 +14,47 @@ plain_front : (front rest : Tokens) → Plain (front ++ rest) → Plain front
 plain_front [] rest p = tt
 plain_front (t ∷ front) rest p = (p.0, plain_front front rest p.1)
 
-pub fits_before : {n : ℕ} {e : Refusal} {old new : Tokens} → (s : Stands (model_text deep) n e old new)
+pub fits_before : {n : ℕ} {e : Refusal} {old new : Tokens} → (s : Stands (model_tokens deep) n e old new)
     → FitsNesting n s.front
 fits_before {n} s = let b = s.tells n [] (before refl refl) in
     record {
       more = b.more;
-      reads = subst (λ (t : Tokens). model_text deep n End (t ++ b.more)) (append-nil s.front)
+      reads = subst (λ (t : Tokens). model_tokens deep n End (t ++ b.more)) (append-nil s.front)
           (b.form End);
     }
 
 -- a text of the grammar is one that may be cut
-as_deep : (m : ℕ) (front more : Tokens) → Plain front → model_text never m End (front ++ more)
-    → (more' : Tokens) × model_text deep (up 0 m) End (front ++ more')
+as_deep : (m : ℕ) (front more : Tokens) → Plain front → model_tokens never m End (front ++ more)
+    → (more' : Tokens) × model_tokens deep (up 0 m) End (front ++ more')
 as_deep m front more q h =
     let g = fills_model (not_cut deep) m End (front ++ more) h in
     let r = filled_front front more g.text q g.filled in
-    (r.0, subst (λ (t : Tokens). model_text deep (up 0 m) End t) r.1 (g.form End (λ z. z)))
+    (r.0, subst (λ (t : Tokens). model_tokens deep (up 0 m) End t) r.1 (g.form End (λ z. z)))
 
 -- What a call on a whole text found, and the front that it passed
 module _ {A : Type 0} {n : ℕ} {r : Result A Refusal} {old new : Tokens} (front : Tokens) (passed : old ≡ front ++ new)
-    (p : Plain old) (f : Finds (model_text deep) is_end n r old new) where
+    (p : Plain old) (f : Finds (model_tokens deep) is_end n r old new) where
   same_front : f.front ≡ front
   same_front = append_cancel_right f.front front new (sym f.passed ∙ passed)
 
   -- where the call would end
-  none_on : (m : ℕ) (t : Lexeme) (rest more : Tokens) → new ≡ t ∷ rest → model_text deep m End (front ++ t ∷ more)
+  none_on : (m : ℕ) (t : Lexeme) (rest more : Tokens) → new ≡ t ∷ rest → model_tokens deep m End (front ++ t ∷ more)
       → Arrives n m r (t ∷ more) []
   none_on m t rest more w h = f.only p m (t ∷ more) (front ++ t ∷ more) [] (sym (ap kind_at w)) h
       (ap (λ (x : Tokens). x ++ t ∷ more) same_front ∙ sym (append-nil (front ++ t ∷ more))) refl
 
-  none_end : (m : ℕ) → new ≡ [] → model_text deep m End front → Arrives n m r [] []
+  none_end : (m : ℕ) → new ≡ [] → model_tokens deep m End front → Arrives n m r [] []
   none_end m w h = f.only p m [] front [] (sym (ap kind_at w)) h (ap (λ (x : Tokens). x ++ []) same_front) refl
 
   whole : Plain (front ++ new)
   whole = subst Plain passed p
 
-  none_at_end : (m : ℕ) → new ≡ [] → model_text never m End front → Arrives n (up 0 m) r [] []
+  none_at_end : (m : ℕ) → new ≡ [] → model_tokens never m End front → Arrives n (up 0 m) r [] []
   none_at_end m w h =
       let g = fills_model (not_cut deep) m End front h in
       let q = filled_front front [] g.text (plain_front front new whole)
       (subst (λ (t : Tokens). Filled t g.text) (sym (append-nil front)) g.filled) in
-      none_end (up 0 m) w (subst (λ (t : Tokens). model_text deep (up 0 m) End t)
+      none_end (up 0 m) w (subst (λ (t : Tokens). model_tokens deep (up 0 m) End t)
       (q.1 ∙ ap (λ (t : Tokens). front ++ t) q.2 ∙ append-nil front) (g.form End (λ z. z)))
 
   plain_next : (t : Lexeme) (rest : Tokens) → new ≡ t ∷ rest → Plain (front ++ t ∷ [])
@@ -67,12 +67,13 @@ module _ {A : Type 0} {n : ℕ} {r : Result A Refusal} {old new : Tokens} (front
       let d = as_deep v.n (front ++ t ∷ []) v.more (plain_next t rest w) v.reads in (
         d.0,
         none_on (up 0 v.n) t rest d.0 w
-            (subst (λ (x : Tokens). model_text deep (up 0 v.n) End x) (append_assoc front (t ∷ []) d.0) d.1),
+            (subst (λ (x : Tokens). model_tokens deep (up 0 v.n) End x) (append_assoc front (t ∷ []) d.0) d.1),
       )
 
 -- Where a call on a whole text gives Syntax, no text goes on with the token there, and none before is too deep.
 pub syntax_there : {A : Type 0} {n : ℕ} {old new : Tokens} (p : Plain old)
-    (f : Finds {A = A} (model_text deep) is_end n (Err Syntax) old new) (s : Stands (model_text deep) n Syntax old new)
+    (f : Finds {A = A} (model_tokens deep) is_end n (Err Syntax) old new)
+    (s : Stands (model_tokens deep) n Syntax old new)
     → IsSyntaxAt n s.front new
 syntax_there {new = new} p f s = record { fits = fits_before s; ends = by_next new refl }
   where
@@ -82,13 +83,13 @@ syntax_there {new = new} p f s = record { fits = fits_before s; ends = by_next n
 
 -- Where it took a text and more tokens are left, no text goes on with the next of them.
 pub syntax_behind : {A : Type 0} {x : A} {n : ℕ} {old new : Tokens} (front : Tokens) → old ≡ front ++ new → Plain old
-    → Finds (model_text deep) is_end n (Ok x) old new → model_text deep n End front → (new ≡ [] → ⊥)
+    → Finds (model_tokens deep) is_end n (Ok x) old new → model_tokens deep n End front → (new ≡ [] → ⊥)
     → IsSyntaxAt n front new
 syntax_behind {n = n} {new = new} front e p f h some =
     record {
       fits = record {
         more = [];
-        reads = subst (λ (t : Tokens). model_text deep n End t) (sym (append-nil front)) h;
+        reads = subst (λ (t : Tokens). model_tokens deep n End t) (sym (append-nil front)) h;
       };
       ends = by_next new refl;
     }
@@ -99,7 +100,8 @@ syntax_behind {n = n} {new = new} front e p f h some =
 
 -- Where it gives Depth, some text goes on with the token there, which is the first that is too deep.
 pub depth_there : {A : Type 0} {n : ℕ} {old new : Tokens} (p : Plain old)
-    (f : Finds {A = A} (model_text deep) is_end n (Err Depth) old new) (s : Stands (model_text deep) n Depth old new)
+    (f : Finds {A = A} (model_tokens deep) is_end n (Err Depth) old new)
+    (s : Stands (model_tokens deep) n Depth old new)
     → IsDepthAt n s.front new
 depth_there {n = n} {new = new} p f s = by_next new refl
   where
@@ -113,7 +115,7 @@ depth_there {n = n} {new = new} p f s = by_next new refl
           is = w;
           fits = fits_before s;
           viable = viable_of (n + 3) (s.front ++ t ∷ []) b.more (plain_next s.front s.passed p f t rest w) (b.form End);
-          too_deep = λ x. let a = none_on s.front s.passed p f n t rest x.more w (subst (λ (y : Tokens). model_text deep n End y) (append_assoc s.front (t ∷ []) x.more) x.reads) in absurd (omega (arith, a));
+          too_deep = λ x. let a = none_on s.front s.passed p f n t rest x.more w (subst (λ (y : Tokens). model_tokens deep n End y) (append_assoc s.front (t ∷ []) x.more) x.reads) in absurd (omega (arith, a));
         }
 
 -- A text is refused at one place at most
@@ -139,7 +141,7 @@ no_longer n front t x rest rest' p r r' =
     let f = refusal_fits n (front ++ t ∷ x) rest' r' in
     refusal_ends n front t rest p r (record {
       more = x ++ f.more;
-      reads = subst (λ (y : Tokens). model_text deep n End y)
+      reads = subst (λ (y : Tokens). model_tokens deep n End y)
           (append_assoc front (t ∷ x) f.more ∙ sym (append_assoc front (t ∷ []) (x ++ f.more))) f.reads;
     })
 
@@ -182,25 +184,25 @@ not_both n front rest s d = by_next rest d.is s.ends
 
 -- A text that is read is not refused
 
-text_whole : (n : ℕ) (all : Tokens) → Plain all → model_text deep n End all → model_text never (up 3 n) End all
+text_whole : (n : ℕ) (all : Tokens) → Plain all → model_tokens deep n End all → model_tokens never (up 3 n) End all
 text_whole n all p h =
     let f = fills_model to_fill n End all h in
     let r = filled_front all [] f.text p (subst (λ (t : Tokens). Filled t f.text) (sym (append-nil all)) f.filled) in
-    subst (λ (t : Tokens). model_text never (up 3 n) End t) (r.1 ∙ ap (λ (t : Tokens). all ++ t) r.2 ∙ append-nil all)
+    subst (λ (t : Tokens). model_tokens never (up 3 n) End t) (r.1 ∙ ap (λ (t : Tokens). all ++ t) r.2 ∙ append-nil all)
     (f.form End (λ z. z))
 
-pub text_stands : (n : ℕ) (all front rest : Tokens) → Plain all → model_text deep n End all → all ≡ front ++ rest
+pub text_stands : (n : ℕ) (all front rest : Tokens) → Plain all → model_tokens deep n End all → all ≡ front ++ rest
     → IsRefusal n front rest → ⊥
 text_stands n all front rest p h e r =
-    by_next rest (subst (λ (t : Tokens). model_text deep n End t) e h) (subst Plain e p) r
+    by_next rest (subst (λ (t : Tokens). model_tokens deep n End t) e h) (subst Plain e p) r
   where
-    by_next : (rest : Tokens) → model_text deep n End (front ++ rest) → Plain (front ++ rest) → IsRefusal n front rest
+    by_next : (rest : Tokens) → model_tokens deep n End (front ++ rest) → Plain (front ++ rest) → IsRefusal n front rest
         → ⊥
     by_next [] h p (inl r) = r.ends (up 3 n)
         (text_whole n front (subst Plain (append-nil front) p)
-        (subst (λ (t : Tokens). model_text deep n End t) (append-nil front) h))
+        (subst (λ (t : Tokens). model_tokens deep n End t) (append-nil front) h))
     by_next [] h p (inr r) = let q : [] ≡ r.t ∷ r.back = r.is in absurd (cc)
     by_next (t ∷ back) h p r =
         let w : front ++ t ∷ back ≡ (front ++ t ∷ []) ++ back = sym (append_assoc front (t ∷ []) back) in
         refusal_ends n front t back (plain_front (front ++ t ∷ []) back (subst Plain w p)) r
-        (record { more = back; reads = subst (λ (x : Tokens). model_text deep n End x) w h })
+        (record { more = back; reads = subst (λ (x : Tokens). model_tokens deep n End x) w h })

@@ -11,9 +11,9 @@ use Rattle.ar_syntax.specs.declared.expressions.RawForm.{RawForm}
 use Rattle.ar_syntax.specs.declared.expressions.RawForm.TheVariants as form
 use Rattle.ar_grammar.specs.declared.terms.Call.{Call}
 use Rattle.ar_grammar.specs.declared.terms.Call.TheVariants.{Least, Greatest, Count}
-use Rattle.ar_grammar.specs.Words.{Form, Tokens, token, ◌▸◌, between, each, Has}
-use Rattle.ar_grammar.specs.Paths.{IsPath}
-use Rattle.ar_grammar.specs.Expressions.{Node, IsCase, IsSwitch, AreOperands, IsPrimary, truth, falsehood, whole, real, path, brackets, least, greatest, count, switch, IsExpr}
+use Rattle.ar_grammar.specs.Words.{Form, Tokens, token, ◌▸◌, between, each, ReadsSome}
+use Rattle.ar_grammar.specs.Paths.{ReadsPath}
+use Rattle.ar_grammar.specs.Expressions.{Node, ReadsCase, ReadsSwitch, ReadsOperands, ReadsPrimary, truth, falsehood, whole, real, path, brackets, least, greatest, count, switch, ReadsExpr}
 use Rattle.ar_grammar.specs.Chains.{separator_of, chain_of, operand_form, chain_form, ends_operand, ends_chain, IsConstant, word_of, call_of, IsComparison, IsOneCase}
 use Rattle.ar_grammar.specs.Chains as constant
 use Rattle.ar_grammar.specs.Results.{Spans}
@@ -30,16 +30,17 @@ call_begins Greatest = refl
 call_begins Count = refl
 
 as_call : (n : ℕ) {k next : TokenKind} {ts : Tokens} (c : Call) (v : List RawExpr) → k ≡ word_of c
-    → (token k ▸ AreOperands (IsExpr n) v) next ts → (token (word_of c) ▸ Has (AreOperands (IsExpr n))) next ts
+    → (token k ▸ ReadsOperands (ReadsExpr n) v) next ts → (token (word_of c) ▸ ReadsSome (ReadsOperands (ReadsExpr n)))
+    next ts
 as_call n {next = next} {ts = ts} c v q h =
-    then_map (subst (λ (j : TokenKind). (token j ▸ AreOperands (IsExpr n) v) next ts) q h) (λ next ts j. j)
+    then_map (subst (λ (j : TokenKind). (token j ▸ ReadsOperands (ReadsExpr n) v) next ts) q h) (λ next ts j. j)
     (λ next ts j. (v, j))
 
 other_call : {X : Type 0} {k j : TokenKind} (c : Call) → k ≡ j → k ≡ word_of c → begins_call j ≡ false → X
 other_call c a b f = let x : true ≡ false = sym (call_begins c) ∙ ap begins_call (sym b ∙ a) ∙ f in absurd (cc)
 
 constant_is : (Expr : RawForm → Form) (f : RawForm) (k : TokenKind) → IsConstant f k → (next : TokenKind) (ts : Tokens)
-    → token k next ts → IsPrimary Expr f next ts
+    → token k next ts → ReadsPrimary Expr f next ts
 constant_is Expr f k (constant.truth e q) next ts h = truth e (subst (λ (j : TokenKind). token j next ts) q h)
 constant_is Expr f k (constant.falsehood e q) next ts h = falsehood e (subst (λ (j : TokenKind). token j next ts) q h)
 constant_is Expr f k (constant.whole n e q) next ts h = whole n e (subst (λ (j : TokenKind). token j next ts) q h)
@@ -52,56 +53,58 @@ constant_begins f k (constant.whole n e q) = ap begins_constant q
 constant_begins f k (constant.real e q) = ap begins_constant q
 
 pub constant_made : (n : ℕ) (f : RawForm) (k : TokenKind) (e : RawExpr) {old new : Tokens} → IsConstant f k
-    → Places e f old new → Spans (token k) old new → Spans (Node (IsPrimary (IsExpr n)) e) old new
-constant_made n f k e c p s = node_made (token k) (IsPrimary (IsExpr n)) e f p s (token_some k)
-    (constant_is (IsExpr n) f k c)
+    → Places e f old new → Spans (token k) old new → Spans (Node (ReadsPrimary (ReadsExpr n)) e) old new
+constant_made n f k e c p s = node_made (token k) (ReadsPrimary (ReadsExpr n)) e f p s (token_some k)
+    (constant_is (ReadsExpr n) f k c)
 
 pub brackets_made : (n : ℕ) (inner e : RawExpr) {old new : Tokens} → Places e inner.form old new
-    → Spans (between (Sign OPEN_PARENTHESIS) (Sign CLOSE_PARENTHESIS) (Node (IsExpr n) inner)) old new
-    → Spans (Node (IsPrimary (IsExpr n)) e) old new
+    → Spans (between (Sign OPEN_PARENTHESIS) (Sign CLOSE_PARENTHESIS) (Node (ReadsExpr n) inner)) old new
+    → Spans (Node (ReadsPrimary (ReadsExpr n)) e) old new
 brackets_made n inner e p s =
-    node_made (between (Sign OPEN_PARENTHESIS) (Sign CLOSE_PARENTHESIS) (Node (IsExpr n) inner)) (IsPrimary (IsExpr n))
+    node_made (between (Sign OPEN_PARENTHESIS) (Sign CLOSE_PARENTHESIS) (Node (ReadsExpr n) inner))
+    (ReadsPrimary (ReadsExpr n))
     e inner.form p s
     (λ next ts h. then_some h (token_some (Sign OPEN_PARENTHESIS)))
     (λ next ts h. brackets (then_map h (λ next ts j. j)
     (λ next ts j. then_map j (λ next ts i. i.form) (λ next ts i. i))))
 
-pub switch_in : (n : ℕ) (e : RawExpr) (next : TokenKind) (ts : Tokens) → Node (IsSwitch (IsExpr n)) e next ts
-    → Node (IsPrimary (IsExpr n)) e next ts
+pub switch_in : (n : ℕ) (e : RawExpr) (next : TokenKind) (ts : Tokens) → Node (ReadsSwitch (ReadsExpr n)) e next ts
+    → Node (ReadsPrimary (ReadsExpr n)) e next ts
 switch_in n e next ts h = record { there = h.there; span_is = h.span_is; form = switch h.form }
 
 call_is : (n : ℕ) (c : Call) (v : Vec RawExpr Global) (next : TokenKind) (ts : Tokens)
-    → (token (word_of c) ▸ AreOperands (IsExpr n) v.items) next ts → IsPrimary (IsExpr n) (call_of c v) next ts
+    → (token (word_of c) ▸ ReadsOperands (ReadsExpr n) v.items) next ts
+    → ReadsPrimary (ReadsExpr n) (call_of c v) next ts
 call_is n Least v next ts h = least v refl h
 call_is n Greatest v next ts h = greatest v refl h
 call_is n Count v next ts h = count v refl h
 
 pub call_made : (n : ℕ) (c : Call) (v : Vec RawExpr Global) (e : RawExpr) {old mid new : Tokens}
     → Places e (call_of c v) old new → Spans (token (word_of c)) old mid
-    → Spans (AreOperands (IsExpr n) v.items) mid new → Spans (Node (IsPrimary (IsExpr n)) e) old new
+    → Spans (ReadsOperands (ReadsExpr n) v.items) mid new → Spans (Node (ReadsPrimary (ReadsExpr n)) e) old new
 call_made n c v e p a b =
-    node_made (token (word_of c) ▸ AreOperands (IsExpr n) v.items) (IsPrimary (IsExpr n)) e (call_of c v) p
+    node_made (token (word_of c) ▸ ReadsOperands (ReadsExpr n) v.items) (ReadsPrimary (ReadsExpr n)) e (call_of c v) p
     (spans_then a b)
     (λ next ts h. then_some h (token_some (word_of c))) (call_is n c v)
 
-path_some : (p : Path) (next : TokenKind) (ts : Tokens) → IsPath p next ts → ts ≡ [] → ⊥
+path_some : (p : Path) (next : TokenKind) (ts : Tokens) → ReadsPath p next ts → ts ≡ [] → ⊥
 path_some p next [] h z = h.there
 path_some p next (t ∷ ts) h z = absurd (cc)
 
 pub path_made_primary : (n : ℕ) (p : Path) (e : RawExpr) {old new : Tokens} → Places e (form.Path p) old new
-    → Spans (IsPath p) old new → Spans (Node (IsPrimary (IsExpr n)) e) old new
-path_made_primary n p e q s = node_made (IsPath p) (IsPrimary (IsExpr n)) e (form.Path p) q s (path_some p)
+    → Spans (ReadsPath p) old new → Spans (Node (ReadsPrimary (ReadsExpr n)) e) old new
+path_made_primary n p e q s = node_made (ReadsPath p) (ReadsPrimary (ReadsExpr n)) e (form.Path p) q s (path_some p)
     (λ next ts h. path p refl h)
 
 -- "(" Expr { "," Expr } ")"
 
 -- the first of many, and then what ends them
 pub operands_made : (n : ℕ) (first : RawExpr) (rest items : List RawExpr) {old mid last end new : Tokens}
-    → items ≡ first ∷ rest → Spans (token (Sign OPEN_PARENTHESIS)) old mid → Spans (Node (IsExpr n) first) mid last
-    → Spans (each (λ x. token (Sign COMMA) ▸ Node (IsExpr n) x) rest) last end
-    → Spans (token (Sign CLOSE_PARENTHESIS)) end new → Spans (AreOperands (IsExpr n) items) old new
+    → items ≡ first ∷ rest → Spans (token (Sign OPEN_PARENTHESIS)) old mid → Spans (Node (ReadsExpr n) first) mid last
+    → Spans (each (λ x. token (Sign COMMA) ▸ Node (ReadsExpr n) x) rest) last end
+    → Spans (token (Sign CLOSE_PARENTHESIS)) end new → Spans (ReadsOperands (ReadsExpr n) items) old new
 operands_made n first rest items {old} {new = new} e o a b c =
-    subst (λ (xs : List RawExpr). Spans (AreOperands (IsExpr n) xs) old new) (sym e)
+    subst (λ (xs : List RawExpr). Spans (ReadsOperands (ReadsExpr n) xs) old new) (sym e)
     (spans_then o (spans_then (spans_then a b) c))
 
 -- "switch" "{" Case { Case } "default" ":" Expr "}"
@@ -111,12 +114,13 @@ operands_made n first rest items {old} {new = new} e o a b c =
 pub switch_made : (n : ℕ) (v : Vec (RawExpr × RawExpr) Global) (d : Box RawExpr Global) (other e : RawExpr)
     {old a b c m new : Tokens} → 1 ≤ length v.items → d.value ≡ other → Places e (form.Choose v d) old new →
     Spans (token (Reserved SWITCH)) old a → Spans (token (Sign OPEN_BRACE)) a b
-    → Spans (each (IsCase (IsExpr n)) v.items) b c → Spans (token (Reserved DEFAULT)) c m
-    → Spans (between (Sign COLON) (Sign CLOSE_BRACE) (Node (IsExpr n) other)) m new
-    → Spans (Node (IsSwitch (IsExpr n)) e) old new
+    → Spans (each (ReadsCase (ReadsExpr n)) v.items) b c → Spans (token (Reserved DEFAULT)) c m
+    → Spans (between (Sign COLON) (Sign CLOSE_BRACE) (Node (ReadsExpr n) other)) m new
+    → Spans (Node (ReadsSwitch (ReadsExpr n)) e) old new
 switch_made n v d other e some same p s1 s2 s3 s4 s5 =
-    node_made (token (Reserved SWITCH) ▸ token (Sign OPEN_BRACE) ▸ each (IsCase (IsExpr n)) v.items ▸ token
-    (Reserved DEFAULT) ▸ between (Sign COLON) (Sign CLOSE_BRACE) (Node (IsExpr n) other)) (IsSwitch (IsExpr n)) e
+    node_made (token (Reserved SWITCH) ▸ token (Sign OPEN_BRACE) ▸ each (ReadsCase (ReadsExpr n)) v.items ▸ token
+    (Reserved DEFAULT) ▸ between (Sign COLON) (Sign CLOSE_BRACE) (Node (ReadsExpr n) other)) (ReadsSwitch (ReadsExpr n))
+    e
     (form.Choose v d) p
     (spans_then s1 (spans_then s2 (spans_then s3 (spans_then s4 s5))))
     (λ next ts h. then_some h (token_some (Reserved SWITCH)))
@@ -125,14 +129,15 @@ switch_made n v d other e some same p s1 s2 s3 s4 s5 =
       other = d;
       is = refl;
       some = some;
-      reads = subst (λ (x : RawExpr). (token (Reserved SWITCH) ▸ token (Sign OPEN_BRACE) ▸ each (IsCase (IsExpr n))
-          v.items ▸ token (Reserved DEFAULT) ▸ between (Sign COLON) (Sign CLOSE_BRACE) (Node (IsExpr n) x)) next ts)
+      reads = subst (λ (x : RawExpr).
+          (token (Reserved SWITCH) ▸ token (Sign OPEN_BRACE) ▸ each (ReadsCase (ReadsExpr n))
+          v.items ▸ token (Reserved DEFAULT) ▸ between (Sign COLON) (Sign CLOSE_BRACE) (Node (ReadsExpr n) x)) next ts)
           (sym same) h;
     })
 
 -- no cases take no tokens
 pub no_cases : (n : ℕ) (xs : List (RawExpr × RawExpr)) {old new : Tokens} → length xs ≡ 0
-    → Spans (each (IsCase (IsExpr n)) xs) old new → new ≡ old
+    → Spans (each (ReadsCase (ReadsExpr n)) xs) old new → new ≡ old
 no_cases n [] {old} {new} e s = sym (s.split ∙ ap (λ (t : Tokens). t ++ new) s.form)
 no_cases n (x ∷ xs) e s = absurd (omega (arith, e))
 

@@ -12,16 +12,16 @@ use Rattle.ar_grammar.specs.declared.terms.Call.{Call}
 use Rattle.ar_grammar.specs.declared.terms.Call.TheVariants.{Least, Greatest, Count}
 use Rattle.ar_grammar.specs.declared.terms.Chain.{Chain}
 use Rattle.ar_grammar.specs.declared.terms.Chain.TheVariants.{Any}
-use Rattle.ar_grammar.specs.Words.{Form, Tokens, kind_or, token, no_kind, deep, nothing, ◌▸◌, ◌∣◌, between, many, Has}
-use Rattle.ar_grammar.specs.Paths.{IsStart}
+use Rattle.ar_grammar.specs.Words.{Form, Tokens, kind_or, token, no_kind, deep, nothing, ◌▸◌, ◌∣◌, between, many, ReadsSome}
+use Rattle.ar_grammar.specs.Paths.{ReadsStart}
 use Rattle.ar_grammar.specs.Expressions.{sign_of}
 use Rattle.ar_grammar.specs.Chains.{separator_of, word_of, ends_operand, ends_chain}
-use Rattle.ar_grammar.specs.Texts.{one_of, path_text, plus_text, product_text, sum_text, relation_text, compare_text, or_text, if_text, switch_text, operands_text, primary_text, constant, path, brackets, call, switch, expr_text, not_text, minus_text, begins_constant, begins_call}
+use Rattle.ar_grammar.specs.Texts.{one_of, path_tokens, plus_tokens, product_tokens, sum_tokens, relation_tokens, compare_tokens, or_tokens, if_tokens, switch_tokens, operands_tokens, primary_tokens, constant, path, brackets, call, switch, expr_tokens, not_tokens, minus_tokens, begins_constant, begins_call}
 use Rattle.ar_grammar.specs.Results.{is_sign, is_word, begins_path, begins_primary, begins_minus, begins_not, begins_expr, begins_term, is_relation, anything, ends_product, ends_sum, ends_not, ends_expr, ends_list, ends_cases}
 use Rattle.ar_grammar.proofs.Finding.{Follows, inside, kind_join, token_kind, then_kind, apart, fails, follows_many}
 use Rattle.ar_grammar.proofs.ExpressionForms.{then_map, and_left, sign_from, word_from}
 use Rattle.ar_grammar.proofs.ExpressionParts.{sep_ends, chain_ends, relation_ends, relation_is, relation_open, sum_ends}
-use Rattle.ar_grammar.specs.Parts.{operand_text, chain_text, term_text, case_text}
+use Rattle.ar_grammar.specs.Parts.{operand_tokens, chain_tokens, term_tokens, case_tokens}
 
 -- First tokens
 
@@ -52,14 +52,15 @@ starts_then test f = λ next ts h none. ap test (first_of h)
 -- Paths
 
 pub start_first : (test : TokenKind → Bool) → test Name ≡ true → test (Reserved OWNER) ≡ true
-    → test (Reserved MAIN) ≡ true → (next : TokenKind) (ts : Tokens) → Has IsStart next ts → next ≡ Name
+    → test (Reserved MAIN) ≡ true → (next : TokenKind) (ts : Tokens) → ReadsSome ReadsStart next ts → next ≡ Name
     → test (kind_or next ts) ≡ true
 start_first test name owner main next ts (Here, h) k = ap test (ap (kind_or next) h ∙ k) ∙ name
 start_first test name owner main next ts (Owner, h) k = ap test (then_kind h) ∙ owner
 start_first test name owner main next ts (Main, h) k = ap test (then_kind h) ∙ main
 
 pub path_starts : (test : TokenKind → Bool) → test Name ≡ true → test (Reserved OWNER) ≡ true
-    → test (Reserved MAIN) ≡ true → (next : TokenKind) (ts : Tokens) → path_text next ts → test (kind_or next ts) ≡ true
+    → test (Reserved MAIN) ≡ true → (next : TokenKind) (ts : Tokens) → path_tokens next ts
+    → test (kind_or next ts) ≡ true
 path_starts test name owner main next ts h =
     ap test (first_of h) ∙ start_first test name owner main (kind_or next h.back) h.front h.first
     (first_of h.second ∙ token_kind h.second.first)
@@ -103,7 +104,7 @@ call_begins test a b c k e = by_word (call_from k e)
     by_word (Greatest, q) = ap test q ∙ b
     by_word (Count, q) = ap test q ∙ c
 
-pub primary_starts : (Expr : Form) → (next : TokenKind) (ts : Tokens) → primary_text Expr next ts
+pub primary_starts : (Expr : Form) → (next : TokenKind) (ts : Tokens) → primary_tokens Expr next ts
     → begins_primary (kind_or next ts) ≡ true
 primary_starts Expr next ts (constant h) = constant_primary (kind_or next ts) (one_kind h)
 primary_starts Expr next ts (path h) = path_starts begins_primary refl refl refl next ts h
@@ -113,26 +114,26 @@ primary_starts Expr next ts (call h) =
     (one_kind h.first)
 primary_starts Expr next ts (switch h) = ap begins_primary (then_kind h)
 
-pub minus_starts : (n : ℕ) → Starts begins_minus (minus_text deep n)
+pub minus_starts : (n : ℕ) → Starts begins_minus (minus_tokens deep n)
 minus_starts zero next ts h none = absurd (none (token_kind h))
 minus_starts (suc n) next ts (inl h) none = ap begins_minus (then_kind h)
 minus_starts (suc n) next ts (inr h) none =
     or_right (is_sign MINUS (kind_or next ts)) (begins_primary (kind_or next ts))
-    (primary_starts (expr_text deep n) next ts h)
+    (primary_starts (expr_tokens deep n) next ts h)
 
-pub compare_starts : (n : ℕ) → Starts begins_minus (compare_text (sum_text (product_text (minus_text deep n))))
+pub compare_starts : (n : ℕ) → Starts begins_minus (compare_tokens (sum_tokens (product_tokens (minus_tokens deep n))))
 compare_starts n = starts_then begins_minus (starts_then begins_minus (starts_then begins_minus (minus_starts n)))
 
-pub not_starts : (n : ℕ) → Starts begins_not (not_text deep n)
+pub not_starts : (n : ℕ) → Starts begins_not (not_tokens deep n)
 not_starts zero next ts h none = absurd (none (token_kind h))
 not_starts (suc n) next ts (inl h) none = ap begins_not (then_kind h)
 not_starts (suc n) next ts (inr h) none =
     or_right (is_word NOT (kind_or next ts)) (begins_minus (kind_or next ts)) (compare_starts n next ts h none)
 
-pub or_starts : (n : ℕ) → Starts begins_not (or_text (not_text deep n))
+pub or_starts : (n : ℕ) → Starts begins_not (or_tokens (not_tokens deep n))
 or_starts n = starts_then begins_not (starts_then begins_not (not_starts n))
 
-pub expr_starts : (n : ℕ) → Starts begins_expr (expr_text deep n)
+pub expr_starts : (n : ℕ) → Starts begins_expr (expr_tokens deep n)
 expr_starts zero next ts h none = absurd (none (token_kind h))
 expr_starts (suc n) next ts (inl h) none = ap begins_expr (first_of h ∙ then_kind h.first)
 expr_starts (suc n) next ts (inr h) none =
@@ -140,52 +141,53 @@ expr_starts (suc n) next ts (inr h) none =
 
 -- Expr
 
-pub expr_begins : (n : ℕ) (next : TokenKind) (ts : Tokens) → expr_text deep n next ts → (kind_or next ts ≡ no_kind → ⊥)
-    → begins_expr (kind_or next ts) ≡ true
+pub expr_begins : (n : ℕ) (next : TokenKind) (ts : Tokens) → expr_tokens deep n next ts → (kind_or next ts ≡ no_kind
+    → ⊥) → begins_expr (kind_or next ts) ≡ true
 expr_begins n = expr_starts n
 
-pub expr_some : (n : ℕ) (next : TokenKind) (ts : Tokens) → expr_text deep n next ts → (kind_or next ts ≡ no_kind → ⊥)
+pub expr_some : (n : ℕ) (next : TokenKind) (ts : Tokens) → expr_tokens deep n next ts → (kind_or next ts ≡ no_kind → ⊥)
     → n ≢ 0
 expr_some zero next ts h none = absurd (none (token_kind h))
 expr_some (suc n) next ts h none = λ e. absurd (cc)
 
-pub expr_if : (n : ℕ) (next : TokenKind) (ts : Tokens) → expr_text deep n next ts → kind_or next ts ≡ Reserved IF
-    → inside (λ m. if_text (expr_text deep m)) n next ts
+pub expr_if : (n : ℕ) (next : TokenKind) (ts : Tokens) → expr_tokens deep n next ts → kind_or next ts ≡ Reserved IF
+    → inside (λ m. if_tokens (expr_tokens deep m)) n next ts
 expr_if zero next ts h k = apart (is_sign 256) (token_kind h) k refl refl
 expr_if (suc n) next ts (inl h) k = (n, refl, h)
 expr_if (suc n) next ts (inr h) k =
     fails begins_not (or_starts n next ts h (λ z. apart (is_sign 256) z k refl refl)) k refl
 
-pub expr_plain : (n : ℕ) (next : TokenKind) (ts : Tokens) → expr_text deep n next ts → kind_or next ts ≢ Reserved IF
-    → (kind_or next ts ≡ no_kind → ⊥) → inside (chain_text Any) n next ts
+pub expr_plain : (n : ℕ) (next : TokenKind) (ts : Tokens) → expr_tokens deep n next ts → kind_or next ts ≢ Reserved IF
+    → (kind_or next ts ≡ no_kind → ⊥) → inside (chain_tokens Any) n next ts
 expr_plain zero next ts h k none = absurd (none (token_kind h))
 expr_plain (suc n) next ts (inl h) k none = absurd (k (first_of h ∙ then_kind h.first))
 expr_plain (suc n) next ts (inr h) k none = (n, refl, h)
 
-pub chain_follows : (c : Chain) → Follows (λ n. many (token (separator_of c) ▸ operand_text c n)) (ends_operand c)
+pub chain_follows : (c : Chain) → Follows (λ n. many (token (separator_of c) ▸ operand_tokens c n)) (ends_operand c)
     (ends_chain c)
 chain_follows c = follows_many (λ n next ts h. ap (ends_operand c) (then_kind h) ∙ sep_ends c) (chain_ends c)
 
 -- Not
 
-pub not_begins : (n : ℕ) (next : TokenKind) (ts : Tokens) → not_text deep n next ts → (kind_or next ts ≡ no_kind → ⊥)
+pub not_begins : (n : ℕ) (next : TokenKind) (ts : Tokens) → not_tokens deep n next ts → (kind_or next ts ≡ no_kind → ⊥)
     → begins_not (kind_or next ts) ≡ true
 not_begins n = not_starts n
 
-pub not_some : (n : ℕ) (next : TokenKind) (ts : Tokens) → not_text deep n next ts → (kind_or next ts ≡ no_kind → ⊥)
+pub not_some : (n : ℕ) (next : TokenKind) (ts : Tokens) → not_tokens deep n next ts → (kind_or next ts ≡ no_kind → ⊥)
     → n ≢ 0
 not_some zero next ts h none = absurd (none (token_kind h))
 not_some (suc n) next ts h none = λ e. absurd (cc)
 
-pub not_negated : (n : ℕ) (next : TokenKind) (ts : Tokens) → not_text deep n next ts → kind_or next ts ≡ Reserved NOT
-    → inside (λ m. token (Reserved NOT) ▸ not_text deep m) n next ts
+pub not_negated : (n : ℕ) (next : TokenKind) (ts : Tokens) → not_tokens deep n next ts → kind_or next ts ≡ Reserved NOT
+    → inside (λ m. token (Reserved NOT) ▸ not_tokens deep m) n next ts
 not_negated zero next ts h k = apart (is_sign 256) (token_kind h) k refl refl
 not_negated (suc n) next ts (inl h) k = (n, refl, h)
 not_negated (suc n) next ts (inr h) k =
     fails begins_minus (compare_starts n next ts h (λ z. apart (is_sign 256) z k refl refl)) k refl
 
-pub not_plain : (n : ℕ) (next : TokenKind) (ts : Tokens) → not_text deep n next ts → kind_or next ts ≢ Reserved NOT
-    → (kind_or next ts ≡ no_kind → ⊥) → inside (λ m. compare_text (sum_text (product_text (minus_text deep m)))) n next
+pub not_plain : (n : ℕ) (next : TokenKind) (ts : Tokens) → not_tokens deep n next ts → kind_or next ts ≢ Reserved NOT
+    → (kind_or next ts ≡ no_kind → ⊥) → inside (λ m. compare_tokens (sum_tokens (product_tokens (minus_tokens deep m))))
+    n next
     ts
 not_plain zero next ts h k none = absurd (none (token_kind h))
 not_plain (suc n) next ts (inl h) k none = absurd (k (then_kind h))
@@ -194,9 +196,9 @@ not_plain (suc n) next ts (inr h) k none = (n, refl, h)
 -- Compare
 
 abbrev pub compare_rest : ℕ → Form
-compare_rest n = nothing ∣ (relation_text ▸ sum_text (product_text (minus_text deep n)))
+compare_rest n = nothing ∣ (relation_tokens ▸ sum_tokens (product_tokens (minus_tokens deep n)))
 
-relation_kind : {B : Form} (next : TokenKind) (ts : Tokens) → (h : (relation_text ▸ B) next ts)
+relation_kind : {B : Form} (next : TokenKind) (ts : Tokens) → (h : (relation_tokens ▸ B) next ts)
     → kind_or next ts ≡ Sign (sign_of h.first.0)
 relation_kind next ts h = first_of h ∙ token_kind h.first.1
 
@@ -215,7 +217,7 @@ compare_over n next ts (inr h) k = let q : true ≡ false = sym (relation_is h.f
 
 pub compare_more : (n : ℕ) (r : RawRelation) (next : TokenKind) (ts : Tokens) → compare_rest n next ts
     → ends_not next ≡ true → kind_or next ts ≡ Sign (sign_of r)
-    → (token (Sign (sign_of r)) ▸ sum_text (product_text (minus_text deep n))) next ts
+    → (token (Sign (sign_of r)) ▸ sum_tokens (product_tokens (minus_tokens deep n))) next ts
 compare_more n r next ts (inl h) s k = let q : true ≡ false = sym s ∙ ap ends_not (sym (ap (kind_or next) h) ∙ k) ∙ relation_open r in absurd (cc)
 compare_more n r next ts (inr h) s k =
     record {
@@ -229,28 +231,28 @@ compare_more n r next ts (inr h) s k =
 -- Sum
 
 plus_kind : (test : TokenKind → Bool) → test (Sign PLUS) ≡ true → test (Sign MINUS) ≡ true
-    → (next : TokenKind) (ts : Tokens) → plus_text next ts → test (kind_or next ts) ≡ true
+    → (next : TokenKind) (ts : Tokens) → plus_tokens next ts → test (kind_or next ts) ≡ true
 plus_kind test a b next ts (true, h) = ap test (token_kind h) ∙ a
 plus_kind test a b next ts (false, h) = ap test (token_kind h) ∙ b
 
-term_kind : (n : ℕ) (next : TokenKind) (ts : Tokens) → term_text n next ts → begins_term (kind_or next ts) ≡ true
+term_kind : (n : ℕ) (next : TokenKind) (ts : Tokens) → term_tokens n next ts → begins_term (kind_or next ts) ≡ true
 term_kind n next ts h = ap begins_term (first_of h)
     ∙ plus_kind begins_term refl refl (kind_or next h.back) h.front h.first
 
-term_ends : (n : ℕ) (next : TokenKind) (ts : Tokens) → term_text n next ts → ends_product (kind_or next ts) ≡ true
+term_ends : (n : ℕ) (next : TokenKind) (ts : Tokens) → term_tokens n next ts → ends_product (kind_or next ts) ≡ true
 term_ends n next ts h = ap ends_product (first_of h)
     ∙ plus_kind ends_product refl refl (kind_or next h.back) h.front h.first
 
-pub term_begins : (n : ℕ) (next : TokenKind) (ts : Tokens) (k : TokenKind) → term_text n next ts → kind_or next ts ≡ k
+pub term_begins : (n : ℕ) (next : TokenKind) (ts : Tokens) (k : TokenKind) → term_tokens n next ts → kind_or next ts ≡ k
     → begins_term k ≡ false → ⊥
 term_begins n next ts k h e f = let q : true ≡ false = sym (term_kind n next ts h) ∙ ap begins_term e ∙ f in absurd (cc)
 
-pub sum_follows : Follows (λ n. many (term_text n)) ends_product ends_sum
+pub sum_follows : Follows (λ n. many (term_tokens n)) ends_product ends_sum
 sum_follows = follows_many term_ends sum_ends
 
-pub term_given : (n : ℕ) (plus : Bool) (next : TokenKind) (ts : Tokens) → term_text n next ts
+pub term_given : (n : ℕ) (plus : Bool) (next : TokenKind) (ts : Tokens) → term_tokens n next ts
     → kind_or next ts ≡ Sign (if plus then PLUS else MINUS)
-    → (token (Sign (if plus then PLUS else MINUS)) ▸ product_text (minus_text deep n)) next ts
+    → (token (Sign (if plus then PLUS else MINUS)) ▸ product_tokens (minus_tokens deep n)) next ts
 term_given n plus next ts h k = record {
   front = h.front;
   back = h.back;
@@ -261,23 +263,23 @@ term_given n plus next ts h k = record {
 
 -- Minus
 
-pub minus_begins : (n : ℕ) (next : TokenKind) (ts : Tokens) → minus_text deep n next ts
+pub minus_begins : (n : ℕ) (next : TokenKind) (ts : Tokens) → minus_tokens deep n next ts
     → (kind_or next ts ≡ no_kind → ⊥) → begins_minus (kind_or next ts) ≡ true
 minus_begins n = minus_starts n
 
-pub minus_some : (n : ℕ) (next : TokenKind) (ts : Tokens) → minus_text deep n next ts → (kind_or next ts ≡ no_kind → ⊥)
-    → n ≢ 0
+pub minus_some : (n : ℕ) (next : TokenKind) (ts : Tokens) → minus_tokens deep n next ts → (kind_or next ts ≡ no_kind
+    → ⊥) → n ≢ 0
 minus_some zero next ts h none = absurd (none (token_kind h))
 minus_some (suc n) next ts h none = λ e. absurd (cc)
 
-pub minus_negated : (n : ℕ) (next : TokenKind) (ts : Tokens) → minus_text deep n next ts → kind_or next ts ≡ Sign MINUS
-    → inside (λ m. token (Sign MINUS) ▸ minus_text deep m) n next ts
+pub minus_negated : (n : ℕ) (next : TokenKind) (ts : Tokens) → minus_tokens deep n next ts → kind_or next ts ≡ Sign
+    MINUS → inside (λ m. token (Sign MINUS) ▸ minus_tokens deep m) n next ts
 minus_negated zero next ts h k = apart (is_sign 256) (token_kind h) k refl refl
 minus_negated (suc n) next ts (inl h) k = (n, refl, h)
-minus_negated (suc n) next ts (inr h) k = fails begins_primary (primary_starts (expr_text deep n) next ts h) k refl
+minus_negated (suc n) next ts (inr h) k = fails begins_primary (primary_starts (expr_tokens deep n) next ts h) k refl
 
-pub minus_plain : (n : ℕ) (next : TokenKind) (ts : Tokens) → minus_text deep n next ts → kind_or next ts ≢ Sign MINUS
-    → (kind_or next ts ≡ no_kind → ⊥) → inside (λ m. primary_text (expr_text deep m)) n next ts
+pub minus_plain : (n : ℕ) (next : TokenKind) (ts : Tokens) → minus_tokens deep n next ts → kind_or next ts ≢ Sign MINUS
+    → (kind_or next ts ≡ no_kind → ⊥) → inside (λ m. primary_tokens (expr_tokens deep m)) n next ts
 minus_plain zero next ts h k none = absurd (none (token_kind h))
 minus_plain (suc n) next ts (inl h) k none = absurd (k (then_kind h))
 minus_plain (suc n) next ts (inr h) k none = (n, refl, h)
@@ -285,24 +287,24 @@ minus_plain (suc n) next ts (inr h) k none = (n, refl, h)
 -- Primary
 
 pub primary_constant : (n : ℕ) (k : TokenKind) (next : TokenKind) (ts : Tokens)
-    → primary_text (expr_text deep n) next ts → kind_or next ts ≡ k → begins_constant k ≡ true → token k next ts
+    → primary_tokens (expr_tokens deep n) next ts → kind_or next ts ≡ k → begins_constant k ≡ true → token k next ts
 primary_constant n k next ts (constant h) q c = one_as h q
 primary_constant n k next ts (path h) q c = let w : true ≡ false = sym (path_starts (λ j. not (begins_constant j)) refl refl refl next ts h) ∙ ap (λ j. not (begins_constant j)) q ∙ ap not c in absurd (cc)
 primary_constant n k next ts (brackets h) q c = fails begins_constant c (sym q ∙ then_kind h) refl
 primary_constant n k next ts (call h) q c = let w : true ≡ false = sym (call_begins (λ j. not (begins_constant j)) refl refl refl (kind_or (kind_or next h.back) h.front) (one_kind h.first)) ∙ ap (λ j. not (begins_constant j)) (sym (first_of h) ∙ q) ∙ ap not c in absurd (cc)
 primary_constant n k next ts (switch h) q c = fails begins_constant c (sym q ∙ then_kind h) refl
 
-pub primary_brackets : (n : ℕ) (next : TokenKind) (ts : Tokens) → primary_text (expr_text deep n) next ts
+pub primary_brackets : (n : ℕ) (next : TokenKind) (ts : Tokens) → primary_tokens (expr_tokens deep n) next ts
     → kind_or next ts ≡ Sign OPEN_PARENTHESIS
-    → between (Sign OPEN_PARENTHESIS) (Sign CLOSE_PARENTHESIS) (expr_text deep n) next ts
+    → between (Sign OPEN_PARENTHESIS) (Sign CLOSE_PARENTHESIS) (expr_tokens deep n) next ts
 primary_brackets n next ts (constant h) q = fails begins_constant (one_kind h) q refl
 primary_brackets n next ts (path h) q = fails begins_path (path_starts begins_path refl refl refl next ts h) q refl
 primary_brackets n next ts (brackets h) q = h
 primary_brackets n next ts (call h) q = fails begins_call (one_kind h.first) (sym (first_of h) ∙ q) refl
 primary_brackets n next ts (switch h) q = apart (is_word SWITCH) (then_kind h) q refl refl
 
-pub primary_switch : (n : ℕ) (next : TokenKind) (ts : Tokens) → primary_text (expr_text deep n) next ts
-    → kind_or next ts ≡ Reserved SWITCH → switch_text (expr_text deep n) next ts
+pub primary_switch : (n : ℕ) (next : TokenKind) (ts : Tokens) → primary_tokens (expr_tokens deep n) next ts
+    → kind_or next ts ≡ Reserved SWITCH → switch_tokens (expr_tokens deep n) next ts
 primary_switch n next ts (constant h) q = fails begins_constant (one_kind h) q refl
 primary_switch n next ts (path h) q = fails begins_path (path_starts begins_path refl refl refl next ts h) q refl
 primary_switch n next ts (brackets h) q = apart (is_sign OPEN_PARENTHESIS) (then_kind h) q refl refl
@@ -315,8 +317,8 @@ call_word test a b d Least = a
 call_word test a b d Greatest = b
 call_word test a b d Count = d
 
-pub primary_call : (n : ℕ) (c : Call) (next : TokenKind) (ts : Tokens) → primary_text (expr_text deep n) next ts
-    → kind_or next ts ≡ word_of c → (token (word_of c) ▸ operands_text (expr_text deep n)) next ts
+pub primary_call : (n : ℕ) (c : Call) (next : TokenKind) (ts : Tokens) → primary_tokens (expr_tokens deep n) next ts
+    → kind_or next ts ≡ word_of c → (token (word_of c) ▸ operands_tokens (expr_tokens deep n)) next ts
 primary_call n c next ts (constant h) q =
     fails begins_constant (one_kind h) q (call_word begins_constant refl refl refl c)
 primary_call n c next ts (path h) q =
@@ -334,20 +336,20 @@ primary_call n c next ts (call h) q =
 primary_call n c next ts (switch h) q =
     apart (is_word SWITCH) (then_kind h) q refl (call_word (is_word SWITCH) refl refl refl c)
 
-pub primary_path : (n : ℕ) (next : TokenKind) (ts : Tokens) → primary_text (expr_text deep n) next ts
+pub primary_path : (n : ℕ) (next : TokenKind) (ts : Tokens) → primary_tokens (expr_tokens deep n) next ts
     → begins_constant (kind_or next ts) ≡ false → (kind_or next ts ≡ Sign OPEN_PARENTHESIS → ⊥)
-    → (kind_or next ts ≡ Reserved SWITCH → ⊥) → begins_call (kind_or next ts) ≡ false → path_text next ts
+    → (kind_or next ts ≡ Reserved SWITCH → ⊥) → begins_call (kind_or next ts) ≡ false → path_tokens next ts
 primary_path n next ts (constant h) a b c d = let w : true ≡ false = sym (one_kind h) ∙ a in absurd (cc)
 primary_path n next ts (path h) a b c d = h
 primary_path n next ts (brackets h) a b c d = absurd (b (then_kind h))
 primary_path n next ts (call h) a b c d = let w : true ≡ false = sym (one_kind h.first) ∙ ap begins_call (sym (first_of h)) ∙ d in absurd (cc)
 primary_path n next ts (switch h) a b c d = absurd (c (then_kind h))
 
-pub arguments_follow : Follows (λ n. many (token (Sign COMMA) ▸ expr_text deep n)) ends_expr ends_list
+pub arguments_follow : Follows (λ n. many (token (Sign COMMA) ▸ expr_tokens deep n)) ends_expr ends_list
 arguments_follow = follows_many (λ n next ts h. ap ends_expr (then_kind h))
     (λ k h. ap ends_expr (sign_from CLOSE_PARENTHESIS k h))
 
-pub operands_follow : Follows (λ n. many (token (Sign COMMA) ▸ expr_text deep n) ▸ token (Sign CLOSE_PARENTHESIS))
+pub operands_follow : Follows (λ n. many (token (Sign COMMA) ▸ expr_tokens deep n) ▸ token (Sign CLOSE_PARENTHESIS))
     ends_expr anything
 operands_follow = record {
   holds = λ n next ts h s. ap ends_expr (first_of h)
@@ -356,10 +358,10 @@ operands_follow = record {
 
 -- Switch
 
-pub case_kind : (n : ℕ) (next : TokenKind) (ts : Tokens) → case_text n next ts → kind_or next ts ≡ Reserved CASE
+pub case_kind : (n : ℕ) (next : TokenKind) (ts : Tokens) → case_tokens n next ts → kind_or next ts ≡ Reserved CASE
 case_kind n next ts h = first_of h ∙ then_kind h.first
 
-pub cases_follow : Follows (λ n. many (case_text n)) ends_expr ends_cases
+pub cases_follow : Follows (λ n. many (case_tokens n)) ends_expr ends_cases
 cases_follow = follows_many (λ n next ts h. ap ends_expr (case_kind n next ts h))
     (λ k h. ap ends_expr (word_from DEFAULT k h))
 
@@ -370,14 +372,14 @@ many_one next ts h = (
       { front = h.front; back = h.back; split = h.split; first = h.first; second = h.second.1 },
 )
 
-pub switch_parts : (n : ℕ) (next : TokenKind) (ts : Tokens) → switch_text (expr_text deep n) next ts
-    → (token (Reserved SWITCH) ▸ token (Sign OPEN_BRACE) ▸ many (case_text n) ▸ token (Reserved DEFAULT) ▸ between
-    (Sign COLON) (Sign CLOSE_BRACE) (expr_text deep n)) next ts
+pub switch_parts : (n : ℕ) (next : TokenKind) (ts : Tokens) → switch_tokens (expr_tokens deep n) next ts
+    → (token (Reserved SWITCH) ▸ token (Sign OPEN_BRACE) ▸ many (case_tokens n) ▸ token (Reserved DEFAULT) ▸ between
+    (Sign COLON) (Sign CLOSE_BRACE) (expr_tokens deep n)) next ts
 switch_parts n next ts h = then_map h (λ next ts j. j)
     (λ next ts a. then_map a (λ next ts j. j) (λ next ts b. by_cases next ts b))
   where
-    by_cases : {B : Form} (next : TokenKind) (ts : Tokens) → (case_text n ▸ many (case_text n) ▸ B) next ts
-        → (many (case_text n) ▸ B) next ts
+    by_cases : {B : Form} (next : TokenKind) (ts : Tokens) → (case_tokens n ▸ many (case_tokens n) ▸ B) next ts
+        → (many (case_tokens n) ▸ B) next ts
     by_cases next ts b = record {
       front = b.front ++ b.second.front;
       back = b.second.back;
@@ -388,7 +390,7 @@ switch_parts n next ts h = then_map h (λ next ts j. j)
             front = b.front;
             back = b.second.front;
             split = refl;
-            first = subst (λ (k : TokenKind). case_text n k b.front)
+            first = subst (λ (k : TokenKind). case_tokens n k b.front)
                 (ap (kind_or next) b.second.split ∙ kind_join b.second.front b.second.back next) b.first;
             second =
                 b.second.first;

@@ -10,18 +10,18 @@ use Rattle.ar_grammar.specs.declared.lexeme.Refusal.{Refusal}
 use Rattle.ar_grammar.specs.Words.{Form, Tokens, kind_or, token, no_kind, deep, ◌▸◌, many, between}
 use Rattle.ar_grammar.specs.Members.{plain_token, unread, unread_piece, bracketed}
 use Rattle.ar_grammar.specs.declared.lexeme.Lexeme.{Lexeme}
-use Rattle.ar_grammar.specs.Texts.{is_unread, bracketed_text, one_of}
+use Rattle.ar_grammar.specs.Texts.{is_unread, bracketed_tokens, one_of}
 use Rattle.ar_grammar.proofs.TextParts.{one_kind, one_as, token_as}
 use Rattle.ar_grammar.proofs.Standing.{Turns, turns_token, turns_then, turns_each, begins_token, begins_here, begins_no_more, begins_then}
 use Rattle.ar_grammar.specs.Results.{kind_at, Spans, Eats, Begins, is_sign, goes_unread, ends_unread}
 use Rattle.ar_grammar.proofs.Finding.{inside, apart, fails, token_kind, then_kind, spans_map}
 use Rattle.ar_grammar.proofs.ExpressionForms.{sign_from, and_right}
-use Rattle.ar_grammar.specs.Parts.{unread_text}
+use Rattle.ar_grammar.specs.Parts.{unread_tokens}
 use Rattle.std.specs.Prelude.{Option}
-use Rattle.ar_grammar.specs.Words.{nothing, covering, Covers}
-use Rattle.ar_grammar.specs.Members.{kept_token, kept, kept_piece, IsAttribute}
-use Rattle.ar_grammar.specs.Texts.{is_kept, kept_text}
-use Rattle.ar_grammar.specs.Parts.{attribute_text, kept_piece_text}
+use Rattle.ar_grammar.specs.Words.{nothing, covering, IsSpanOf}
+use Rattle.ar_grammar.specs.Members.{kept_token, kept, kept_piece, ReadsAttribute}
+use Rattle.ar_grammar.specs.Texts.{is_kept, kept_tokens}
+use Rattle.ar_grammar.specs.Parts.{attribute_tokens, kept_piece_tokens}
 use Rattle.ar_grammar.specs.Results.{goes_kept, ends_kept, ends_attribute}
 use Rattle.ar_grammar.proofs.Finding.{spans_then}
 use Rattle.ar_grammar.proofs.ExpressionForms.{and_left}
@@ -99,31 +99,31 @@ unread_goes (Sign s) h = and_right (not (s == OPEN_PARENTHESIS)) (not (s == CLOS
 unread_goes (Reserved w) h = refl
 unread_goes End h = absurd (cc)
 
-pub unread_over : (n : ℕ) (next : TokenKind) (ts : Tokens) → unread_text n next ts
+pub unread_over : (n : ℕ) (next : TokenKind) (ts : Tokens) → unread_tokens n next ts
     → goes_unread (kind_or next ts) ≡ false → ⊥
 unread_over n next ts (inl h) k = let q : true ≡ false = sym (unread_goes (kind_or next ts) (one_kind h)) ∙ k in absurd (cc)
 unread_over zero next ts (inr h) k = let q : true ≡ false = sym (ap goes_unread (token_kind h)) ∙ k in absurd (cc)
 unread_over (suc n) next ts (inr h) k = let q : true ≡ false = sym (ap goes_unread (then_kind h)) ∙ k in absurd (cc)
 
-pub unread_bracketed : (n : ℕ) (next : TokenKind) (ts : Tokens) → unread_text n next ts
-    → kind_or next ts ≡ Sign OPEN_PARENTHESIS → bracketed_text deep n next ts
+pub unread_bracketed : (n : ℕ) (next : TokenKind) (ts : Tokens) → unread_tokens n next ts
+    → kind_or next ts ≡ Sign OPEN_PARENTHESIS → bracketed_tokens deep n next ts
 unread_bracketed n next ts (inl h) k = fails is_unread (one_kind h) k refl
 unread_bracketed n next ts (inr h) k = h
 
-pub unread_token : (n : ℕ) (next : TokenKind) (ts : Tokens) {k : TokenKind} → unread_text n next ts
+pub unread_token : (n : ℕ) (next : TokenKind) (ts : Tokens) {k : TokenKind} → unread_tokens n next ts
     → kind_or next ts ≡ k → k ≢ Sign OPEN_PARENTHESIS → token k next ts
 unread_token n next ts (inl h) q o = one_as h q
 unread_token zero next ts (inr h) q o = token_as h q
 unread_token (suc n) next ts (inr h) q o = absurd (o (sym q ∙ then_kind h))
 
-pub bracketed_some : (n : ℕ) (next : TokenKind) (ts : Tokens) → bracketed_text deep n next ts
+pub bracketed_some : (n : ℕ) (next : TokenKind) (ts : Tokens) → bracketed_tokens deep n next ts
     → (kind_or next ts ≡ no_kind → ⊥) → n ≢ 0
 bracketed_some zero next ts h none = absurd (none (token_kind h))
 bracketed_some (suc n) next ts h none = λ e. absurd (cc)
 
-pub bracketed_inside : (n : ℕ) (next : TokenKind) (ts : Tokens) → bracketed_text deep n next ts
+pub bracketed_inside : (n : ℕ) (next : TokenKind) (ts : Tokens) → bracketed_tokens deep n next ts
     → kind_or next ts ≡ Sign OPEN_PARENTHESIS
-    → inside (λ m. token (Sign OPEN_PARENTHESIS) ▸ many (unread_text m) ▸ token (Sign CLOSE_PARENTHESIS)) n next ts
+    → inside (λ m. token (Sign OPEN_PARENTHESIS) ▸ many (unread_tokens m) ▸ token (Sign CLOSE_PARENTHESIS)) n next ts
 bracketed_inside zero next ts h k = apart (is_sign 256) (token_kind h) k refl refl
 bracketed_inside (suc n) next ts h k = (n, refl, h)
 
@@ -147,7 +147,7 @@ unread_from (Reserved w) o c e = refl
 unread_from End o c e = absurd (e refl)
 
 piece_case : (n m : ℕ) → n ≤ m → (next next' : TokenKind) (ts : Tokens) → unread_piece n next ts
-    → unread_text m next' ts
+    → unread_tokens m next' ts
 piece_case zero m l next next' ts h =
     inl (record { one = h.one; alone = h.alone; passes = unread_from h.one.kind h.no_open h.no_close h.no_end })
 piece_case (suc n) m l next next' ts (inl h) =
@@ -157,42 +157,42 @@ piece_case (suc n) (suc m) l next next' ts (inr h) =
     inr (turns_then turns_token (turns_then
     (turns_many (λ next next' ts j. piece_case n m (omega (arith, l)) next next' ts j)) turns_token) next next' ts h)
 
-pub turns_unread : (n m : ℕ) → n ≤ m → Turns (unread n) (many (unread_text m))
+pub turns_unread : (n m : ℕ) → n ≤ m → Turns (unread n) (many (unread_tokens m))
 turns_unread n m l = turns_many (λ next next' ts j. piece_case n m l next next' ts j)
 
 pub some_unread_end : {A : Form} → Begins (many A ▸ token (Sign CLOSE_PARENTHESIS)) []
 some_unread_end = begins_then begins_no_more (begins_token (Sign CLOSE_PARENTHESIS))
 
-pub some_bracketed : (m : ℕ) → Begins (bracketed_text deep m) []
+pub some_bracketed : (m : ℕ) → Begins (bracketed_tokens deep m) []
 some_bracketed zero = begins_token no_kind
 some_bracketed (suc m) = begins_then (begins_token (Sign OPEN_PARENTHESIS)) some_unread_end
 
 pub bracketed_at : (m : ℕ) (t : Lexeme) → is_sign OPEN_PARENTHESIS t.kind ≡ true
-    → Begins (bracketed_text deep (suc m)) (t ∷ [])
+    → Begins (bracketed_tokens deep (suc m)) (t ∷ [])
 bracketed_at m t h = begins_then (begins_here t (Sign OPEN_PARENTHESIS) (sign_from OPEN_PARENTHESIS t.kind h))
     some_unread_end
 
 -- Attributes
 
-pub attribute_none : (n : ℕ) (next : TokenKind) (ts : Tokens) → attribute_text n next ts
+pub attribute_none : (n : ℕ) (next : TokenKind) (ts : Tokens) → attribute_tokens n next ts
     → kind_or next ts ≢ Sign OPEN_PARENTHESIS → (kind_or next ts ≡ no_kind → ⊥) → nothing next ts
 attribute_none n next ts (inl h) k none = h
 attribute_none zero next ts (inr h) k none = absurd (none (token_kind h))
 attribute_none (suc n) next ts (inr h) k none = absurd (k (then_kind h))
 
-pub attribute_there : (n : ℕ) (next : TokenKind) (ts : Tokens) → attribute_text n next ts → ends_attribute next ≡ true
-    → kind_or next ts ≡ Sign OPEN_PARENTHESIS → bracketed_text deep n next ts
+pub attribute_there : (n : ℕ) (next : TokenKind) (ts : Tokens) → attribute_tokens n next ts → ends_attribute next ≡ true
+    → kind_or next ts ≡ Sign OPEN_PARENTHESIS → bracketed_tokens deep n next ts
 attribute_there n next ts (inl h) s k = fails ends_attribute s (sym (ap (kind_or next) h) ∙ k) refl
 attribute_there n next ts (inr h) s k = h
 
-pub attribute_inside : (n : ℕ) (next : TokenKind) (ts : Tokens) → attribute_text n next ts → ends_attribute next ≡ true
-    → kind_or next ts ≡ Sign OPEN_PARENTHESIS
-    → inside (λ m. token (Sign OPEN_PARENTHESIS) ▸ many (unread_text m) ▸ token (Sign CLOSE_PARENTHESIS)) n next ts
+pub attribute_inside : (n : ℕ) (next : TokenKind) (ts : Tokens) → attribute_tokens n next ts → ends_attribute next
+    ≡ true → kind_or next ts ≡ Sign OPEN_PARENTHESIS
+    → inside (λ m. token (Sign OPEN_PARENTHESIS) ▸ many (unread_tokens m) ▸ token (Sign CLOSE_PARENTHESIS)) n next ts
 attribute_inside n next ts h s k = bracketed_inside n next ts (attribute_there n next ts h s k) k
 
 pub attribute_in : (n : ℕ) (span : Span) {old a b new : Tokens} → n ≢ 0 → Spans (token (Sign OPEN_PARENTHESIS)) old a
-    → Spans (unread (n - 1)) a b → ((ts : Tokens) → a ≡ ts ++ b → Covers span ts)
-    → Spans (token (Sign CLOSE_PARENTHESIS)) b new → Spans (IsAttribute n (Some span)) old new
+    → Spans (unread (n - 1)) a b → ((ts : Tokens) → a ≡ ts ++ b → IsSpanOf span ts)
+    → Spans (token (Sign CLOSE_PARENTHESIS)) b new → Spans (ReadsAttribute n (Some span)) old new
 attribute_in zero span some o u c d = absurd (some refl)
 attribute_in (suc n) span some o u c d =
     spans_map (spans_then o (spans_then
@@ -200,7 +200,7 @@ attribute_in (suc n) span some o u c d =
     (λ next ts h. subst (λ (m : ℕ). between (Sign OPEN_PARENTHESIS) (Sign CLOSE_PARENTHESIS) (covering span (unread m))
     next ts) (sub-one (suc n)) h)
 
-pub turns_attribute : (n m : ℕ) → n ≤ m → (a : Option Span) → Turns (IsAttribute n a) (attribute_text m)
+pub turns_attribute : (n m : ℕ) → n ≤ m → (a : Option Span) → Turns (ReadsAttribute n a) (attribute_tokens m)
 turns_attribute n m l None = λ next next' ts h. inl h
 turns_attribute zero m l (Some span) = λ next next' ts h. elim h [ ]
 turns_attribute (suc n) zero l (Some span) = λ next next' ts h. absurd (omega (arith, l))
@@ -236,25 +236,26 @@ kept_on (Sign s) h = and_right (not (s == OPEN_PARENTHESIS)) (not (s == CLOSE_PA
 kept_on (Reserved w) h = refl
 kept_on End h = absurd (cc)
 
-piece_first : (n : ℕ) (next : TokenKind) (ts : Tokens) → kept_piece_text n next ts → goes_kept (kind_or next ts) ≡ true
+piece_first : (n : ℕ) (next : TokenKind) (ts : Tokens) → kept_piece_tokens n next ts
+    → goes_kept (kind_or next ts) ≡ true
 piece_first n next ts (inl h) = kept_on (kind_or next ts) (one_kind h)
 piece_first zero next ts (inr h) = ap goes_kept (token_kind h)
 piece_first (suc n) next ts (inr h) = ap goes_kept (then_kind h)
 
-pub kept_over : (n : ℕ) (next : TokenKind) (ts : Tokens) → kept_piece_text n next ts
+pub kept_over : (n : ℕ) (next : TokenKind) (ts : Tokens) → kept_piece_tokens n next ts
     → goes_kept (kind_or next ts) ≡ false → ⊥
 kept_over n next ts h k = let q : true ≡ false = sym (piece_first n next ts h) ∙ k in absurd (cc)
 
-pub kept_first : (n : ℕ) (next : TokenKind) (ts : Tokens) → kept_text (bracketed_text deep n) next ts
+pub kept_first : (n : ℕ) (next : TokenKind) (ts : Tokens) → kept_tokens (bracketed_tokens deep n) next ts
     → goes_kept (kind_or next ts) ≡ false → ⊥
 kept_first n next ts h k = kept_over n (kind_or next h.back) h.front h.first (ap goes_kept (sym (first_of h)) ∙ k)
 
-pub kept_bracketed : (n : ℕ) (next : TokenKind) (ts : Tokens) → kept_piece_text n next ts
-    → kind_or next ts ≡ Sign OPEN_PARENTHESIS → bracketed_text deep n next ts
+pub kept_bracketed : (n : ℕ) (next : TokenKind) (ts : Tokens) → kept_piece_tokens n next ts
+    → kind_or next ts ≡ Sign OPEN_PARENTHESIS → bracketed_tokens deep n next ts
 kept_bracketed n next ts (inl h) k = fails is_kept (one_kind h) k refl
 kept_bracketed n next ts (inr h) k = h
 
-pub kept_token_given : (n : ℕ) (next : TokenKind) (ts : Tokens) {k : TokenKind} → kept_piece_text n next ts
+pub kept_token_given : (n : ℕ) (next : TokenKind) (ts : Tokens) {k : TokenKind} → kept_piece_tokens n next ts
     → kind_or next ts ≡ k → k ≢ Sign OPEN_PARENTHESIS → token k next ts
 kept_token_given n next ts (inl h) q o = one_as h q
 kept_token_given zero next ts (inr h) q o = token_as h q
@@ -294,7 +295,7 @@ kept_plain n {old} e g o =
     }
 
 pub kept_made : (n : ℕ) (span : Span) {old mid new : Tokens} → Spans (kept_piece n) old mid
-    → Spans (many (kept_piece n)) mid new → ((ts : Tokens) → old ≡ ts ++ new → Covers span ts)
+    → Spans (many (kept_piece n)) mid new → ((ts : Tokens) → old ≡ ts ++ new → IsSpanOf span ts)
     → Spans (covering span (kept n)) old new
 kept_made n span a b c = let s = spans_then a b in record { front = s.front; split = s.split; form = record { span_is = c s.front s.split; form = s.form } }
 
@@ -319,19 +320,19 @@ kept_one next next' ts h = record {
   passes = kept_from h.plain.one.kind h.plain.no_open h.plain.no_close h.plain.no_end h.no_semicolon;
 }
 
-pub turns_kept_piece : (n m : ℕ) → n ≤ m → Turns (kept_piece n) (kept_piece_text m)
+pub turns_kept_piece : (n m : ℕ) → n ≤ m → Turns (kept_piece n) (kept_piece_tokens m)
 turns_kept_piece n m l = λ next next' ts h. by_case n m l next next' ts h
   where
     by_case : (n m : ℕ) → n ≤ m → (next next' : TokenKind) (ts : Tokens) → kept_piece n next ts
-        → kept_piece_text m next' ts
+        → kept_piece_tokens m next' ts
     by_case zero m l next next' ts h = inl (kept_one next next' ts h)
     by_case (suc n) m l next next' ts (inl h) = inl (kept_one next next' ts h)
     by_case (suc n) zero l next next' ts (inr h) = absurd (omega (arith, l))
     by_case (suc n) (suc m) l next next' ts (inr h) =
         inr (turns_then turns_token (turns_then (turns_unread n m (omega (arith, l))) turns_token) next next' ts h)
 
-pub turns_kept : (n m : ℕ) → n ≤ m → Turns (kept n) (kept_text (bracketed_text deep m))
+pub turns_kept : (n m : ℕ) → n ≤ m → Turns (kept n) (kept_tokens (bracketed_tokens deep m))
 turns_kept n m l = turns_then (turns_kept_piece n m l) (turns_many (turns_kept_piece n m l))
 
-pub some_kept : (m : ℕ) → Begins (kept_text (bracketed_text deep m)) []
+pub some_kept : (m : ℕ) → Begins (kept_tokens (bracketed_tokens deep m)) []
 some_kept m = begins_then (begins_map (begins_one {test = is_kept} Name refl) (λ next ts h. inl h)) begins_no_more

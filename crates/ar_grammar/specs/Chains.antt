@@ -14,7 +14,7 @@ use Rattle.ar_grammar.specs.declared.terms.Chain.TheVariants as chain
 use Rattle.ar_grammar.specs.declared.terms.Call.{Call}
 use Rattle.ar_grammar.specs.declared.terms.Call.TheVariants as call
 use Rattle.ar_grammar.specs.Words.{Form}
-use Rattle.ar_grammar.specs.Expressions.{OneOrMore, IsAnd, IsNot, IsMinus}
+use Rattle.ar_grammar.specs.Expressions.{OneOrMore, ReadsAnd, ReadsNot, ReadsMinus}
 use Rattle.ar_grammar.specs.Results.{ends_path, ends_product, ends_not, ends_and, ends_expr}
 
 -- what stands between the operands of a chain
@@ -31,9 +31,9 @@ chain_of chain.Product = form.Product
 
 -- what an operand of a chain is, with at most n productions open at one token
 abbrev pub operand_form : Chain → ℕ → RawForm → Form
-operand_form chain.Any n = IsAnd (IsNot n)
-operand_form chain.All n = IsNot n
-operand_form chain.Product n = IsMinus n
+operand_form chain.Any n = ReadsAnd (ReadsNot n)
+operand_form chain.All n = ReadsNot n
+operand_form chain.Product n = ReadsMinus n
 
 -- a chain, where one operand alone is itself
 abbrev pub chain_form : Chain → ℕ → RawForm → Form

@@ -10,37 +10,37 @@ use Rattle.ar_syntax.specs.declared.items.DomainDecl.{DomainDecl}
 use Rattle.ar_syntax.specs.declared.items.Item.{Item}
 use Rattle.ar_syntax.specs.declared.items.Item.TheVariants as item
 use Rattle.ar_grammar.specs.Words.{Form, Tokens, token, nothing, never, ◌▸◌, ◌∣◌, each, between}
-use Rattle.ar_grammar.specs.Paths.{IsPlacedName, AreNames}
-use Rattle.ar_grammar.specs.Members.{IsBody, IsUnit}
+use Rattle.ar_grammar.specs.Paths.{ReadsPlacedName, ReadsNames}
+use Rattle.ar_grammar.specs.Members.{ReadsBody, ReadsUnit}
 
 -- a whole number, which has no sign
-pub record IsWhole (z : ℤ) (next : TokenKind) (ts : Tokens) : Type 0 where
+pub record ReadsWhole (z : ℤ) (next : TokenKind) (ts : Tokens) : Type 0 where
   pub no_sign : pos 0 ≤ℤ z
   pub reads : token (Whole z) next ts
 
 -- Bound = [ "-" ] whole
-pub data IsBound (z : ℤ) (next : TokenKind) (ts : Tokens) : Type 0 where
-  whole : IsWhole z next ts → IsBound z next ts
-  negated : (n : ℤ) → z ≡ neg_ℤ n → (token (Sign MINUS) ▸ IsWhole n) next ts → IsBound z next ts
+pub data ReadsBound (z : ℤ) (next : TokenKind) (ts : Tokens) : Type 0 where
+  whole : ReadsWhole z next ts → ReadsBound z next ts
+  negated : (n : ℤ) → z ≡ neg_ℤ n → (token (Sign MINUS) ▸ ReadsWhole n) next ts → ReadsBound z next ts
 
 -- DomainBody = "{" name { "," name } "}" | "[" Bound "," Bound "]"
-abbrev pub IsDomainBody : DomainBody → Form
-IsDomainBody (domain.Symbols names) = between (Sign OPEN_BRACE) (Sign CLOSE_BRACE) (AreNames names.items)
-IsDomainBody (domain.Range low high) =
-    between (Sign OPEN_BRACKET) (Sign COMMA) (IsBound low) ▸ IsBound high ▸ token (Sign CLOSE_BRACKET)
+abbrev pub ReadsDomainBody : DomainBody → Form
+ReadsDomainBody (domain.Symbols names) = between (Sign OPEN_BRACE) (Sign CLOSE_BRACE) (ReadsNames names.items)
+ReadsDomainBody (domain.Range low high) =
+    between (Sign OPEN_BRACKET) (Sign COMMA) (ReadsBound low) ▸ ReadsBound high ▸ token (Sign CLOSE_BRACKET)
 
 -- "domain" name DomainBody [ ";" ]
-abbrev pub IsDomain : DomainDecl → Form
-IsDomain d = token (Reserved DOMAIN) ▸ IsPlacedName (d.name, d.at) ▸ IsDomainBody
+abbrev pub ReadsDomain : DomainDecl → Form
+ReadsDomain d = token (Reserved DOMAIN) ▸ ReadsPlacedName (d.name, d.at) ▸ ReadsDomainBody
     d.body ▸ (nothing ∣ token (Sign SEMICOLON))
 
 -- Item = Domain | "class" name Body "end" | "block" name Body "end"
-abbrev pub IsItem : ℕ → Item → Form
-IsItem n (item.Domain d) = IsDomain d
-IsItem n (item.Class u) = token (Reserved CLASS) ▸ IsUnit (IsBody n) u
-IsItem n (item.Block u) = token (Reserved BLOCK) ▸ IsUnit (IsBody n) u
+abbrev pub ReadsItem : ℕ → Item → Form
+ReadsItem n (item.Domain d) = ReadsDomain d
+ReadsItem n (item.Class u) = token (Reserved CLASS) ▸ ReadsUnit (ReadsBody n) u
+ReadsItem n (item.Block u) = token (Reserved BLOCK) ▸ ReadsUnit (ReadsBody n) u
 
 -- Model = Item { Item }
-abbrev pub AreItems : ℕ → List Item → Form
-AreItems n [] = never
-AreItems n (x ∷ more) = IsItem n x ▸ each (IsItem n) more
+abbrev pub ReadsItems : ℕ → List Item → Form
+ReadsItems n [] = never
+ReadsItems n (x ∷ more) = ReadsItem n x ▸ each (ReadsItem n) more

@@ -22,36 +22,36 @@ use Rattle.ar_syntax.specs.declared.members.Word.{Word}
 use Rattle.ar_syntax.specs.declared.members.Word.TheVariants as word
 use Rattle.ar_grammar.specs.declared.lexeme.Lexeme.{Lexeme}
 use Rattle.ar_base.specs.Numbers.{NameId}
-use Rattle.ar_grammar.specs.Words.{Form, Tokens, token, nothing, never, ◌▸◌, ◌∣◌, each, many, groups, separated, between, standing, covering}
-use Rattle.ar_grammar.specs.Paths.{IsName, IsPlacedName, AreNames, IsPath}
-use Rattle.ar_grammar.specs.Expressions.{Node, IsExpr}
-use Rattle.ar_grammar.specs.Instructions.{IsInstr}
+use Rattle.ar_grammar.specs.Words.{Form, Tokens, token, nothing, never, ◌▸◌, ◌∣◌, each, many, groups, separated_by, between, standing, covering}
+use Rattle.ar_grammar.specs.Paths.{ReadsName, ReadsPlacedName, ReadsNames, ReadsPath}
+use Rattle.ar_grammar.specs.Expressions.{Node, ReadsExpr}
+use Rattle.ar_grammar.specs.Instructions.{ReadsInstr}
 
 -- Type = "Boolean" | "Integer" | name
-abbrev pub IsTypeForm : TypeForm → Form
-IsTypeForm type_form.Boolean = token (Reserved BOOLEAN)
-IsTypeForm type_form.Integer = token (Reserved INTEGER)
-IsTypeForm (type_form.Named name) = IsName name
+abbrev pub ReadsTypeForm : TypeForm → Form
+ReadsTypeForm type_form.Boolean = token (Reserved BOOLEAN)
+ReadsTypeForm type_form.Integer = token (Reserved INTEGER)
+ReadsTypeForm (type_form.Named name) = ReadsName name
 
-abbrev pub IsType : TypeName → Form
-IsType type = standing type.at (IsTypeForm type.form)
+abbrev pub ReadsType : TypeName → Form
+ReadsType type = standing type.at (ReadsTypeForm type.form)
 
 -- Word = name | "init" | "reset"
-abbrev pub IsWord : Word → Form
-IsWord (word.Name name) = IsName name
-IsWord word.Init = token (Reserved INIT)
-IsWord word.Reset = token (Reserved RESET)
+abbrev pub ReadsWord : Word → Form
+ReadsWord (word.Name name) = ReadsName name
+ReadsWord word.Init = token (Reserved INIT)
+ReadsWord word.Reset = token (Reserved RESET)
 
 -- Setting = Word { "." Word } "=" Expr
-abbrev pub IsSetting : ℕ → Setting → Form
-IsSetting n s = standing s.at (separated (Sign DOT) IsWord s.target.items) ▸ token (Sign EQUALS) ▸ Node (IsExpr n)
-    s.value
+abbrev pub ReadsSetting : ℕ → Setting → Form
+ReadsSetting n s = standing s.at (separated_by (Sign DOT) ReadsWord s.target.items) ▸ token (Sign EQUALS) ▸ Node
+    (ReadsExpr n) s.value
 
 -- [ Settings ], Settings = "(" Setting { "," Setting } ")"
-abbrev pub AreSettings : ℕ → List Setting → Form
-AreSettings n [] = nothing
-AreSettings n (s ∷ more) = between (Sign OPEN_PARENTHESIS) (Sign CLOSE_PARENTHESIS)
-    (separated (Sign COMMA) (IsSetting n) (s ∷ more))
+abbrev pub ReadsSettings : ℕ → List Setting → Form
+ReadsSettings n [] = nothing
+ReadsSettings n (s ∷ more) = between (Sign OPEN_PARENTHESIS) (Sign CLOSE_PARENTHESIS)
+    (separated_by (Sign COMMA) (ReadsSetting n) (s ∷ more))
 
 -- any token but "(" and ")"
 pub record plain_token (next : TokenKind) (ts : Tokens) : Type 0 where
@@ -81,18 +81,18 @@ bracketed zero = never
 bracketed (suc n) = between (Sign OPEN_PARENTHESIS) (Sign CLOSE_PARENTHESIS) (unread n)
 
 -- [ "(" Unread ")" ], with the span of what is unread
-abbrev pub IsAttribute : ℕ → Option Span → Form
-IsAttribute n None = nothing
-IsAttribute zero (Some span) = never
-IsAttribute (suc n) (Some span) = between (Sign OPEN_PARENTHESIS) (Sign CLOSE_PARENTHESIS) (covering span (unread n))
+abbrev pub ReadsAttribute : ℕ → Option Span → Form
+ReadsAttribute n None = nothing
+ReadsAttribute zero (Some span) = never
+ReadsAttribute (suc n) (Some span) = between (Sign OPEN_PARENTHESIS) (Sign CLOSE_PARENTHESIS) (covering span (unread n))
 
 -- Event = name [ "(" Unread ")" ]
-pub record IsEvent (n : ℕ) (m : Member) (next : TokenKind) (ts : Tokens) : Type 0 where
+pub record ReadsEvent (n : ℕ) (m : Member) (next : TokenKind) (ts : Tokens) : Type 0 where
   pub name : NameId
   pub at : Place
   pub attribute : Option Span
   pub is : m ≡ member.Event name at attribute
-  pub reads : (IsPlacedName (name, at) ▸ IsAttribute n attribute) next ts
+  pub reads : (ReadsPlacedName (name, at) ▸ ReadsAttribute n attribute) next ts
 
 -- Piece = any token but "(", ")" and ";" | "(" Unread ")"
 abbrev pub kept_piece : ℕ → TokenKind → Tokens → Type 0
@@ -104,116 +104,121 @@ abbrev pub kept : ℕ → Form
 kept n = kept_piece n ▸ many (kept_piece n)
 
 -- Type Names [ Settings ] ";"
-pub record IsDeclared (n : ℕ) (m : Member) (next : TokenKind) (ts : Tokens) : Type 0 where
+pub record ReadsDeclared (n : ℕ) (m : Member) (next : TokenKind) (ts : Tokens) : Type 0 where
   pub type : TypeName
   pub names : Vec (NameId × Place) Global
   pub settings : Vec Setting Global
   pub is : m ≡ member.Declare type names settings
-  pub reads : (IsType type ▸ AreNames names.items ▸ AreSettings n settings.items ▸ token (Sign SEMICOLON)) next ts
+  pub reads : (ReadsType type ▸ ReadsNames names.items ▸ ReadsSettings n settings.items ▸ token (Sign SEMICOLON)) next
+      ts
 
 -- Part = ( "!" | "?" ) Path
-abbrev pub IsPart : Part → Form
-IsPart p = token (Sign (if p.must then EXCLAMATION else QUESTION)) ▸ IsPath p.event
+abbrev pub ReadsPart : Part → Form
+ReadsPart p = token (Sign (if p.must then EXCLAMATION else QUESTION)) ▸ ReadsPath p.event
 
 -- Transition = name ":" ( Part { "&" Part } ";" | Expr "->" Instr )
-pub data IsTransition (n : ℕ) (m : Member) (next : TokenKind) (ts : Tokens) : Type 0 where
+pub data ReadsTransition (n : ℕ) (m : Member) (next : TokenKind) (ts : Tokens) : Type 0 where
   sync : (name : NameId) (at : Place) (parts : Vec Part Global) → m ≡ member.Sync name at parts →
-      (IsPlacedName (name, at) ▸ between (Sign COLON) (Sign SEMICOLON) (separated (Sign AMPERSAND) IsPart parts.items))
-      next ts → IsTransition n m next ts
+      (ReadsPlacedName (name, at) ▸ between (Sign COLON) (Sign SEMICOLON)
+      (separated_by (Sign AMPERSAND) ReadsPart parts.items))
+      next ts → ReadsTransition n m next ts
   local : (name : NameId) (at : Place) (guard : RawExpr) (action : Instr) → m ≡ member.Local name at guard action →
-      (IsPlacedName (name, at) ▸ between (Sign COLON) (Sign ARROW) (Node (IsExpr n) guard) ▸ IsInstr n action) next ts
-      → IsTransition n m next ts
+      (ReadsPlacedName (name, at) ▸ between (Sign COLON) (Sign ARROW) (Node (ReadsExpr n) guard) ▸ ReadsInstr n action)
+      next ts
+      → ReadsTransition n m next ts
 
 -- an instruction of an assertion
-pub record IsAssertion (n : ℕ) (m : Member) (next : TokenKind) (ts : Tokens) : Type 0 where
+pub record ReadsAssertion (n : ℕ) (m : Member) (next : TokenKind) (ts : Tokens) : Type 0 where
   pub i : Instr
   pub is : m ≡ member.Assert i
-  pub reads : IsInstr n i next ts
+  pub reads : ReadsInstr n i next ts
 
 -- Section = "transition" { Transition } | "assertion" { Instr }
-abbrev pub IsSection : ℕ → List Member → Form
-IsSection n ms = (token (Reserved TRANSITION) ▸ each (IsTransition n) ms) ∣
-    (token (Reserved ASSERTION) ▸ each (IsAssertion n) ms)
+abbrev pub ReadsSection : ℕ → List Member → Form
+ReadsSection n ms = (token (Reserved TRANSITION) ▸ each (ReadsTransition n) ms) ∣
+    (token (Reserved ASSERTION) ▸ each (ReadsAssertion n) ms)
 
 -- the path of a hidden event
-pub record IsHidden (m : Member) (next : TokenKind) (ts : Tokens) : Type 0 where
+pub record ReadsHidden (m : Member) (next : TokenKind) (ts : Tokens) : Type 0 where
   pub event : Path
   pub is : m ≡ member.Hide event
-  pub reads : IsPath event next ts
+  pub reads : ReadsPath event next ts
 
 -- name Body "end"
-abbrev pub IsUnit : (List Member → Form) → UnitTree → Form
-IsUnit Body u = IsPlacedName (u.name, u.at) ▸ Body u.members.items ▸ token (Reserved END)
+abbrev pub ReadsUnit : (List Member → Form) → UnitTree → Form
+ReadsUnit Body u = ReadsPlacedName (u.name, u.at) ▸ Body u.members.items ▸ token (Reserved END)
 
 -- A clause that begins with a reserved word and makes one member.
-pub data IsSingle (n : ℕ) (m : Member) (next : TokenKind) (ts : Tokens) : Type 0 where
+pub data ReadsSingle (n : ℕ) (m : Member) (next : TokenKind) (ts : Tokens) : Type 0 where
   -- "extends" name ";"
   extends : (name : NameId) (at : Place)
-      → m ≡ member.Extends name at → between (Reserved EXTENDS) (Sign SEMICOLON) (IsPlacedName (name, at)) next ts
-      → IsSingle n m next ts
+      → m ≡ member.Extends name at → between (Reserved EXTENDS) (Sign SEMICOLON) (ReadsPlacedName (name, at)) next ts
+      → ReadsSingle n m next ts
   -- "Boolean" Names [ Settings ] ";"
-  boolean : (declared : IsDeclared n m next ts) → declared.type.form ≡ type_form.Boolean → IsSingle n m next ts
+  boolean : (declared : ReadsDeclared n m next ts) → declared.type.form ≡ type_form.Boolean → ReadsSingle n m next ts
   -- "clones" Path "as" name ";"
   clones : (p : Path) (name : NameId) (at : Place)
-      → m ≡ member.Clones p name at → (token (Reserved CLONES) ▸ IsPath p ▸ between (Reserved AS) (Sign SEMICOLON)
-      (IsPlacedName (name, at))) next ts → IsSingle n m next ts
+      → m ≡ member.Clones p name at → (token (Reserved CLONES) ▸ ReadsPath p ▸ between (Reserved AS) (Sign SEMICOLON)
+      (ReadsPlacedName (name, at))) next ts → ReadsSingle n m next ts
   -- "embeds" Path "as" name ";"
   embeds : (p : Path) (name : NameId) (at : Place)
-      → m ≡ member.Embeds p name at → (token (Reserved EMBEDS) ▸ IsPath p ▸ between (Reserved AS) (Sign SEMICOLON)
-      (IsPlacedName (name, at))) next ts → IsSingle n m next ts
+      → m ≡ member.Embeds p name at → (token (Reserved EMBEDS) ▸ ReadsPath p ▸ between (Reserved AS) (Sign SEMICOLON)
+      (ReadsPlacedName (name, at))) next ts → ReadsSingle n m next ts
   -- "parameter" "Real" name "=" Kept ";"
   kept_value : (name : NameId) (at : Place) (span : Span) → m ≡ member.Kept name at span →
-      (token (Reserved PARAMETER) ▸ token (Reserved REAL) ▸ IsPlacedName (name, at) ▸ between (Sign EQUALS)
-      (Sign SEMICOLON) (covering span (kept n))) next ts → IsSingle n m next ts
+      (token (Reserved PARAMETER) ▸ token (Reserved REAL) ▸ ReadsPlacedName (name, at) ▸ between (Sign EQUALS)
+      (Sign SEMICOLON) (covering span (kept n))) next ts → ReadsSingle n m next ts
   -- "parameter" Type name "=" Expr ";"
   parameter : (type : TypeName) (name : NameId) (at : Place) (value : RawExpr) → m ≡ member.Parameter type name at value
       →
-      (token (Reserved PARAMETER) ▸ IsType type ▸ IsPlacedName (name, at) ▸ between (Sign EQUALS) (Sign SEMICOLON)
-      (Node (IsExpr n) value)) next ts → IsSingle n m next ts
+      (token (Reserved PARAMETER) ▸ ReadsType type ▸ ReadsPlacedName (name, at) ▸ between (Sign EQUALS) (Sign SEMICOLON)
+      (Node (ReadsExpr n) value)) next ts → ReadsSingle n m next ts
   -- "observer" Type name "=" Expr ";"
   observer : (type : TypeName) (name : NameId) (at : Place) (value : RawExpr) → m ≡ member.Observer type name at value →
-      (token (Reserved OBSERVER) ▸ IsType type ▸ IsPlacedName (name, at) ▸ between (Sign EQUALS) (Sign SEMICOLON)
-      (Node (IsExpr n) value)) next ts → IsSingle n m next ts
+      (token (Reserved OBSERVER) ▸ ReadsType type ▸ ReadsPlacedName (name, at) ▸ between (Sign EQUALS) (Sign SEMICOLON)
+      (Node (ReadsExpr n) value)) next ts → ReadsSingle n m next ts
 
 -- A clause that begins with a reserved word, and the members that it makes.
-pub data IsKeyed (n : ℕ) (Body : List Member → Form) (ms : List Member) (next : TokenKind) (ts : Tokens) : Type 0 where
-  single : (m : Member) → ms ≡ m ∷ [] → IsSingle n m next ts → IsKeyed n Body ms next ts
+pub data ReadsKeyed (n : ℕ) (Body : List Member → Form) (ms : List Member) (next : TokenKind)
+    (ts : Tokens) : Type 0 where
+  single : (m : Member) → ms ≡ m ∷ [] → ReadsSingle n m next ts → ReadsKeyed n Body ms next ts
   -- "block" name Body "end"
-  block : (u : UnitTree) → ms ≡ member.Block u ∷ [] → (token (Reserved BLOCK) ▸ IsUnit Body u) next ts
-      → IsKeyed n Body ms next ts
+  block : (u : UnitTree) → ms ≡ member.Block u ∷ [] → (token (Reserved BLOCK) ▸ ReadsUnit Body u) next ts
+      → ReadsKeyed n Body ms next ts
   -- "event" Event { "," Event } ";"
-  event : between (Reserved EVENT) (Sign SEMICOLON) (separated (Sign COMMA) (IsEvent n) ms) next ts
-      → IsKeyed n Body ms next ts
+  event : between (Reserved EVENT) (Sign SEMICOLON) (separated_by (Sign COMMA) (ReadsEvent n) ms) next ts
+      → ReadsKeyed n Body ms next ts
   -- "hide" Path { "," Path } ";"
-  hide : between (Reserved HIDE) (Sign SEMICOLON) (separated (Sign COMMA) IsHidden ms) next ts
-      → IsKeyed n Body ms next ts
+  hide : between (Reserved HIDE) (Sign SEMICOLON) (separated_by (Sign COMMA) ReadsHidden ms) next ts
+      → ReadsKeyed n Body ms next ts
 
 -- Member = Keyed | name Names [ Settings ] ";"
-pub data IsMember (n : ℕ) (Body : List Member → Form) (ms : List Member) (next : TokenKind) (ts : Tokens) : Type 0 where
-  keyed : IsKeyed n Body ms next ts → IsMember n Body ms next ts
-  named : (m : Member) → ms ≡ m ∷ [] → (declared : IsDeclared n m next ts) → (name : NameId)
-      → declared.type.form ≡ type_form.Named name → IsMember n Body ms next ts
+pub data ReadsMember (n : ℕ) (Body : List Member → Form) (ms : List Member) (next : TokenKind)
+    (ts : Tokens) : Type 0 where
+  keyed : ReadsKeyed n Body ms next ts → ReadsMember n Body ms next ts
+  named : (m : Member) → ms ≡ m ∷ [] → (declared : ReadsDeclared n m next ts) → (name : NameId)
+      → declared.type.form ≡ type_form.Named name → ReadsMember n Body ms next ts
 
 -- Section | Keyed
-abbrev pub IsLater : ℕ → (List Member → Form) → List Member → Form
-IsLater n Body ms = IsSection n ms ∣ IsKeyed n Body ms
+abbrev pub ReadsLater : ℕ → (List Member → Form) → List Member → Form
+ReadsLater n Body ms = ReadsSection n ms ∣ ReadsKeyed n Body ms
 
 -- [ Section { Section | Keyed } ]
-pub data AreSections (n : ℕ) (Body : List Member → Form) (ms : List Member) (next : TokenKind) (ts : Tokens) : Type
+pub data ReadsSections (n : ℕ) (Body : List Member → Form) (ms : List Member) (next : TokenKind) (ts : Tokens) : Type
     0 where
-  none : ms ≡ [] → nothing next ts → AreSections n Body ms next ts
-  some : (xs ys : List Member) → ms ≡ xs ++ ys → (IsSection n xs ▸ groups (IsLater n Body) ys) next ts
-      → AreSections n Body ms next ts
+  none : ms ≡ [] → nothing next ts → ReadsSections n Body ms next ts
+  some : (xs ys : List Member) → ms ≡ xs ++ ys → (ReadsSection n xs ▸ groups (ReadsLater n Body) ys) next ts
+      → ReadsSections n Body ms next ts
 
 -- Body = { Member } [ Section { Section | Keyed } ]
-pub record IsBodyOf (n : ℕ) (Body : List Member → Form) (ms : List Member) (next : TokenKind) (ts : Tokens) : Type
+pub record ReadsBodyOf (n : ℕ) (Body : List Member → Form) (ms : List Member) (next : TokenKind) (ts : Tokens) : Type
     0 where
   pub xs : List Member
   pub ys : List Member
   pub all : ms ≡ xs ++ ys
-  pub reads : (groups (IsMember n Body) xs ▸ AreSections n Body ys) next ts
+  pub reads : (groups (ReadsMember n Body) xs ▸ ReadsSections n Body ys) next ts
 
 -- A body, with at most n productions open at one token. An empty body is open nowhere.
-abbrev pub IsBody : ℕ → List Member → TokenKind → Tokens → Type 0
-IsBody zero ms next ts = (ms ≡ []) × (ts ≡ [])
-IsBody (suc n) ms next ts = IsBodyOf n (IsBody n) ms next ts
+abbrev pub ReadsBody : ℕ → List Member → TokenKind → Tokens → Type 0
+ReadsBody zero ms next ts = (ms ≡ []) × (ts ≡ [])
+ReadsBody (suc n) ms next ts = ReadsBodyOf n (ReadsBody n) ms next ts

@@ -7,106 +7,106 @@ use Rattle.ar_lexer.specs.declared.words.TheConstants.{AS, BOOLEAN, CLONES, EMBE
 use Rattle.ar_grammar.specs.declared.terms.Chain.{Chain}
 use Rattle.ar_grammar.specs.declared.terms.Chain.TheVariants as chain
 use Rattle.ar_grammar.specs.Words.{Form, token, deep, ◌▸◌, ◌∣◌, many, between}
-use Rattle.ar_grammar.specs.Texts.{one_of, list_of, maybe, path_text, plus_text, product_text, and_text, case_form, expr_text, not_text, minus_text, instr_text, is_type, is_unread, is_kept, bracketed_text, kept_text, declared_rest, valued_text, is_part, transition_text, section_text, unit_text, keyed_text, body_text, names_text, bound_text}
+use Rattle.ar_grammar.specs.Texts.{one_of, list_of, maybe, path_tokens, plus_tokens, product_tokens, and_tokens, case_made_of, expr_tokens, not_tokens, minus_tokens, instr_tokens, is_type, is_unread, is_kept, bracketed_tokens, kept_tokens, declared_rest, valued_tokens, is_part, transition_tokens, section_tokens, unit_tokens, keyed_tokens, body_tokens, names_tokens, bound_tokens}
 use Rattle.ar_grammar.specs.Chains.{separator_of}
 
 -- Expressions: what stands between the separators of a chain, the chain, a term behind the first, and a case
 
-abbrev pub operand_text : Chain → ℕ → Form
-operand_text chain.Any n = and_text (not_text deep n)
-operand_text chain.All n = not_text deep n
-operand_text chain.Product n = minus_text deep n
+abbrev pub operand_tokens : Chain → ℕ → Form
+operand_tokens chain.Any n = and_tokens (not_tokens deep n)
+operand_tokens chain.All n = not_tokens deep n
+operand_tokens chain.Product n = minus_tokens deep n
 
-abbrev pub chain_text : Chain → ℕ → Form
-chain_text c n = list_of (separator_of c) (operand_text c n)
+abbrev pub chain_tokens : Chain → ℕ → Form
+chain_tokens c n = list_of (separator_of c) (operand_tokens c n)
 
-abbrev pub term_text : ℕ → Form
-term_text n = plus_text ▸ product_text (minus_text deep n)
+abbrev pub term_tokens : ℕ → Form
+term_tokens n = plus_tokens ▸ product_tokens (minus_tokens deep n)
 
-abbrev pub case_text : ℕ → Form
-case_text n = case_form (expr_text deep n)
+abbrev pub case_tokens : ℕ → Form
+case_tokens n = case_made_of (expr_tokens deep n)
 
 -- Unread and kept texts, piece by piece, and an event
 
-abbrev pub unread_text : ℕ → Form
-unread_text n = one_of is_unread ∣ bracketed_text deep n
+abbrev pub unread_tokens : ℕ → Form
+unread_tokens n = one_of is_unread ∣ bracketed_tokens deep n
 
-abbrev pub attribute_text : ℕ → Form
-attribute_text n = maybe (bracketed_text deep n)
+abbrev pub attribute_tokens : ℕ → Form
+attribute_tokens n = maybe (bracketed_tokens deep n)
 
-abbrev pub kept_piece_text : ℕ → Form
-kept_piece_text n = one_of is_kept ∣ bracketed_text deep n
+abbrev pub kept_piece_tokens : ℕ → Form
+kept_piece_tokens n = one_of is_kept ∣ bracketed_tokens deep n
 
-abbrev pub event_text : ℕ → Form
-event_text n = token Name ▸ attribute_text n
+abbrev pub event_tokens : ℕ → Form
+event_tokens n = token Name ▸ attribute_tokens n
 
 -- Transitions and sections
 
-abbrev pub part_text : Form
-part_text = one_of is_part ▸ path_text
+abbrev pub part_tokens : Form
+part_tokens = one_of is_part ▸ path_tokens
 
-abbrev pub parts_text : Form
-parts_text = list_of (Sign AMPERSAND) part_text ▸ token (Sign SEMICOLON)
+abbrev pub parts_tokens : Form
+parts_tokens = list_of (Sign AMPERSAND) part_tokens ▸ token (Sign SEMICOLON)
 
-abbrev pub guarded_text : ℕ → Form
-guarded_text n = expr_text deep n ▸ token (Sign ARROW) ▸ instr_text deep n
+abbrev pub guarded_tokens : ℕ → Form
+guarded_tokens n = expr_tokens deep n ▸ token (Sign ARROW) ▸ instr_tokens deep n
 
 abbrev pub transition_of : ℕ → Form
-transition_of n = transition_text (expr_text deep n) (instr_text deep n)
+transition_of n = transition_tokens (expr_tokens deep n) (instr_tokens deep n)
 
 abbrev pub section_of : ℕ → Form
-section_of n = section_text (expr_text deep n) (instr_text deep n)
+section_of n = section_tokens (expr_tokens deep n) (instr_tokens deep n)
 
 -- Clauses that make one member
 
-abbrev pub declaration_text : ℕ → Form
-declaration_text n = one_of is_type ▸ declared_rest (expr_text deep n)
+abbrev pub declaration_tokens : ℕ → Form
+declaration_tokens n = one_of is_type ▸ declared_rest (expr_tokens deep n)
 
-abbrev pub alias_text : Form
-alias_text = path_text ▸ between (Reserved AS) (Sign SEMICOLON) (token Name)
+abbrev pub alias_tokens : Form
+alias_tokens = path_tokens ▸ between (Reserved AS) (Sign SEMICOLON) (token Name)
 
-abbrev pub value_text : ℕ → Form
-value_text n = valued_text (expr_text deep n)
+abbrev pub value_tokens : ℕ → Form
+value_tokens n = valued_tokens (expr_tokens deep n)
 
-abbrev pub kept_value_text : ℕ → Form
-kept_value_text n = token (Reserved REAL) ▸ token Name ▸ between (Sign EQUALS) (Sign SEMICOLON)
-    (kept_text (bracketed_text deep n))
+abbrev pub kept_value_tokens : ℕ → Form
+kept_value_tokens n = token (Reserved REAL) ▸ token Name ▸ between (Sign EQUALS) (Sign SEMICOLON)
+    (kept_tokens (bracketed_tokens deep n))
 
-abbrev pub parameter_text : ℕ → Form
-parameter_text n = token (Reserved PARAMETER) ▸ (kept_value_text n ∣ value_text n)
+abbrev pub parameter_tokens : ℕ → Form
+parameter_tokens n = token (Reserved PARAMETER) ▸ (kept_value_tokens n ∣ value_tokens n)
 
-abbrev pub single_text : ℕ → Form
-single_text n =
+abbrev pub single_tokens : ℕ → Form
+single_tokens n =
     (token (Reserved EXTENDS) ▸ token Name ▸ token (Sign SEMICOLON))
-    ∣ (token (Reserved BOOLEAN) ▸ declared_rest (expr_text deep n))
-    ∣ (token (Reserved CLONES) ▸ alias_text)
-    ∣ (token (Reserved EMBEDS) ▸ alias_text)
-    ∣ (token (Reserved OBSERVER) ▸ value_text n)
-    ∣ parameter_text n
+    ∣ (token (Reserved BOOLEAN) ▸ declared_rest (expr_tokens deep n))
+    ∣ (token (Reserved CLONES) ▸ alias_tokens)
+    ∣ (token (Reserved EMBEDS) ▸ alias_tokens)
+    ∣ (token (Reserved OBSERVER) ▸ value_tokens n)
+    ∣ parameter_tokens n
 
 -- Bodies
 
 abbrev pub unit_of : ℕ → Form
-unit_of n = unit_text (body_text deep n)
+unit_of n = unit_tokens (body_tokens deep n)
 
 abbrev pub keyed_of : ℕ → Form
-keyed_of n = keyed_text (expr_text deep n) (bracketed_text deep n) (body_text deep n)
+keyed_of n = keyed_tokens (expr_tokens deep n) (bracketed_tokens deep n) (body_tokens deep n)
 
-abbrev pub member_text : ℕ → Form
-member_text n = keyed_of n ∣ (token Name ▸ declared_rest (expr_text deep n))
+abbrev pub member_tokens : ℕ → Form
+member_tokens n = keyed_of n ∣ (token Name ▸ declared_rest (expr_tokens deep n))
 
-abbrev pub later_text : ℕ → Form
-later_text n = section_of n ∣ keyed_of n
+abbrev pub later_tokens : ℕ → Form
+later_tokens n = section_of n ∣ keyed_of n
 
-abbrev pub sections_text : ℕ → Form
-sections_text n = maybe (section_of n ▸ many (later_text n))
+abbrev pub sections_tokens : ℕ → Form
+sections_tokens n = maybe (section_of n ▸ many (later_tokens n))
 
 abbrev pub inside_body : ℕ → Form
-inside_body n = many (member_text n) ▸ sections_text n
+inside_body n = many (member_tokens n) ▸ sections_tokens n
 
 -- What a domain holds
 
-abbrev pub domain_body_text : Form
-domain_body_text =
-    between (Sign OPEN_BRACE) (Sign CLOSE_BRACE) names_text
-    ∣ (between (Sign OPEN_BRACKET) (Sign COMMA) bound_text ▸ bound_text ▸ token (Sign CLOSE_BRACKET))
+abbrev pub domain_body_tokens : Form
+domain_body_tokens =
+    between (Sign OPEN_BRACE) (Sign CLOSE_BRACE) names_tokens
+    ∣ (between (Sign OPEN_BRACKET) (Sign COMMA) bound_tokens ▸ bound_tokens ▸ token (Sign CLOSE_BRACKET))

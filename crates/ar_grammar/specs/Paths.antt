@@ -10,17 +10,17 @@ use Rattle.ar_syntax.specs.declared.paths.PathStart.{PathStart}
 use Rattle.ar_syntax.specs.declared.paths.PathStart.TheVariants.{Here, Owner, Main}
 use Rattle.ar_grammar.specs.declared.lexeme.Lexeme.{Lexeme}
 use Rattle.ar_base.specs.Numbers.{NameId}
-use Rattle.ar_grammar.specs.Words.{Tokens, Form, token, nothing, ◌▸◌, separated, standing}
+use Rattle.ar_grammar.specs.Words.{Tokens, Form, token, nothing, ◌▸◌, separated_by, standing}
 
 -- name
-pub record IsName (name : NameId) (next : TokenKind) (ts : Tokens) : Type 0 where
+pub record ReadsName (name : NameId) (next : TokenKind) (ts : Tokens) : Type 0 where
   pub one : Lexeme
   pub alone : ts ≡ one ∷ []
   pub of_kind : one.kind ≡ Name
   pub number : name ≡ one.name
 
 -- name, with its place
-pub record IsPlacedName (name : NameId × Place) (next : TokenKind) (ts : Tokens) : Type 0 where
+pub record ReadsPlacedName (name : NameId × Place) (next : TokenKind) (ts : Tokens) : Type 0 where
   pub one : Lexeme
   pub alone : ts ≡ one ∷ []
   pub of_kind : one.kind ≡ Name
@@ -28,14 +28,14 @@ pub record IsPlacedName (name : NameId × Place) (next : TokenKind) (ts : Tokens
   pub place : name.1 ≡ one.at
 
 -- Names = name { "," name }
-abbrev pub AreNames : List (NameId × Place) → Form
-AreNames names = separated (Sign COMMA) IsPlacedName names
+abbrev pub ReadsNames : List (NameId × Place) → Form
+ReadsNames names = separated_by (Sign COMMA) ReadsPlacedName names
 
 -- Path = [ ( "owner" | "main" ) "." ] name { "." name }
-abbrev pub IsStart : PathStart → Form
-IsStart Here = nothing
-IsStart Owner = token (Reserved OWNER) ▸ token (Sign DOT)
-IsStart Main = token (Reserved MAIN) ▸ token (Sign DOT)
+abbrev pub ReadsStart : PathStart → Form
+ReadsStart Here = nothing
+ReadsStart Owner = token (Reserved OWNER) ▸ token (Sign DOT)
+ReadsStart Main = token (Reserved MAIN) ▸ token (Sign DOT)
 
-abbrev pub IsPath : Path → Form
-IsPath p = standing p.at (IsStart p.start ▸ separated (Sign DOT) IsName p.names.items)
+abbrev pub ReadsPath : Path → Form
+ReadsPath p = standing p.at (ReadsStart p.start ▸ separated_by (Sign DOT) ReadsName p.names.items)

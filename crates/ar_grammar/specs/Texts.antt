@@ -7,8 +7,8 @@ use Rattle.ar_lexer.specs.declared.signs.TheConstants.{OPEN_BRACE, CLOSE_BRACE, 
 use Rattle.ar_lexer.specs.declared.words.TheConstants.{AND, AS, ASSERTION, BLOCK, BOOLEAN, CASE, CLASS, CLONES, COUNT, DEFAULT, DOMAIN, ELSE, EMBEDS, END, EVENT, EXTENDS, FALSE, HIDE, IF, INIT, INTEGER, MAX, MIN, NOT, OBSERVER, OR, PARAMETER, REAL, RESET, SKIP, SWITCH, THEN, TRANSITION, TRUE}
 use Rattle.ar_syntax.specs.declared.expressions.RawRelation.{RawRelation}
 use Rattle.ar_grammar.specs.declared.lexeme.Lexeme.{Lexeme}
-use Rattle.ar_grammar.specs.Words.{Form, Tokens, token, nothing, never, deep, not_before, ◌▸◌, ◌∣◌, many, between, Has}
-use Rattle.ar_grammar.specs.Paths.{IsStart}
+use Rattle.ar_grammar.specs.Words.{Form, Tokens, token, nothing, never, deep, not_before, ◌▸◌, ◌∣◌, many, between, ReadsSome}
+use Rattle.ar_grammar.specs.Paths.{ReadsStart}
 use Rattle.ar_grammar.specs.Expressions.{sign_of}
 
 -- one token that passes this test
@@ -26,53 +26,53 @@ abbrev pub maybe : Form → Form
 maybe A = nothing ∣ A
 
 -- Names = name { "," name };  Path = [ ( "owner" | "main" ) "." ] name { "." name }
-abbrev pub names_text : Form
-names_text = list_of (Sign COMMA) (token Name)
+abbrev pub names_tokens : Form
+names_tokens = list_of (Sign COMMA) (token Name)
 
-abbrev pub path_text : Form
-path_text = Has IsStart ▸ list_of (Sign DOT) (token Name)
+abbrev pub path_tokens : Form
+path_tokens = ReadsSome ReadsStart ▸ list_of (Sign DOT) (token Name)
 
 -- Expressions
 
 -- Product = Minus { "*" Minus };  Sum = Product { ( "+" | "-" ) Product }
-abbrev pub plus_text : Form
-plus_text = Has (λ (plus : Bool). token (Sign (if plus then PLUS else MINUS)))
+abbrev pub plus_tokens : Form
+plus_tokens = ReadsSome (λ (plus : Bool). token (Sign (if plus then PLUS else MINUS)))
 
-abbrev pub product_text : Form → Form
-product_text Minus = list_of (Sign STAR) Minus
+abbrev pub product_tokens : Form → Form
+product_tokens Minus = list_of (Sign STAR) Minus
 
-abbrev pub sum_text : Form → Form
-sum_text Product = Product ▸ many (plus_text ▸ Product)
+abbrev pub sum_tokens : Form → Form
+sum_tokens Product = Product ▸ many (plus_tokens ▸ Product)
 
 -- Compare = Sum [ relation Sum ]
-abbrev pub relation_text : Form
-relation_text = Has (λ (r : RawRelation). token (Sign (sign_of r)))
+abbrev pub relation_tokens : Form
+relation_tokens = ReadsSome (λ (r : RawRelation). token (Sign (sign_of r)))
 
-abbrev pub compare_text : Form → Form
-compare_text Sum = Sum ▸ maybe (relation_text ▸ Sum)
+abbrev pub compare_tokens : Form → Form
+compare_tokens Sum = Sum ▸ maybe (relation_tokens ▸ Sum)
 
 -- Or = And { "or" And };  And = Not { "and" Not }
-abbrev pub and_text : Form → Form
-and_text Not = list_of (Reserved AND) Not
+abbrev pub and_tokens : Form → Form
+and_tokens Not = list_of (Reserved AND) Not
 
-abbrev pub or_text : Form → Form
-or_text Not = list_of (Reserved OR) (and_text Not)
+abbrev pub or_tokens : Form → Form
+or_tokens Not = list_of (Reserved OR) (and_tokens Not)
 
 -- "if" Expr "then" Expr "else" Expr
-abbrev pub if_text : Form → Form
-if_text Expr = between (Reserved IF) (Reserved THEN) Expr ▸ Expr ▸ token (Reserved ELSE) ▸ Expr
+abbrev pub if_tokens : Form → Form
+if_tokens Expr = between (Reserved IF) (Reserved THEN) Expr ▸ Expr ▸ token (Reserved ELSE) ▸ Expr
 
 -- Case = "case" Expr ":" Expr;  "switch" "{" Case { Case } "default" ":" Expr "}"
-abbrev pub case_form : Form → Form
-case_form Expr = between (Reserved CASE) (Sign COLON) Expr ▸ Expr
+abbrev pub case_made_of : Form → Form
+case_made_of Expr = between (Reserved CASE) (Sign COLON) Expr ▸ Expr
 
-abbrev pub switch_text : Form → Form
-switch_text Expr = token (Reserved SWITCH) ▸ token (Sign OPEN_BRACE) ▸ case_form Expr ▸ many (case_form Expr) ▸ token
-    (Reserved DEFAULT) ▸ between (Sign COLON) (Sign CLOSE_BRACE) Expr
+abbrev pub switch_tokens : Form → Form
+switch_tokens Expr = token (Reserved SWITCH) ▸ token (Sign OPEN_BRACE) ▸ case_made_of Expr ▸ many (case_made_of Expr)
+    ▸ token (Reserved DEFAULT) ▸ between (Sign COLON) (Sign CLOSE_BRACE) Expr
 
 -- "(" Expr { "," Expr } ")"
-abbrev pub operands_text : Form → Form
-operands_text Expr = token (Sign OPEN_PARENTHESIS) ▸ Expr ▸ many (token (Sign COMMA) ▸ Expr) ▸ token
+abbrev pub operands_tokens : Form → Form
+operands_tokens Expr = token (Sign OPEN_PARENTHESIS) ▸ Expr ▸ many (token (Sign COMMA) ▸ Expr) ▸ token
     (Sign CLOSE_PARENTHESIS)
 
 -- a whole number, a real number, "true" or "false"
@@ -88,58 +88,59 @@ begins_call (Reserved w) = (w == MIN) || (w == MAX) || (w == COUNT)
 begins_call _ = false
 
 -- Primary = constant | Path | "(" Expr ")" | call Operands | Switch
-pub data primary_text (Expr : Form) (next : TokenKind) (ts : Tokens) : Type 0 where
-  constant : one_of begins_constant next ts → primary_text Expr next ts
-  path : path_text next ts → primary_text Expr next ts
-  brackets : between (Sign OPEN_PARENTHESIS) (Sign CLOSE_PARENTHESIS) Expr next ts → primary_text Expr next ts
-  call : (one_of begins_call ▸ operands_text Expr) next ts → primary_text Expr next ts
-  switch : switch_text Expr next ts → primary_text Expr next ts
+pub data primary_tokens (Expr : Form) (next : TokenKind) (ts : Tokens) : Type 0 where
+  constant : one_of begins_constant next ts → primary_tokens Expr next ts
+  path : path_tokens next ts → primary_tokens Expr next ts
+  brackets : between (Sign OPEN_PARENTHESIS) (Sign CLOSE_PARENTHESIS) Expr next ts → primary_tokens Expr next ts
+  call : (one_of begins_call ▸ operands_tokens Expr) next ts → primary_tokens Expr next ts
+  switch : switch_tokens Expr next ts → primary_tokens Expr next ts
 
 abbrev mutual
   -- Expr = "if" Expr "then" Expr "else" Expr | Or
-  pub expr_text : Form → ℕ → TokenKind → Tokens → Type 0
-  expr_text cut zero next ts = cut next ts
-  expr_text cut (suc n) next ts = (if_text (expr_text cut n) ∣ or_text (not_text cut n)) next ts
+  pub expr_tokens : Form → ℕ → TokenKind → Tokens → Type 0
+  expr_tokens cut zero next ts = cut next ts
+  expr_tokens cut (suc n) next ts = (if_tokens (expr_tokens cut n) ∣ or_tokens (not_tokens cut n)) next ts
 
   -- Not = "not" Not | Compare
-  pub not_text : Form → ℕ → TokenKind → Tokens → Type 0
-  not_text cut zero next ts = cut next ts
-  not_text cut (suc n) next ts = ((token (Reserved NOT) ▸ not_text cut n) ∣ compare_text
-      (sum_text (product_text (minus_text cut n)))) next ts
+  pub not_tokens : Form → ℕ → TokenKind → Tokens → Type 0
+  not_tokens cut zero next ts = cut next ts
+  not_tokens cut (suc n) next ts = ((token (Reserved NOT) ▸ not_tokens cut n) ∣ compare_tokens
+      (sum_tokens (product_tokens (minus_tokens cut n)))) next ts
 
   -- Minus = "-" Minus | Primary
-  pub minus_text : Form → ℕ → TokenKind → Tokens → Type 0
-  minus_text cut zero next ts = cut next ts
-  minus_text cut (suc n) next ts = ((token (Sign MINUS) ▸ minus_text cut n) ∣ primary_text (expr_text cut n)) next ts
+  pub minus_tokens : Form → ℕ → TokenKind → Tokens → Type 0
+  minus_tokens cut zero next ts = cut next ts
+  minus_tokens cut (suc n) next ts = ((token (Sign MINUS) ▸ minus_tokens cut n) ∣ primary_tokens (expr_tokens cut n))
+      next ts
 
 -- Instructions
 
 -- "skip" ";" | Path ( ":=" Expr | ":=:" Path ) ";"
-abbrev pub simple_text : Form → Form
-simple_text Expr =
+abbrev pub simple_tokens : Form → Form
+simple_tokens Expr =
     (token (Reserved SKIP) ▸ token (Sign SEMICOLON))
-    ∣ (path_text ▸ (between (Sign ASSIGN) (Sign SEMICOLON) Expr ∣ between (Sign TIE) (Sign SEMICOLON) path_text))
+    ∣ (path_tokens ▸ (between (Sign ASSIGN) (Sign SEMICOLON) Expr ∣ between (Sign TIE) (Sign SEMICOLON) path_tokens))
 
 -- [ "else" Instr ], where an `if` without `else` is not before the token `else`
-abbrev pub else_text : Form → Form
-else_text Instr = not_before (Reserved ELSE) ∣ (token (Reserved ELSE) ▸ Instr)
+abbrev pub else_tokens : Form → Form
+else_tokens Instr = not_before (Reserved ELSE) ∣ (token (Reserved ELSE) ▸ Instr)
 
 -- "if" Expr "then" Instr [ "else" Instr ]
-abbrev pub conditional_text : Form → Form → Form
-conditional_text Expr Instr = between (Reserved IF) (Reserved THEN) Expr ▸ Instr ▸ else_text Instr
+abbrev pub conditional_tokens : Form → Form → Form
+conditional_tokens Expr Instr = between (Reserved IF) (Reserved THEN) Expr ▸ Instr ▸ else_tokens Instr
 
 -- "{" { Instr } "}"
-abbrev pub group_text : Form → Form
-group_text Instr = between (Sign OPEN_BRACE) (Sign CLOSE_BRACE) (many Instr)
+abbrev pub group_tokens : Form → Form
+group_tokens Instr = between (Sign OPEN_BRACE) (Sign CLOSE_BRACE) (many Instr)
 
 pub data instr_of (Expr Instr : Form) (next : TokenKind) (ts : Tokens) : Type 0 where
-  simple : simple_text Expr next ts → instr_of Expr Instr next ts
-  group : group_text Instr next ts → instr_of Expr Instr next ts
-  conditional : conditional_text Expr Instr next ts → instr_of Expr Instr next ts
+  simple : simple_tokens Expr next ts → instr_of Expr Instr next ts
+  group : group_tokens Instr next ts → instr_of Expr Instr next ts
+  conditional : conditional_tokens Expr Instr next ts → instr_of Expr Instr next ts
 
-abbrev pub instr_text : Form → ℕ → TokenKind → Tokens → Type 0
-instr_text cut zero next ts = cut next ts
-instr_text cut (suc n) next ts = instr_of (expr_text cut n) (instr_text cut n) next ts
+abbrev pub instr_tokens : Form → ℕ → TokenKind → Tokens → Type 0
+instr_tokens cut zero next ts = cut next ts
+instr_tokens cut (suc n) next ts = instr_of (expr_tokens cut n) (instr_tokens cut n) next ts
 
 -- Members
 
@@ -156,12 +157,12 @@ is_target_word (Reserved w) = (w == INIT) || (w == RESET)
 is_target_word _ = false
 
 -- Setting = Word { "." Word } "=" Expr;  [ "(" Setting { "," Setting } ")" ]
-abbrev pub setting_text : Form → Form
-setting_text Expr = list_of (Sign DOT) (one_of is_target_word) ▸ token (Sign EQUALS) ▸ Expr
+abbrev pub setting_tokens : Form → Form
+setting_tokens Expr = list_of (Sign DOT) (one_of is_target_word) ▸ token (Sign EQUALS) ▸ Expr
 
-abbrev pub settings_text : Form → Form
-settings_text Expr = maybe (between (Sign OPEN_PARENTHESIS) (Sign CLOSE_PARENTHESIS)
-    (list_of (Sign COMMA) (setting_text Expr)))
+abbrev pub settings_tokens : Form → Form
+settings_tokens Expr = maybe (between (Sign OPEN_PARENTHESIS) (Sign CLOSE_PARENTHESIS)
+    (list_of (Sign COMMA) (setting_tokens Expr)))
 
 -- any token but "(" and ")", and but ";" too where the text is kept
 abbrev pub is_unread : TokenKind → Bool
@@ -175,99 +176,100 @@ is_kept End = false
 is_kept _ = true
 
 -- "(" Unread ")"
-abbrev pub bracketed_text : Form → ℕ → TokenKind → Tokens → Type 0
-bracketed_text cut zero next ts = cut next ts
-bracketed_text cut (suc n) next ts =
-    between (Sign OPEN_PARENTHESIS) (Sign CLOSE_PARENTHESIS) (many (one_of is_unread ∣ bracketed_text cut n)) next ts
+abbrev pub bracketed_tokens : Form → ℕ → TokenKind → Tokens → Type 0
+bracketed_tokens cut zero next ts = cut next ts
+bracketed_tokens cut (suc n) next ts =
+    between (Sign OPEN_PARENTHESIS) (Sign CLOSE_PARENTHESIS) (many (one_of is_unread ∣ bracketed_tokens cut n)) next ts
 
 -- Kept = Piece { Piece }, Piece = any token but "(", ")" and ";" | "(" Unread ")"
-abbrev pub kept_text : Form → Form
-kept_text Bracketed = (one_of is_kept ∣ Bracketed) ▸ many (one_of is_kept ∣ Bracketed)
+abbrev pub kept_tokens : Form → Form
+kept_tokens Bracketed = (one_of is_kept ∣ Bracketed) ▸ many (one_of is_kept ∣ Bracketed)
 
 -- Names [ Settings ] ";"
 abbrev pub declared_rest : Form → Form
-declared_rest Expr = names_text ▸ settings_text Expr ▸ token (Sign SEMICOLON)
+declared_rest Expr = names_tokens ▸ settings_tokens Expr ▸ token (Sign SEMICOLON)
 
 -- "=" Expr ";"
-abbrev pub valued_text : Form → Form
-valued_text Expr = one_of is_type ▸ token Name ▸ between (Sign EQUALS) (Sign SEMICOLON) Expr
+abbrev pub valued_tokens : Form → Form
+valued_tokens Expr = one_of is_type ▸ token Name ▸ between (Sign EQUALS) (Sign SEMICOLON) Expr
 
 -- Transition = name ":" ( Part { "&" Part } ";" | Expr "->" Instr ), Part = ( "!" | "?" ) Path
 abbrev pub is_part : TokenKind → Bool
 is_part (Sign s) = (s == EXCLAMATION) || (s == QUESTION)
 is_part _ = false
 
-abbrev pub transition_text : Form → Form → Form
-transition_text Expr Instr =
-    token Name ▸ token (Sign COLON) ▸ ((list_of (Sign AMPERSAND) (one_of is_part ▸ path_text) ▸ token (Sign SEMICOLON))
+abbrev pub transition_tokens : Form → Form → Form
+transition_tokens Expr Instr =
+    token Name ▸ token (Sign COLON)
+    ▸ ((list_of (Sign AMPERSAND) (one_of is_part ▸ path_tokens) ▸ token (Sign SEMICOLON))
     ∣ (Expr ▸ token (Sign ARROW) ▸ Instr))
 
 -- Section = "transition" { Transition } | "assertion" { Instr }
-abbrev pub section_text : Form → Form → Form
-section_text Expr Instr = (token (Reserved TRANSITION) ▸ many (transition_text Expr Instr)) ∣
+abbrev pub section_tokens : Form → Form → Form
+section_tokens Expr Instr = (token (Reserved TRANSITION) ▸ many (transition_tokens Expr Instr)) ∣
     (token (Reserved ASSERTION) ▸ many Instr)
 
 -- name Body "end"
-abbrev pub unit_text : Form → Form
-unit_text Body = token Name ▸ Body ▸ token (Reserved END)
+abbrev pub unit_tokens : Form → Form
+unit_tokens Body = token Name ▸ Body ▸ token (Reserved END)
 
 -- A clause that begins with a reserved word.
-pub data keyed_text (Expr Bracketed Body : Form) (next : TokenKind) (ts : Tokens) : Type 0 where
+pub data keyed_tokens (Expr Bracketed Body : Form) (next : TokenKind) (ts : Tokens) : Type 0 where
   extends : (token (Reserved EXTENDS) ▸ token Name ▸ token (Sign SEMICOLON)) next ts
-      → keyed_text Expr Bracketed Body next ts
-  boolean : (token (Reserved BOOLEAN) ▸ declared_rest Expr) next ts → keyed_text Expr Bracketed Body next ts
-  clones : (token (Reserved CLONES) ▸ path_text ▸ between (Reserved AS) (Sign SEMICOLON) (token Name)) next ts
-      → keyed_text Expr Bracketed Body next ts
-  embeds : (token (Reserved EMBEDS) ▸ path_text ▸ between (Reserved AS) (Sign SEMICOLON) (token Name)) next ts
-      → keyed_text Expr Bracketed Body next ts
+      → keyed_tokens Expr Bracketed Body next ts
+  boolean : (token (Reserved BOOLEAN) ▸ declared_rest Expr) next ts → keyed_tokens Expr Bracketed Body next ts
+  clones : (token (Reserved CLONES) ▸ path_tokens ▸ between (Reserved AS) (Sign SEMICOLON) (token Name)) next ts
+      → keyed_tokens Expr Bracketed Body next ts
+  embeds : (token (Reserved EMBEDS) ▸ path_tokens ▸ between (Reserved AS) (Sign SEMICOLON) (token Name)) next ts
+      → keyed_tokens Expr Bracketed Body next ts
   kept : (token (Reserved PARAMETER) ▸ token (Reserved REAL) ▸ token Name ▸ between (Sign EQUALS) (Sign SEMICOLON)
-      (kept_text Bracketed)) next ts → keyed_text Expr Bracketed Body next ts
-  parameter : (token (Reserved PARAMETER) ▸ valued_text Expr) next ts → keyed_text Expr Bracketed Body next ts
-  observer : (token (Reserved OBSERVER) ▸ valued_text Expr) next ts → keyed_text Expr Bracketed Body next ts
-  block : (token (Reserved BLOCK) ▸ unit_text Body) next ts → keyed_text Expr Bracketed Body next ts
+      (kept_tokens Bracketed)) next ts → keyed_tokens Expr Bracketed Body next ts
+  parameter : (token (Reserved PARAMETER) ▸ valued_tokens Expr) next ts → keyed_tokens Expr Bracketed Body next ts
+  observer : (token (Reserved OBSERVER) ▸ valued_tokens Expr) next ts → keyed_tokens Expr Bracketed Body next ts
+  block : (token (Reserved BLOCK) ▸ unit_tokens Body) next ts → keyed_tokens Expr Bracketed Body next ts
   event : between (Reserved EVENT) (Sign SEMICOLON) (list_of (Sign COMMA) (token Name ▸ maybe Bracketed)) next ts
-      → keyed_text Expr Bracketed Body next ts
-  hide : between (Reserved HIDE) (Sign SEMICOLON) (list_of (Sign COMMA) path_text) next ts
-      → keyed_text Expr Bracketed Body next ts
+      → keyed_tokens Expr Bracketed Body next ts
+  hide : between (Reserved HIDE) (Sign SEMICOLON) (list_of (Sign COMMA) path_tokens) next ts
+      → keyed_tokens Expr Bracketed Body next ts
 
 -- Body = { Keyed | name Names [ Settings ] ";" } [ Section { Section | Keyed } ]
-abbrev pub body_of : Form → Form → Form → Form → Form
-body_of Expr Instr Bracketed Body =
-    many (keyed_text Expr Bracketed Body ∣ (token Name ▸ declared_rest Expr))
-    ▸ maybe (section_text Expr Instr ▸ many (section_text Expr Instr ∣ keyed_text Expr Bracketed Body))
+abbrev pub body_made_of : Form → Form → Form → Form → Form
+body_made_of Expr Instr Bracketed Body =
+    many (keyed_tokens Expr Bracketed Body ∣ (token Name ▸ declared_rest Expr))
+    ▸ maybe (section_tokens Expr Instr ▸ many (section_tokens Expr Instr ∣ keyed_tokens Expr Bracketed Body))
 
 -- An empty body is open nowhere.
-abbrev pub body_text : Form → ℕ → TokenKind → Tokens → Type 0
-body_text cut zero next ts = (nothing ∣ cut) next ts
-body_text cut (suc n) next ts = body_of (expr_text cut n) (instr_text cut n) (bracketed_text cut n) (body_text cut n)
-    next ts
+abbrev pub body_tokens : Form → ℕ → TokenKind → Tokens → Type 0
+body_tokens cut zero next ts = (nothing ∣ cut) next ts
+body_tokens cut (suc n) next ts = body_made_of (expr_tokens cut n) (instr_tokens cut n) (bracketed_tokens cut n)
+    (body_tokens cut n) next ts
 
 -- Items
 
 -- Bound = [ "-" ] whole
-pub record whole_text (next : TokenKind) (ts : Tokens) : Type 0 where
+pub record whole_tokens (next : TokenKind) (ts : Tokens) : Type 0 where
   pub z : ℤ
   pub no_sign : pos 0 ≤ℤ z
   pub reads : token (Whole z) next ts
 
-abbrev pub bound_text : Form
-bound_text = whole_text ∣ (token (Sign MINUS) ▸ whole_text)
+abbrev pub bound_tokens : Form
+bound_tokens = whole_tokens ∣ (token (Sign MINUS) ▸ whole_tokens)
 
 -- "domain" name ( "{" Names "}" | "[" Bound "," Bound "]" ) [ ";" ]
-abbrev pub domain_text : Form
-domain_text =
+abbrev pub domain_tokens : Form
+domain_tokens =
     token (Reserved DOMAIN) ▸ token Name
-    ▸ (between (Sign OPEN_BRACE) (Sign CLOSE_BRACE) names_text ∣
-    (between (Sign OPEN_BRACKET) (Sign COMMA) bound_text ▸ bound_text ▸ token (Sign CLOSE_BRACKET)))
+    ▸ (between (Sign OPEN_BRACE) (Sign CLOSE_BRACE) names_tokens ∣
+    (between (Sign OPEN_BRACKET) (Sign COMMA) bound_tokens ▸ bound_tokens ▸ token (Sign CLOSE_BRACKET)))
     ▸ maybe (token (Sign SEMICOLON))
 
-abbrev pub item_text : Form → ℕ → Form
-item_text cut n = domain_text ∣ (token (Reserved CLASS) ▸ unit_text (body_text cut n)) ∣
-    (token (Reserved BLOCK) ▸ unit_text (body_text cut n))
+abbrev pub item_tokens : Form → ℕ → Form
+item_tokens cut n = domain_tokens ∣ (token (Reserved CLASS) ▸ unit_tokens (body_tokens cut n)) ∣
+    (token (Reserved BLOCK) ▸ unit_tokens (body_tokens cut n))
 
 -- Model = Item { Item }
-abbrev pub model_text : Form → ℕ → Form
-model_text cut n = item_text cut n ▸ many (item_text cut n)
+abbrev pub model_tokens : Form → ℕ → Form
+model_tokens cut n = item_tokens cut n ▸ many (item_tokens cut n)
 
 -- The places of refusals
 
@@ -275,16 +277,16 @@ model_text cut n = item_text cut n ▸ many (item_text cut n)
 pub record Viable (front : Tokens) : Type 0 where
   pub n : ℕ
   pub more : Tokens
-  pub reads : model_text never n End (front ++ more)
+  pub reads : model_tokens never n End (front ++ more)
 
 -- The tokens begin a text of the grammar, and none of them opens a production inside n others.
 pub record FitsNesting (n : ℕ) (front : Tokens) : Type 0 where
   pub more : Tokens
-  pub reads : model_text deep n End (front ++ more)
+  pub reads : model_tokens deep n End (front ++ more)
 
 -- No text of the grammar goes on so: not with this token, and where there is none the tokens are no text.
 abbrev pub Ends : Tokens → Tokens → Type 0
-Ends front [] = (n : ℕ) → model_text never n End front → ⊥
+Ends front [] = (n : ℕ) → model_tokens never n End front → ⊥
 Ends front (t ∷ rest) = Viable (front ++ t ∷ []) → ⊥
 
 -- A refusal at the first of `rest`: no text goes on with it, and no token before it opens a production inside n others.

@@ -26,7 +26,7 @@ pub record token (kind next : TokenKind) (ts : Tokens) : Type 0 where
   pub of_kind : one.kind ≡ kind
 
 -- first the one form and then the other
-pub record Then (A B : Form) (next : TokenKind) (ts : Tokens) : Type 0 where
+pub record InTurn (A B : Form) (next : TokenKind) (ts : Tokens) : Type 0 where
   pub front : Tokens
   pub back : Tokens
   pub split : ts ≡ front ++ back
@@ -35,7 +35,7 @@ pub record Then (A B : Form) (next : TokenKind) (ts : Tokens) : Type 0 where
 
 infixr 5 ◌▸◌
 abbrev pub ◌▸◌ : Form → Form → Form
-A ▸ B = Then A B
+A ▸ B = InTurn A B
 
 -- no token
 abbrev pub nothing : Form
@@ -64,13 +64,13 @@ each One [] = nothing
 each One (x ∷ xs) = One x ▸ each One xs
 
 -- x { separator x }
-abbrev pub separated : {A : Type 0} → TokenKind → (A → Form) → List A → Form
-separated separator One [] = never
-separated separator One (x ∷ xs) = One x ▸ each (λ y. token separator ▸ One y) xs
+abbrev pub separated_by : {A : Type 0} → TokenKind → (A → Form) → List A → Form
+separated_by separator One [] = never
+separated_by separator One (x ∷ xs) = One x ▸ each (λ y. token separator ▸ One y) xs
 
 -- the form of some value
-abbrev pub Has : {A : Type 0} → (A → Form) → Form
-Has One next ts = (x : _) × One x next ts
+abbrev pub ReadsSome : {A : Type 0} → (A → Form) → Form
+ReadsSome One next ts = (x : _) × One x next ts
 
 -- the place of the first token
 abbrev pub StandsAt : Place → Tokens → Type 0
@@ -98,7 +98,7 @@ abbrev pub ◌∣◌ : Form → Form → Form
 
 -- { x }, where the values play no part
 abbrev pub many : Form → Form
-many A = Has {A = List (Unit {0})} (each (λ _. A))
+many A = ReadsSome {A = List (Unit {0})} (each (λ _. A))
 
 abbrev pub concat : {A : Type 0} → List (List A) → List A
 concat [] = []
@@ -112,16 +112,16 @@ pub record groups {A : Type 0} (One : List A → Form) (xs : List A) (next : Tok
 
 -- From the first token to the last
 
-abbrev pub end_of : ℕ → Tokens → ℕ
-end_of n [] = n
-end_of n (t ∷ ts) = end_of t.span.to ts
+abbrev pub end_of_tokens : ℕ → Tokens → ℕ
+end_of_tokens n [] = n
+end_of_tokens n (t ∷ ts) = end_of_tokens t.span.to ts
 
 -- the span of these tokens, which is from 0 to 0 where there are none
-abbrev pub Covers : Span → Tokens → Type 0
-Covers span [] = (span.from ≡ 0) × (span.to ≡ 0)
-Covers span (t ∷ ts) = (span.from ≡ t.span.from) × (span.to ≡ end_of t.span.to ts)
+abbrev pub IsSpanOf : Span → Tokens → Type 0
+IsSpanOf span [] = (span.from ≡ 0) × (span.to ≡ 0)
+IsSpanOf span (t ∷ ts) = (span.from ≡ t.span.from) × (span.to ≡ end_of_tokens t.span.to ts)
 
 -- this form, with this span
 pub record covering (span : Span) (A : Form) (next : TokenKind) (ts : Tokens) : Type 0 where
-  pub span_is : Covers span ts
+  pub span_is : IsSpanOf span ts
   pub form : A next ts

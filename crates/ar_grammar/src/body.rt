@@ -5,11 +5,11 @@ ghost use Rattle.ar_lexer.specs.declared.token.TokenKind.TheVariants.{Name, Sign
 ghost use Rattle.ar_lexer.specs.declared.signs.TheConstants.{SEMICOLON, EQUALS};
 ghost use Rattle.ar_lexer.specs.declared.words.TheConstants.{AS, REAL};
 ghost use Rattle.ar_grammar.specs.Words.{token, deep, ◌▸◌, between, many, groups, covering};
-ghost use Rattle.ar_grammar.specs.Paths.{IsPath, IsPlacedName};
-ghost use Rattle.ar_grammar.specs.Expressions.{Node, IsExpr};
-ghost use Rattle.ar_grammar.specs.Members.{IsType, IsSingle, IsKeyed, IsUnit, IsMember, IsSection, IsLater, AreSections, IsBody, kept};
-ghost use Rattle.ar_grammar.specs.Texts.{body_text};
-ghost use Rattle.ar_grammar.specs.Parts.{alias_text, value_text, kept_value_text, single_text, parameter_text, section_of, unit_of, member_text, keyed_of, sections_text, later_text};
+ghost use Rattle.ar_grammar.specs.Paths.{ReadsPath, ReadsPlacedName};
+ghost use Rattle.ar_grammar.specs.Expressions.{Node, ReadsExpr};
+ghost use Rattle.ar_grammar.specs.Members.{ReadsType, ReadsSingle, ReadsKeyed, ReadsUnit, ReadsMember, ReadsSection, ReadsLater, ReadsSections, ReadsBody, kept};
+ghost use Rattle.ar_grammar.specs.Texts.{body_tokens};
+ghost use Rattle.ar_grammar.specs.Parts.{alias_tokens, value_tokens, kept_value_tokens, single_tokens, parameter_tokens, section_of, unit_of, member_tokens, keyed_of, sections_tokens, later_tokens};
 ghost use Rattle.ar_grammar.specs.Results.{Takes, Finds, Halts, Spans, anything, ends_body, ends_members, ends_section};
 
 use crate::begins::{begins_body, begins_later, begins_member, begins_section};
@@ -28,7 +28,7 @@ impl<'a> Parser<'a> {
     ) -> Result<(NameId, Place), Refusal>
         requires opens { opens ≢ End }
         requires closes { closes ≢ End }
-        ensures found { Takes (λ x. between opens closes (IsPlacedName x)) result self.old.rest.now
+        ensures found { Takes (λ x. between opens closes (ReadsPlacedName x)) result self.old.rest.now
             self.new.rest.now }
         ensures only { (left : ℕ) → Finds (λ _. between opens closes (token Name)) anything left
             result self.old.rest.now self.new.rest.now }
@@ -43,12 +43,12 @@ impl<'a> Parser<'a> {
 
     /// Takes a word, a path and "as" name ";".
     fn aliased(&mut self, word: u8) -> Result<(Path, NameId, Place), Refusal>
-        ensures found { Takes (λ x. token (Reserved word) ▸ IsPath x.0
-            ▸ between (Reserved AS) (Sign SEMICOLON) (IsPlacedName (x.1, x.2))) result
+        ensures found { Takes (λ x. token (Reserved word) ▸ ReadsPath x.0
+            ▸ between (Reserved AS) (Sign SEMICOLON) (ReadsPlacedName (x.1, x.2))) result
             self.old.rest.now self.new.rest.now }
-        ensures only { (left : ℕ) → Finds (λ _. token (Reserved word) ▸ alias_text) anything left
+        ensures only { (left : ℕ) → Finds (λ _. token (Reserved word) ▸ alias_tokens) anything left
             result self.old.rest.now self.new.rest.now }
-        ensures stuck { (left : ℕ) → Halts (λ _. token (Reserved word) ▸ alias_text) left result
+        ensures stuck { (left : ℕ) → Halts (λ _. token (Reserved word) ▸ alias_tokens) left result
             self.old.rest.now self.new.rest.now }
     {
         self.expect(TokenKind::Reserved(word))?;
@@ -62,11 +62,11 @@ impl<'a> Parser<'a> {
 
     /// Takes Type name "=" Expr ";".
     fn valued(&mut self, left: u32) -> Result<(TypeName, NameId, Place, RawExpr), Refusal>
-        ensures found { Takes (λ x. IsType x.0 ▸ IsPlacedName (x.1, x.2)
-            ▸ between (Sign EQUALS) (Sign SEMICOLON) (Node (IsExpr left) x.3)) result
+        ensures found { Takes (λ x. ReadsType x.0 ▸ ReadsPlacedName (x.1, x.2)
+            ▸ between (Sign EQUALS) (Sign SEMICOLON) (Node (ReadsExpr left) x.3)) result
             self.old.rest.now self.new.rest.now }
-        ensures only { Finds value_text anything left result self.old.rest.now self.new.rest.now }
-        ensures stuck { Halts value_text left result self.old.rest.now self.new.rest.now }
+        ensures only { Finds value_tokens anything left result self.old.rest.now self.new.rest.now }
+        ensures stuck { Halts value_tokens left result self.old.rest.now self.new.rest.now }
     {
         let of_type = self.type_name()?;
         let (name, at) = self.placed_name()?;
@@ -80,12 +80,12 @@ impl<'a> Parser<'a> {
 
     /// Takes "Real" name "=" Kept ";".
     fn kept_value(&mut self, left: u32) -> Result<(NameId, Place, Span), Refusal>
-        ensures found { Takes (λ x. token (Reserved REAL) ▸ IsPlacedName (x.0, x.1)
+        ensures found { Takes (λ x. token (Reserved REAL) ▸ ReadsPlacedName (x.0, x.1)
             ▸ between (Sign EQUALS) (Sign SEMICOLON) (covering x.2 (kept left))) result
             self.old.rest.now self.new.rest.now }
-        ensures only { Finds kept_value_text anything left result self.old.rest.now
+        ensures only { Finds kept_value_tokens anything left result self.old.rest.now
             self.new.rest.now }
-        ensures stuck { Halts kept_value_text left result self.old.rest.now self.new.rest.now }
+        ensures stuck { Halts kept_value_tokens left result self.old.rest.now self.new.rest.now }
     {
         self.expect(TokenKind::Reserved(words::REAL))?;
         let (name, at) = self.placed_name()?;
@@ -97,9 +97,9 @@ impl<'a> Parser<'a> {
 
     /// Takes a clause that begins with a reserved word and makes one member.
     fn single(&mut self, left: u32) -> Result<Member, Refusal>
-        ensures found { Takes (IsSingle left) result self.old.rest.now self.new.rest.now }
-        ensures only { Finds single_text anything left result self.old.rest.now self.new.rest.now }
-        ensures stuck { Halts single_text left result self.old.rest.now self.new.rest.now }
+        ensures found { Takes (ReadsSingle left) result self.old.rest.now self.new.rest.now }
+        ensures only { Finds single_tokens anything left result self.old.rest.now self.new.rest.now }
+        ensures stuck { Halts single_tokens left result self.old.rest.now self.new.rest.now }
     {
         if self.is_at(TokenKind::Reserved(words::EXTENDS)) {
             let (base, at) = self.enclosed_name(
@@ -128,10 +128,10 @@ impl<'a> Parser<'a> {
 
     /// Takes "parameter" ( "Real" name "=" Kept | Type name "=" Expr ) ";".
     fn parameter(&mut self, left: u32) -> Result<Member, Refusal>
-        ensures found { Takes (IsSingle left) result self.old.rest.now self.new.rest.now }
-        ensures only { Finds parameter_text anything left result self.old.rest.now
+        ensures found { Takes (ReadsSingle left) result self.old.rest.now self.new.rest.now }
+        ensures only { Finds parameter_tokens anything left result self.old.rest.now
             self.new.rest.now }
-        ensures stuck { Halts parameter_text left result self.old.rest.now self.new.rest.now }
+        ensures stuck { Halts parameter_tokens left result self.old.rest.now self.new.rest.now }
     {
         self.expect(TokenKind::Reserved(words::PARAMETER))?;
         if self.is_at(TokenKind::Reserved(words::REAL)) {
@@ -145,7 +145,7 @@ impl<'a> Parser<'a> {
     /// Takes one transition section or assertion section.
     fn section(&mut self, left: u32, members: &mut Vec<Member>) -> Result<(), Refusal>
         ensures found { IfOk result (λ _. (ms : _) × (members.new.items ≡ members.old.items ++ ms)
-            × Spans (IsSection left ms) self.old.rest.now self.new.rest.now) }
+            × Spans (ReadsSection left ms) self.old.rest.now self.new.rest.now) }
         ensures only { Finds section_of ends_section left result self.old.rest.now
             self.new.rest.now }
         ensures stuck { Halts section_of left result self.old.rest.now self.new.rest.now }
@@ -162,7 +162,7 @@ impl<'a> Parser<'a> {
     /// Takes name Body "end".
     #[cycle(body)]
     pub(crate) fn unit(&mut self, left: u32) -> Result<Unit, Refusal>
-        ensures found { Takes (IsUnit (IsBody left)) result self.old.rest.now self.new.rest.now }
+        ensures found { Takes (ReadsUnit (ReadsBody left)) result self.old.rest.now self.new.rest.now }
         ensures only { Finds unit_of anything left result self.old.rest.now self.new.rest.now }
         ensures stuck { Halts unit_of left result self.old.rest.now self.new.rest.now }
     {
@@ -175,11 +175,11 @@ impl<'a> Parser<'a> {
     /// Takes a body, with room for `left` open productions: { Member } [ Section { Section | Keyed } ].
     #[cycle(body)]
     fn body(&mut self, left: u32) -> Result<Vec<Member>, Refusal>
-        ensures found { Takes (λ members. IsBody left members.items) result self.old.rest.now
+        ensures found { Takes (λ members. ReadsBody left members.items) result self.old.rest.now
             self.new.rest.now }
-        ensures only { Finds (body_text deep) ends_body left result self.old.rest.now
+        ensures only { Finds (body_tokens deep) ends_body left result self.old.rest.now
             self.new.rest.now }
-        ensures stuck { Halts (body_text deep) left result self.old.rest.now self.new.rest.now }
+        ensures stuck { Halts (body_tokens deep) left result self.old.rest.now self.new.rest.now }
     {
         let mut members = Vec::new(self.alloc);
         if left == 0 {
@@ -197,10 +197,10 @@ impl<'a> Parser<'a> {
     #[cycle(body)]
     fn members(&mut self, left: u32, members: &mut Vec<Member>) -> Result<(), Refusal>
         ensures found { IfOk result (λ _. (ms : _) × (members.new.items ≡ members.old.items ++ ms)
-            × Spans (groups (IsMember left (IsBody left)) ms) self.old.rest.now self.new.rest.now) }
-        ensures only { Finds (λ n. many (member_text n)) ends_members left result self.old.rest.now
+            × Spans (groups (ReadsMember left (ReadsBody left)) ms) self.old.rest.now self.new.rest.now) }
+        ensures only { Finds (λ n. many (member_tokens n)) ends_members left result self.old.rest.now
             self.new.rest.now }
-        ensures stuck { Halts (λ n. many (member_text n)) left result self.old.rest.now
+        ensures stuck { Halts (λ n. many (member_tokens n)) left result self.old.rest.now
             self.new.rest.now }
     {
         while begins_member(self.kind()) {
@@ -213,9 +213,9 @@ impl<'a> Parser<'a> {
     #[cycle(body)]
     fn member(&mut self, left: u32, members: &mut Vec<Member>) -> Result<(), Refusal>
         ensures found { IfOk result (λ _. (ms : _) × (members.new.items ≡ members.old.items ++ ms)
-            × Spans (IsMember left (IsBody left) ms) self.old.rest.now self.new.rest.now) }
-        ensures only { Finds member_text anything left result self.old.rest.now self.new.rest.now }
-        ensures stuck { Halts member_text left result self.old.rest.now self.new.rest.now }
+            × Spans (ReadsMember left (ReadsBody left) ms) self.old.rest.now self.new.rest.now) }
+        ensures only { Finds member_tokens anything left result self.old.rest.now self.new.rest.now }
+        ensures stuck { Halts member_tokens left result self.old.rest.now self.new.rest.now }
     {
         if self.is_at(TokenKind::Name) {
             let declaration = self.declaration(left)?;
@@ -229,7 +229,7 @@ impl<'a> Parser<'a> {
     #[cycle(body)]
     fn keyed(&mut self, left: u32, members: &mut Vec<Member>) -> Result<(), Refusal>
         ensures found { IfOk result (λ _. (ms : _) × (members.new.items ≡ members.old.items ++ ms)
-            × Spans (IsKeyed left (IsBody left) ms) self.old.rest.now self.new.rest.now) }
+            × Spans (ReadsKeyed left (ReadsBody left) ms) self.old.rest.now self.new.rest.now) }
         ensures only { Finds keyed_of anything left result self.old.rest.now self.new.rest.now }
         ensures stuck { Halts keyed_of left result self.old.rest.now self.new.rest.now }
     {
@@ -253,10 +253,10 @@ impl<'a> Parser<'a> {
     #[cycle(body)]
     fn sections(&mut self, left: u32, members: &mut Vec<Member>) -> Result<(), Refusal>
         ensures found { IfOk result (λ _. (ms : _) × (members.new.items ≡ members.old.items ++ ms)
-            × Spans (AreSections left (IsBody left) ms) self.old.rest.now self.new.rest.now) }
-        ensures only { Finds sections_text ends_body left result self.old.rest.now
+            × Spans (ReadsSections left (ReadsBody left) ms) self.old.rest.now self.new.rest.now) }
+        ensures only { Finds sections_tokens ends_body left result self.old.rest.now
             self.new.rest.now }
-        ensures stuck { Halts sections_text left result self.old.rest.now self.new.rest.now }
+        ensures stuck { Halts sections_tokens left result self.old.rest.now self.new.rest.now }
     {
         if !begins_section(self.kind()) {
             return Ok(());
@@ -270,10 +270,10 @@ impl<'a> Parser<'a> {
     #[cycle(body)]
     fn later_clauses(&mut self, left: u32, members: &mut Vec<Member>) -> Result<(), Refusal>
         ensures found { IfOk result (λ _. (ms : _) × (members.new.items ≡ members.old.items ++ ms)
-            × Spans (groups (IsLater left (IsBody left)) ms) self.old.rest.now self.new.rest.now) }
-        ensures only { Finds (λ n. many (later_text n)) ends_body left result self.old.rest.now
+            × Spans (groups (ReadsLater left (ReadsBody left)) ms) self.old.rest.now self.new.rest.now) }
+        ensures only { Finds (λ n. many (later_tokens n)) ends_body left result self.old.rest.now
             self.new.rest.now }
-        ensures stuck { Halts (λ n. later_text n ▸ many (later_text n)) left result
+        ensures stuck { Halts (λ n. later_tokens n ▸ many (later_tokens n)) left result
             self.old.rest.now self.new.rest.now }
     {
         while begins_later(self.kind()) {
@@ -286,10 +286,10 @@ impl<'a> Parser<'a> {
     #[cycle(body)]
     fn later_clause(&mut self, left: u32, members: &mut Vec<Member>) -> Result<(), Refusal>
         ensures found { IfOk result (λ _. (ms : _) × (members.new.items ≡ members.old.items ++ ms)
-            × Spans (IsLater left (IsBody left) ms) self.old.rest.now self.new.rest.now) }
-        ensures only { Finds later_text ends_section left result self.old.rest.now
+            × Spans (ReadsLater left (ReadsBody left) ms) self.old.rest.now self.new.rest.now) }
+        ensures only { Finds later_tokens ends_section left result self.old.rest.now
             self.new.rest.now }
-        ensures stuck { Halts later_text left result self.old.rest.now self.new.rest.now }
+        ensures stuck { Halts later_tokens left result self.old.rest.now self.new.rest.now }
     {
         if begins_section(self.kind()) {
             return self.section(left, members);

@@ -4,8 +4,8 @@ ghost use Rattle.std.specs.Prelude.{◌≡◌, ◌≢◌, ◌∷◌, ◌++◌, �
 ghost use Rattle.std.specs.Bool.{OnTrue, OnFalse};
 ghost use Rattle.ar_lexer.specs.declared.token.TokenKind.TheVariants.{Name, Whole, End};
 ghost use Rattle.ar_grammar.specs.declared.lexeme.Refusal.TheVariants.{Syntax, Depth};
-ghost use Rattle.ar_grammar.specs.Words.{token, end_of, StandsAt, Covers, place_at};
-ghost use Rattle.ar_grammar.specs.Paths.{IsName};
+ghost use Rattle.ar_grammar.specs.Words.{token, end_of_tokens, StandsAt, IsSpanOf, place_at};
+ghost use Rattle.ar_grammar.specs.Paths.{ReadsName};
 ghost use Rattle.ar_grammar.specs.Results.{kind_at, Takes, Finds, Halts, Eats, anything};
 
 use crate::lexeme::{Lexeme, Refusal};
@@ -137,7 +137,7 @@ impl<'a> Parser<'a> {
     /// The end of the last token before here, of those from `start`.
     fn end_since(&self, start: &[Lexeme]) -> u32
         ensures { (t : _) (ts : _) → start.now ≡ (t ∷ ts) ++ self.now.rest.now
-            → result ≡ end_of t.span.to ts }
+            → result ≡ end_of_tokens t.span.to ts }
     {
         let count = start.len().saturating_sub(self.rest.len());
         match start.get(count.saturating_sub(1)) {
@@ -148,7 +148,7 @@ impl<'a> Parser<'a> {
 
     /// The span of the tokens from `start` to here.
     pub(crate) fn span_since(&self, start: &[Lexeme]) -> Span
-        ensures { (ts : _) → start.now ≡ ts ++ self.now.rest.now → Covers result ts }
+        ensures { (ts : _) → start.now ≡ ts ++ self.now.rest.now → IsSpanOf result ts }
     {
         if start.len() == self.rest.len() {
             return Span { from: 0, to: 0 };
@@ -168,7 +168,7 @@ impl<'a> Parser<'a> {
         ensures form { result.form ≡ form }
         ensures there { (t : _) (ts : _) → start.now ≡ (t ∷ ts) ++ self.now.rest.now
             → StandsAt result.at (t ∷ ts) }
-        ensures span { (ts : _) → start.now ≡ ts ++ self.now.rest.now → Covers result.span ts }
+        ensures span { (ts : _) → start.now ≡ ts ++ self.now.rest.now → IsSpanOf result.span ts }
     {
         let span = self.span_since(start);
         let at = match start.first() {

@@ -5,11 +5,11 @@ ghost use Rattle.ar_lexer.specs.declared.token.TokenKind.TheVariants.{Sign, Rese
 ghost use Rattle.ar_lexer.specs.declared.signs.TheConstants.{COMMA};
 ghost use Rattle.ar_lexer.specs.declared.words.TheConstants.{CASE};
 ghost use Rattle.ar_grammar.specs.Words.{token, deep, ◌▸◌, between, each, many};
-ghost use Rattle.ar_grammar.specs.Expressions.{Node, IsExpr, IsNot, IsMinus, IsProduct, IsSum, IsTerm, IsCompare, IsPrimary, IsIf, IsSwitch, IsCase, AreOperands};
+ghost use Rattle.ar_grammar.specs.Expressions.{Node, ReadsExpr, ReadsNot, ReadsMinus, ReadsProduct, ReadsSum, ReadsTerm, ReadsCompare, ReadsPrimary, ReadsIf, ReadsSwitch, ReadsCase, ReadsOperands};
 ghost use Rattle.ar_grammar.specs.Chains.{separator_of, operand_form, chain_form, ends_operand, ends_chain};
-ghost use Rattle.ar_grammar.specs.Texts.{expr_text, not_text, minus_text, if_text, compare_text, sum_text, product_text, primary_text, operands_text, switch_text};
+ghost use Rattle.ar_grammar.specs.Texts.{expr_tokens, not_tokens, minus_tokens, if_tokens, compare_tokens, sum_tokens, product_tokens, primary_tokens, operands_tokens, switch_tokens};
 ghost use Rattle.ar_grammar.specs.Results.{kind_at, Takes, Finds, Halts, Spans, anything, ends_path, ends_product, ends_sum, ends_not, ends_expr, ends_list, ends_cases, begins_term};
-ghost use Rattle.ar_grammar.specs.Parts.{operand_text, chain_text, term_text, case_text};
+ghost use Rattle.ar_grammar.specs.Parts.{operand_tokens, chain_tokens, term_tokens, case_tokens};
 
 use crate::begins::{begins_expr, begins_minus, begins_not};
 use crate::cursor::{Parser, no_room};
@@ -22,10 +22,10 @@ impl<'a> Parser<'a> {
     /// Takes an expression, with room for `left` open productions.
     #[cycle(expression)]
     pub(crate) fn expr(&mut self, left: u32) -> Result<RawExpr, Refusal>
-        ensures found { Takes (Node (IsExpr left)) result self.old.rest.now self.new.rest.now }
-        ensures only { Finds (expr_text deep) ends_expr left result self.old.rest.now
+        ensures found { Takes (Node (ReadsExpr left)) result self.old.rest.now self.new.rest.now }
+        ensures only { Finds (expr_tokens deep) ends_expr left result self.old.rest.now
             self.new.rest.now }
-        ensures stuck { Halts (expr_text deep) left result self.old.rest.now self.new.rest.now }
+        ensures stuck { Halts (expr_tokens deep) left result self.old.rest.now self.new.rest.now }
     {
         if left == 0 {
             return Err(no_room(begins_expr(self.kind())));
@@ -47,11 +47,11 @@ impl<'a> Parser<'a> {
         requires opens { opens ≢ End }
         requires closes { closes ≢ End }
         requires ends { ends_expr closes ≡ true }
-        ensures found { Takes (λ e. between opens closes (Node (IsExpr left) e)) result
+        ensures found { Takes (λ e. between opens closes (Node (ReadsExpr left) e)) result
             self.old.rest.now self.new.rest.now }
-        ensures only { Finds (λ n. between opens closes (expr_text deep n)) anything left result
+        ensures only { Finds (λ n. between opens closes (expr_tokens deep n)) anything left result
             self.old.rest.now self.new.rest.now }
-        ensures stuck { Halts (λ n. between opens closes (expr_text deep n)) left result
+        ensures stuck { Halts (λ n. between opens closes (expr_tokens deep n)) left result
             self.old.rest.now self.new.rest.now }
     {
         self.expect(opens)?;
@@ -63,11 +63,11 @@ impl<'a> Parser<'a> {
     /// Takes a choice between two values: "if" Expr "then" Expr "else" Expr.
     #[cycle(expression)]
     fn choice(&mut self, left: u32) -> Result<RawExpr, Refusal>
-        ensures found { Takes (Node (IsIf (IsExpr left))) result self.old.rest.now
+        ensures found { Takes (Node (ReadsIf (ReadsExpr left))) result self.old.rest.now
             self.new.rest.now }
-        ensures only { Finds (λ n. if_text (expr_text deep n)) ends_expr left result
+        ensures only { Finds (λ n. if_tokens (expr_tokens deep n)) ends_expr left result
             self.old.rest.now self.new.rest.now }
-        ensures stuck { Halts (λ n. if_text (expr_text deep n)) left result self.old.rest.now
+        ensures stuck { Halts (λ n. if_tokens (expr_tokens deep n)) left result self.old.rest.now
             self.new.rest.now }
     {
         let start = self.rest;
@@ -88,9 +88,9 @@ impl<'a> Parser<'a> {
     fn chain(&mut self, chain: Chain, left: u32) -> Result<RawExpr, Refusal>
         ensures found { Takes (Node (chain_form chain left)) result self.old.rest.now
             self.new.rest.now }
-        ensures only { Finds (chain_text chain) (ends_chain chain) left result self.old.rest.now
+        ensures only { Finds (chain_tokens chain) (ends_chain chain) left result self.old.rest.now
             self.new.rest.now }
-        ensures stuck { Halts (chain_text chain) left result self.old.rest.now self.new.rest.now }
+        ensures stuck { Halts (chain_tokens chain) left result self.old.rest.now self.new.rest.now }
     {
         let start = self.rest;
         let first = self.operand(chain, left)?;
@@ -116,9 +116,9 @@ impl<'a> Parser<'a> {
             × Spans (each (λ e. token (separator_of chain) ▸ Node (operand_form chain left) e) more)
             self.old.rest.now self.new.rest.now) }
         ensures over { IfOk result (λ _. kind_at self.new.rest.now ≢ separator_of chain) }
-        ensures only { Finds (λ n. many (token (separator_of chain) ▸ operand_text chain n))
+        ensures only { Finds (λ n. many (token (separator_of chain) ▸ operand_tokens chain n))
             (ends_chain chain) left result self.old.rest.now self.new.rest.now }
-        ensures stuck { Halts (λ n. many (token (separator_of chain) ▸ operand_text chain n)) left
+        ensures stuck { Halts (λ n. many (token (separator_of chain) ▸ operand_tokens chain n)) left
             result self.old.rest.now self.new.rest.now }
     {
         let separator = separator_of(chain);
@@ -134,9 +134,9 @@ impl<'a> Parser<'a> {
     fn operand(&mut self, chain: Chain, left: u32) -> Result<RawExpr, Refusal>
         ensures found { Takes (Node (operand_form chain left)) result self.old.rest.now
             self.new.rest.now }
-        ensures only { Finds (operand_text chain) (ends_operand chain) left result self.old.rest.now
+        ensures only { Finds (operand_tokens chain) (ends_operand chain) left result self.old.rest.now
             self.new.rest.now }
-        ensures stuck { Halts (operand_text chain) left result self.old.rest.now self.new.rest.now }
+        ensures stuck { Halts (operand_tokens chain) left result self.old.rest.now self.new.rest.now }
     {
         match chain {
             Chain::Any => self.chain(Chain::All, left),
@@ -148,10 +148,10 @@ impl<'a> Parser<'a> {
     /// Takes "not" Not | Compare.
     #[cycle(expression)]
     fn not(&mut self, left: u32) -> Result<RawExpr, Refusal>
-        ensures found { Takes (Node (IsNot left)) result self.old.rest.now self.new.rest.now }
-        ensures only { Finds (not_text deep) ends_not left result self.old.rest.now
+        ensures found { Takes (Node (ReadsNot left)) result self.old.rest.now self.new.rest.now }
+        ensures only { Finds (not_tokens deep) ends_not left result self.old.rest.now
             self.new.rest.now }
-        ensures stuck { Halts (not_text deep) left result self.old.rest.now self.new.rest.now }
+        ensures stuck { Halts (not_tokens deep) left result self.old.rest.now self.new.rest.now }
     {
         if left == 0 {
             return Err(no_room(begins_not(self.kind())));
@@ -168,11 +168,11 @@ impl<'a> Parser<'a> {
     /// Takes Sum [ relation Sum ].
     #[cycle(expression)]
     fn compare(&mut self, left: u32) -> Result<RawExpr, Refusal>
-        ensures found { Takes (Node (IsCompare (IsSum (IsProduct (IsMinus left))))) result
+        ensures found { Takes (Node (ReadsCompare (ReadsSum (ReadsProduct (ReadsMinus left))))) result
             self.old.rest.now self.new.rest.now }
-        ensures only { Finds (λ n. compare_text (sum_text (product_text (minus_text deep n))))
+        ensures only { Finds (λ n. compare_tokens (sum_tokens (product_tokens (minus_tokens deep n))))
             ends_not left result self.old.rest.now self.new.rest.now }
-        ensures stuck { Halts (λ n. compare_text (sum_text (product_text (minus_text deep n)))) left
+        ensures stuck { Halts (λ n. compare_tokens (sum_tokens (product_tokens (minus_tokens deep n)))) left
             result self.old.rest.now self.new.rest.now }
     {
         let start = self.rest;
@@ -190,11 +190,11 @@ impl<'a> Parser<'a> {
     /// Takes Product { ( "+" | "-" ) Product }.
     #[cycle(expression)]
     fn sum(&mut self, left: u32) -> Result<RawExpr, Refusal>
-        ensures found { Takes (Node (IsSum (IsProduct (IsMinus left)))) result self.old.rest.now
+        ensures found { Takes (Node (ReadsSum (ReadsProduct (ReadsMinus left)))) result self.old.rest.now
             self.new.rest.now }
-        ensures only { Finds (λ n. sum_text (product_text (minus_text deep n))) ends_sum left result
+        ensures only { Finds (λ n. sum_tokens (product_tokens (minus_tokens deep n))) ends_sum left result
             self.old.rest.now self.new.rest.now }
-        ensures stuck { Halts (λ n. sum_text (product_text (minus_text deep n))) left result
+        ensures stuck { Halts (λ n. sum_tokens (product_tokens (minus_tokens deep n))) left result
             self.old.rest.now self.new.rest.now }
     {
         let start = self.rest;
@@ -212,12 +212,12 @@ impl<'a> Parser<'a> {
     #[cycle(expression)]
     fn more_terms(&mut self, left: u32, terms: &mut Vec<(bool, RawExpr)>) -> Result<(), Refusal>
         ensures found { IfOk result (λ _. (more : _) × (terms.new.items ≡ terms.old.items ++ more)
-            × Spans (each (IsTerm (IsProduct (IsMinus left))) more) self.old.rest.now
+            × Spans (each (ReadsTerm (ReadsProduct (ReadsMinus left))) more) self.old.rest.now
             self.new.rest.now) }
         ensures over { IfOk result (λ _. begins_term (kind_at self.new.rest.now) ≡ false) }
-        ensures only { Finds (λ n. many (term_text n)) ends_sum left result self.old.rest.now
+        ensures only { Finds (λ n. many (term_tokens n)) ends_sum left result self.old.rest.now
             self.new.rest.now }
-        ensures stuck { Halts (λ n. many (term_text n)) left result self.old.rest.now
+        ensures stuck { Halts (λ n. many (term_tokens n)) left result self.old.rest.now
             self.new.rest.now }
     {
         while let Some(plus) = self.eat_plus() {
@@ -230,10 +230,10 @@ impl<'a> Parser<'a> {
     /// Takes "-" Minus | Primary.
     #[cycle(expression)]
     fn minus(&mut self, left: u32) -> Result<RawExpr, Refusal>
-        ensures found { Takes (Node (IsMinus left)) result self.old.rest.now self.new.rest.now }
-        ensures only { Finds (minus_text deep) ends_path left result self.old.rest.now
+        ensures found { Takes (Node (ReadsMinus left)) result self.old.rest.now self.new.rest.now }
+        ensures only { Finds (minus_tokens deep) ends_path left result self.old.rest.now
             self.new.rest.now }
-        ensures stuck { Halts (minus_text deep) left result self.old.rest.now self.new.rest.now }
+        ensures stuck { Halts (minus_tokens deep) left result self.old.rest.now self.new.rest.now }
     {
         if left == 0 {
             return Err(no_room(begins_minus(self.kind())));
@@ -250,11 +250,11 @@ impl<'a> Parser<'a> {
     /// Takes a constant, a path, a call, a choice or an expression in brackets.
     #[cycle(expression)]
     fn primary(&mut self, left: u32) -> Result<RawExpr, Refusal>
-        ensures found { Takes (Node (IsPrimary (IsExpr left))) result self.old.rest.now
+        ensures found { Takes (Node (ReadsPrimary (ReadsExpr left))) result self.old.rest.now
             self.new.rest.now }
-        ensures only { Finds (λ n. primary_text (expr_text deep n)) ends_path left result
+        ensures only { Finds (λ n. primary_tokens (expr_tokens deep n)) ends_path left result
             self.old.rest.now self.new.rest.now }
-        ensures stuck { Halts (λ n. primary_text (expr_text deep n)) left result self.old.rest.now
+        ensures stuck { Halts (λ n. primary_tokens (expr_tokens deep n)) left result self.old.rest.now
             self.new.rest.now }
     {
         let start = self.rest;
@@ -283,11 +283,11 @@ impl<'a> Parser<'a> {
     /// Takes "(" Expr { "," Expr } ")".
     #[cycle(expression)]
     fn operands(&mut self, left: u32) -> Result<Vec<RawExpr>, Refusal>
-        ensures found { Takes (λ operands. AreOperands (IsExpr left) operands.items) result
+        ensures found { Takes (λ operands. ReadsOperands (ReadsExpr left) operands.items) result
             self.old.rest.now self.new.rest.now }
-        ensures only { Finds (λ n. operands_text (expr_text deep n)) anything left result
+        ensures only { Finds (λ n. operands_tokens (expr_tokens deep n)) anything left result
             self.old.rest.now self.new.rest.now }
-        ensures stuck { Halts (λ n. operands_text (expr_text deep n)) left result self.old.rest.now
+        ensures stuck { Halts (λ n. operands_tokens (expr_tokens deep n)) left result self.old.rest.now
             self.new.rest.now }
     {
         self.expect(TokenKind::Sign(signs::OPEN_PARENTHESIS))?;
@@ -304,11 +304,11 @@ impl<'a> Parser<'a> {
     fn more_arguments(&mut self, left: u32, operands: &mut Vec<RawExpr>) -> Result<(), Refusal>
         ensures found { IfOk result (λ _. (more : _)
             × (operands.new.items ≡ operands.old.items ++ more)
-            × Spans (each (λ e. token (Sign COMMA) ▸ Node (IsExpr left) e) more) self.old.rest.now
+            × Spans (each (λ e. token (Sign COMMA) ▸ Node (ReadsExpr left) e) more) self.old.rest.now
             self.new.rest.now) }
-        ensures only { Finds (λ n. many (token (Sign COMMA) ▸ expr_text deep n)) ends_list left
+        ensures only { Finds (λ n. many (token (Sign COMMA) ▸ expr_tokens deep n)) ends_list left
             result self.old.rest.now self.new.rest.now }
-        ensures stuck { Halts (λ n. many (token (Sign COMMA) ▸ expr_text deep n)) left result
+        ensures stuck { Halts (λ n. many (token (Sign COMMA) ▸ expr_tokens deep n)) left result
             self.old.rest.now self.new.rest.now }
     {
         while self.eat(TokenKind::Sign(signs::COMMA)) {
@@ -321,11 +321,11 @@ impl<'a> Parser<'a> {
     /// Takes "switch" "{" Case { Case } "default" ":" Expr "}".
     #[cycle(expression)]
     fn switch(&mut self, left: u32) -> Result<RawExpr, Refusal>
-        ensures found { Takes (Node (IsSwitch (IsExpr left))) result self.old.rest.now
+        ensures found { Takes (Node (ReadsSwitch (ReadsExpr left))) result self.old.rest.now
             self.new.rest.now }
-        ensures only { Finds (λ n. switch_text (expr_text deep n)) anything left result
+        ensures only { Finds (λ n. switch_tokens (expr_tokens deep n)) anything left result
             self.old.rest.now self.new.rest.now }
-        ensures stuck { Halts (λ n. switch_text (expr_text deep n)) left result self.old.rest.now
+        ensures stuck { Halts (λ n. switch_tokens (expr_tokens deep n)) left result self.old.rest.now
             self.new.rest.now }
     {
         let start = self.rest;
@@ -348,12 +348,12 @@ impl<'a> Parser<'a> {
     /// Takes { "case" Expr ":" Expr }.
     #[cycle(expression)]
     fn cases(&mut self, left: u32) -> Result<Vec<(RawExpr, RawExpr)>, Refusal>
-        ensures found { Takes (λ cases. each (IsCase (IsExpr left)) cases.items) result
+        ensures found { Takes (λ cases. each (ReadsCase (ReadsExpr left)) cases.items) result
             self.old.rest.now self.new.rest.now }
         ensures over { IfOk result (λ _. kind_at self.new.rest.now ≢ Reserved CASE) }
-        ensures only { Finds (λ n. many (case_text n)) ends_cases left result self.old.rest.now
+        ensures only { Finds (λ n. many (case_tokens n)) ends_cases left result self.old.rest.now
             self.new.rest.now }
-        ensures stuck { Halts (λ n. case_text n ▸ many (case_text n)) left result self.old.rest.now
+        ensures stuck { Halts (λ n. case_tokens n ▸ many (case_tokens n)) left result self.old.rest.now
             self.new.rest.now }
     {
         let mut cases = Vec::new(self.alloc);

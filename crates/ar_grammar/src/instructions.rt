@@ -4,10 +4,10 @@ ghost use Rattle.std.specs.Prelude.{◌≡◌, ◌++◌, ℕ, IfOk, IfErr};
 ghost use Rattle.ar_lexer.specs.declared.token.TokenKind.TheVariants.{Sign, Reserved};
 ghost use Rattle.ar_lexer.specs.declared.signs.TheConstants.{SEMICOLON, TIE};
 ghost use Rattle.ar_grammar.specs.Words.{token, deep, ◌▸◌, between, each, many};
-ghost use Rattle.ar_grammar.specs.Paths.{IsPath};
-ghost use Rattle.ar_grammar.specs.Instructions.{IsInstr, IsElse, IsConditional, IsGroup, IsSimple};
+ghost use Rattle.ar_grammar.specs.Paths.{ReadsPath};
+ghost use Rattle.ar_grammar.specs.Instructions.{ReadsInstr, ReadsElse, ReadsConditional, ReadsGroup, ReadsSimple};
 ghost use Rattle.ar_lexer.specs.declared.words.TheConstants.{ELSE};
-ghost use Rattle.ar_grammar.specs.Texts.{path_text, expr_text, instr_text, conditional_text, else_text, group_text, simple_text};
+ghost use Rattle.ar_grammar.specs.Texts.{path_tokens, expr_tokens, instr_tokens, conditional_tokens, else_tokens, group_tokens, simple_tokens};
 ghost use Rattle.ar_grammar.specs.Results.{kind_at, Takes, Finds, Halts, Spans, anything, ends_group};
 
 use crate::begins::begins_instr;
@@ -20,10 +20,10 @@ impl<'a> Parser<'a> {
     /// Takes an instruction, with room for `left` open productions.
     #[cycle(instruction)]
     pub(crate) fn instr(&mut self, left: u32) -> Result<Instr, Refusal>
-        ensures found { Takes (IsInstr left) result self.old.rest.now self.new.rest.now }
-        ensures only { Finds (instr_text deep) anything left result self.old.rest.now
+        ensures found { Takes (ReadsInstr left) result self.old.rest.now self.new.rest.now }
+        ensures only { Finds (instr_tokens deep) anything left result self.old.rest.now
             self.new.rest.now }
-        ensures stuck { Halts (instr_text deep) left result self.old.rest.now self.new.rest.now }
+        ensures stuck { Halts (instr_tokens deep) left result self.old.rest.now self.new.rest.now }
     {
         if left == 0 {
             return Err(no_room(begins_instr(self.kind())));
@@ -40,10 +40,10 @@ impl<'a> Parser<'a> {
     /// Takes "if" Expr "then" Instr [ "else" Instr ].
     #[cycle(instruction)]
     fn conditional(&mut self, left: u32) -> Result<Instr, Refusal>
-        ensures found { Takes (IsConditional left) result self.old.rest.now self.new.rest.now }
-        ensures only { Finds (λ n. conditional_text (expr_text deep n) (instr_text deep n)) anything
+        ensures found { Takes (ReadsConditional left) result self.old.rest.now self.new.rest.now }
+        ensures only { Finds (λ n. conditional_tokens (expr_tokens deep n) (instr_tokens deep n)) anything
             left result self.old.rest.now self.new.rest.now }
-        ensures stuck { Halts (λ n. conditional_text (expr_text deep n) (instr_text deep n)) left
+        ensures stuck { Halts (λ n. conditional_tokens (expr_tokens deep n) (instr_tokens deep n)) left
             result self.old.rest.now self.new.rest.now }
     {
         let test = self.enclosed(
@@ -60,11 +60,11 @@ impl<'a> Parser<'a> {
     /// Takes [ "else" Instr ].
     #[cycle(instruction)]
     fn other_branch(&mut self, left: u32) -> Result<Option<Box<Instr>>, Refusal>
-        ensures found { Takes (IsElse (IsInstr left)) result self.old.rest.now self.new.rest.now }
-        ensures only { Finds (λ n. else_text (instr_text deep n)) anything left result
+        ensures found { Takes (ReadsElse (ReadsInstr left)) result self.old.rest.now self.new.rest.now }
+        ensures only { Finds (λ n. else_tokens (instr_tokens deep n)) anything left result
             self.old.rest.now self.new.rest.now }
         ensures began { IfErr result (λ _. kind_at self.old.rest.now ≡ Reserved ELSE) }
-        ensures stuck { Halts (λ n. token (Reserved ELSE) ▸ instr_text deep n) left result
+        ensures stuck { Halts (λ n. token (Reserved ELSE) ▸ instr_tokens deep n) left result
             self.old.rest.now self.new.rest.now }
     {
         if self.eat(TokenKind::Reserved(words::ELSE)) {
@@ -78,10 +78,10 @@ impl<'a> Parser<'a> {
     /// Takes "{" { Instr } "}".
     #[cycle(instruction)]
     fn group(&mut self, left: u32) -> Result<Instr, Refusal>
-        ensures found { Takes (IsGroup left) result self.old.rest.now self.new.rest.now }
-        ensures only { Finds (λ n. group_text (instr_text deep n)) anything left result
+        ensures found { Takes (ReadsGroup left) result self.old.rest.now self.new.rest.now }
+        ensures only { Finds (λ n. group_tokens (instr_tokens deep n)) anything left result
             self.old.rest.now self.new.rest.now }
-        ensures stuck { Halts (λ n. group_text (instr_text deep n)) left result self.old.rest.now
+        ensures stuck { Halts (λ n. group_tokens (instr_tokens deep n)) left result self.old.rest.now
             self.new.rest.now }
     {
         self.expect(TokenKind::Sign(signs::OPEN_BRACE))?;
@@ -95,10 +95,10 @@ impl<'a> Parser<'a> {
     #[cycle(instruction)]
     fn more_instrs(&mut self, left: u32, instrs: &mut Vec<Instr>) -> Result<(), Refusal>
         ensures found { IfOk result (λ _. (more : _) × (instrs.new.items ≡ instrs.old.items ++ more)
-            × Spans (each (IsInstr left) more) self.old.rest.now self.new.rest.now) }
-        ensures only { Finds (λ n. many (instr_text deep n)) ends_group left result
+            × Spans (each (ReadsInstr left) more) self.old.rest.now self.new.rest.now) }
+        ensures only { Finds (λ n. many (instr_tokens deep n)) ends_group left result
             self.old.rest.now self.new.rest.now }
-        ensures stuck { Halts (λ n. many (instr_text deep n)) left result self.old.rest.now
+        ensures stuck { Halts (λ n. many (instr_tokens deep n)) left result self.old.rest.now
             self.new.rest.now }
     {
         while !self.is_at(TokenKind::Sign(signs::CLOSE_BRACE)) {
@@ -110,10 +110,10 @@ impl<'a> Parser<'a> {
 
     /// Takes Path ( ":=" Expr | ":=:" Path ) ";" or "skip" ";".
     fn simple(&mut self, left: u32) -> Result<Instr, Refusal>
-        ensures found { Takes (IsSimple left) result self.old.rest.now self.new.rest.now }
-        ensures only { Finds (λ n. simple_text (expr_text deep n)) anything left result
+        ensures found { Takes (ReadsSimple left) result self.old.rest.now self.new.rest.now }
+        ensures only { Finds (λ n. simple_tokens (expr_tokens deep n)) anything left result
             self.old.rest.now self.new.rest.now }
-        ensures stuck { Halts (λ n. simple_text (expr_text deep n)) left result self.old.rest.now
+        ensures stuck { Halts (λ n. simple_tokens (expr_tokens deep n)) left result self.old.rest.now
             self.new.rest.now }
     {
         if self.eat(TokenKind::Reserved(words::SKIP)) {
@@ -135,11 +135,11 @@ impl<'a> Parser<'a> {
 
     /// Takes ":=:" Path ";".
     fn tied(&mut self) -> Result<Path, Refusal>
-        ensures found { Takes (λ p. between (Sign TIE) (Sign SEMICOLON) (IsPath p)) result
+        ensures found { Takes (λ p. between (Sign TIE) (Sign SEMICOLON) (ReadsPath p)) result
             self.old.rest.now self.new.rest.now }
-        ensures only { (left : ℕ) → Finds (λ _. between (Sign TIE) (Sign SEMICOLON) path_text)
+        ensures only { (left : ℕ) → Finds (λ _. between (Sign TIE) (Sign SEMICOLON) path_tokens)
             anything left result self.old.rest.now self.new.rest.now }
-        ensures stuck { (left : ℕ) → Halts (λ _. between (Sign TIE) (Sign SEMICOLON) path_text) left
+        ensures stuck { (left : ℕ) → Halts (λ _. between (Sign TIE) (Sign SEMICOLON) path_tokens) left
             result self.old.rest.now self.new.rest.now }
     {
         self.expect(TokenKind::Sign(signs::TIE))?;

@@ -4,12 +4,12 @@ ghost use Rattle.std.specs.Prelude.{◌≡◌, ◌++◌, ℕ, IfOk, if◌then◌
 ghost use Rattle.ar_lexer.specs.declared.token.TokenKind.TheVariants.{Name, Sign, Reserved};
 ghost use Rattle.ar_lexer.specs.declared.signs.TheConstants.{COMMA, SEMICOLON, DOT, ARROW, AMPERSAND, EXCLAMATION, QUESTION};
 ghost use Rattle.ar_lexer.specs.declared.words.TheConstants.{EVENT, HIDE};
-ghost use Rattle.ar_grammar.specs.Words.{token, deep, ◌▸◌, between, each, many, separated};
-ghost use Rattle.ar_grammar.specs.Expressions.{Node, IsExpr};
-ghost use Rattle.ar_grammar.specs.Instructions.{IsInstr};
-ghost use Rattle.ar_grammar.specs.Members.{IsType, IsWord, IsSetting, AreSettings, IsDeclared, IsEvent, IsHidden, IsPart, IsTransition, IsAssertion};
-ghost use Rattle.ar_grammar.specs.Texts.{one_of, list_of, path_text, is_type, is_target_word, expr_text, setting_text, settings_text, declared_rest, instr_text, is_part};
-ghost use Rattle.ar_grammar.specs.Parts.{event_text, part_text, parts_text, guarded_text, transition_of};
+ghost use Rattle.ar_grammar.specs.Words.{token, deep, ◌▸◌, between, each, many, separated_by};
+ghost use Rattle.ar_grammar.specs.Expressions.{Node, ReadsExpr};
+ghost use Rattle.ar_grammar.specs.Instructions.{ReadsInstr};
+ghost use Rattle.ar_grammar.specs.Members.{ReadsType, ReadsWord, ReadsSetting, ReadsSettings, ReadsDeclared, ReadsEvent, ReadsHidden, ReadsPart, ReadsTransition, ReadsAssertion};
+ghost use Rattle.ar_grammar.specs.Texts.{one_of, list_of, path_tokens, is_type, is_target_word, expr_tokens, setting_tokens, settings_tokens, declared_rest, instr_tokens, is_part};
+ghost use Rattle.ar_grammar.specs.Parts.{event_tokens, part_tokens, parts_tokens, guarded_tokens, transition_of};
 ghost use Rattle.ar_grammar.specs.Results.{kind_at, Takes, Finds, Halts, Spans, anything, ends_path, ends_expr, ends_list, ends_attribute, ends_semicolon, ends_target, ends_transitions, ends_assertions, begins_part};
 
 use crate::begins::begins_instr;
@@ -21,7 +21,7 @@ use ar_syntax::{Instr, Member, Part, RawExpr, Setting, TypeForm, TypeName, Word}
 impl<'a> Parser<'a> {
     /// Takes a type: "Boolean" | "Integer" | name.
     pub(crate) fn type_name(&mut self) -> Result<TypeName, Refusal>
-        ensures found { Takes IsType result self.old.rest.now self.new.rest.now }
+        ensures found { Takes ReadsType result self.old.rest.now self.new.rest.now }
         ensures only { (left : ℕ) → Finds (λ _. one_of is_type) anything left result
             self.old.rest.now self.new.rest.now }
         ensures stuck { (left : ℕ) → Halts (λ _. one_of is_type) left result self.old.rest.now
@@ -49,7 +49,7 @@ impl<'a> Parser<'a> {
 
     /// Takes a word of a target: name | "init" | "reset".
     fn word(&mut self) -> Result<Word, Refusal>
-        ensures found { Takes IsWord result self.old.rest.now self.new.rest.now }
+        ensures found { Takes ReadsWord result self.old.rest.now self.new.rest.now }
         ensures only { (left : ℕ) → Finds (λ _. one_of is_target_word) anything left result
             self.old.rest.now self.new.rest.now }
         ensures stuck { (left : ℕ) → Halts (λ _. one_of is_target_word) left result
@@ -68,7 +68,7 @@ impl<'a> Parser<'a> {
     /// Takes { "." Word }.
     fn more_words(&mut self, target: &mut Vec<Word>) -> Result<(), Refusal>
         ensures found { IfOk result (λ _. (more : _) × (target.new.items ≡ target.old.items ++ more)
-            × Spans (each (λ w. token (Sign DOT) ▸ IsWord w) more) self.old.rest.now
+            × Spans (each (λ w. token (Sign DOT) ▸ ReadsWord w) more) self.old.rest.now
             self.new.rest.now) }
         ensures only { (left : ℕ) → Finds (λ _. many (token (Sign DOT) ▸ one_of is_target_word))
             ends_target left result self.old.rest.now self.new.rest.now }
@@ -84,7 +84,7 @@ impl<'a> Parser<'a> {
 
     /// Takes the target of a setting: Word { "." Word }.
     fn target(&mut self) -> Result<Vec<Word>, Refusal>
-        ensures found { Takes (λ target. separated (Sign DOT) IsWord target.items) result
+        ensures found { Takes (λ target. separated_by (Sign DOT) ReadsWord target.items) result
             self.old.rest.now self.new.rest.now }
         ensures only { (left : ℕ) → Finds (λ _. list_of (Sign DOT) (one_of is_target_word))
             ends_target left result self.old.rest.now self.new.rest.now }
@@ -100,10 +100,10 @@ impl<'a> Parser<'a> {
 
     /// Takes Word { "." Word } "=" Expr.
     fn setting(&mut self, left: u32) -> Result<Setting, Refusal>
-        ensures found { Takes (IsSetting left) result self.old.rest.now self.new.rest.now }
-        ensures only { Finds (λ n. setting_text (expr_text deep n)) ends_expr left result
+        ensures found { Takes (ReadsSetting left) result self.old.rest.now self.new.rest.now }
+        ensures only { Finds (λ n. setting_tokens (expr_tokens deep n)) ends_expr left result
             self.old.rest.now self.new.rest.now }
-        ensures stuck { Halts (λ n. setting_text (expr_text deep n)) left result self.old.rest.now
+        ensures stuck { Halts (λ n. setting_tokens (expr_tokens deep n)) left result self.old.rest.now
             self.new.rest.now }
     {
         let at = self.place();
@@ -117,11 +117,11 @@ impl<'a> Parser<'a> {
     fn more_settings(&mut self, left: u32, settings: &mut Vec<Setting>) -> Result<(), Refusal>
         ensures found { IfOk result (λ _. (more : _)
             × (settings.new.items ≡ settings.old.items ++ more)
-            × Spans (each (λ s. token (Sign COMMA) ▸ IsSetting left s) more) self.old.rest.now
+            × Spans (each (λ s. token (Sign COMMA) ▸ ReadsSetting left s) more) self.old.rest.now
             self.new.rest.now) }
-        ensures only { Finds (λ n. many (token (Sign COMMA) ▸ setting_text (expr_text deep n)))
+        ensures only { Finds (λ n. many (token (Sign COMMA) ▸ setting_tokens (expr_tokens deep n)))
             ends_list left result self.old.rest.now self.new.rest.now }
-        ensures stuck { Halts (λ n. many (token (Sign COMMA) ▸ setting_text (expr_text deep n)))
+        ensures stuck { Halts (λ n. many (token (Sign COMMA) ▸ setting_tokens (expr_tokens deep n)))
             left result self.old.rest.now self.new.rest.now }
     {
         while self.eat(TokenKind::Sign(signs::COMMA)) {
@@ -133,11 +133,11 @@ impl<'a> Parser<'a> {
 
     /// Takes [ "(" Setting { "," Setting } ")" ].
     fn settings(&mut self, left: u32) -> Result<Vec<Setting>, Refusal>
-        ensures found { Takes (λ settings. AreSettings left settings.items) result self.old.rest.now
+        ensures found { Takes (λ settings. ReadsSettings left settings.items) result self.old.rest.now
             self.new.rest.now }
-        ensures only { Finds (λ n. settings_text (expr_text deep n)) ends_attribute left result
+        ensures only { Finds (λ n. settings_tokens (expr_tokens deep n)) ends_attribute left result
             self.old.rest.now self.new.rest.now }
-        ensures stuck { Halts (λ n. settings_text (expr_text deep n)) left result self.old.rest.now
+        ensures stuck { Halts (λ n. settings_tokens (expr_tokens deep n)) left result self.old.rest.now
             self.new.rest.now }
     {
         let mut settings = Vec::new(self.alloc);
@@ -154,10 +154,10 @@ impl<'a> Parser<'a> {
 
     /// Takes a declaration: Type Names [ Settings ] ";".
     pub(crate) fn declaration(&mut self, left: u32) -> Result<Member, Refusal>
-        ensures found { Takes (IsDeclared left) result self.old.rest.now self.new.rest.now }
-        ensures only { Finds (λ n. one_of is_type ▸ declared_rest (expr_text deep n)) anything left
+        ensures found { Takes (ReadsDeclared left) result self.old.rest.now self.new.rest.now }
+        ensures only { Finds (λ n. one_of is_type ▸ declared_rest (expr_tokens deep n)) anything left
             result self.old.rest.now self.new.rest.now }
-        ensures stuck { Halts (λ n. one_of is_type ▸ declared_rest (expr_text deep n)) left result
+        ensures stuck { Halts (λ n. one_of is_type ▸ declared_rest (expr_tokens deep n)) left result
             self.old.rest.now self.new.rest.now }
     {
         let of_type = self.type_name()?;
@@ -169,10 +169,10 @@ impl<'a> Parser<'a> {
 
     /// Takes name [ "(" Unread ")" ].
     fn event(&mut self, left: u32) -> Result<Member, Refusal>
-        ensures found { Takes (IsEvent left) result self.old.rest.now self.new.rest.now }
-        ensures only { Finds event_text ends_attribute left result self.old.rest.now
+        ensures found { Takes (ReadsEvent left) result self.old.rest.now self.new.rest.now }
+        ensures only { Finds event_tokens ends_attribute left result self.old.rest.now
             self.new.rest.now }
-        ensures stuck { Halts event_text left result self.old.rest.now self.new.rest.now }
+        ensures stuck { Halts event_tokens left result self.old.rest.now self.new.rest.now }
     {
         let (name, at) = self.placed_name()?;
         let attribute = self.attribute(left)?;
@@ -183,11 +183,11 @@ impl<'a> Parser<'a> {
     fn more_events(&mut self, left: u32, members: &mut Vec<Member>) -> Result<(), Refusal>
         ensures found { IfOk result (λ _. (more : _)
             × (members.new.items ≡ members.old.items ++ more)
-            × Spans (each (λ m. token (Sign COMMA) ▸ IsEvent left m) more) self.old.rest.now
+            × Spans (each (λ m. token (Sign COMMA) ▸ ReadsEvent left m) more) self.old.rest.now
             self.new.rest.now) }
-        ensures only { Finds (λ n. many (token (Sign COMMA) ▸ event_text n)) ends_semicolon left
+        ensures only { Finds (λ n. many (token (Sign COMMA) ▸ event_tokens n)) ends_semicolon left
             result self.old.rest.now self.new.rest.now }
-        ensures stuck { Halts (λ n. many (token (Sign COMMA) ▸ event_text n)) left result
+        ensures stuck { Halts (λ n. many (token (Sign COMMA) ▸ event_tokens n)) left result
             self.old.rest.now self.new.rest.now }
     {
         while self.eat(TokenKind::Sign(signs::COMMA)) {
@@ -201,12 +201,12 @@ impl<'a> Parser<'a> {
     pub(crate) fn events(&mut self, left: u32, members: &mut Vec<Member>) -> Result<(), Refusal>
         ensures found { IfOk result (λ _. (ms : _) × (members.new.items ≡ members.old.items ++ ms)
             × Spans (between (Reserved EVENT) (Sign SEMICOLON)
-            (separated (Sign COMMA) (IsEvent left) ms)) self.old.rest.now self.new.rest.now) }
+            (separated_by (Sign COMMA) (ReadsEvent left) ms)) self.old.rest.now self.new.rest.now) }
         ensures only { Finds (λ n. between (Reserved EVENT) (Sign SEMICOLON)
-            (list_of (Sign COMMA) (event_text n))) anything left result self.old.rest.now
+            (list_of (Sign COMMA) (event_tokens n))) anything left result self.old.rest.now
             self.new.rest.now }
         ensures stuck { Halts (λ n. between (Reserved EVENT) (Sign SEMICOLON)
-            (list_of (Sign COMMA) (event_text n))) left result self.old.rest.now self.new.rest.now }
+            (list_of (Sign COMMA) (event_tokens n))) left result self.old.rest.now self.new.rest.now }
     {
         self.expect(TokenKind::Reserved(words::EVENT))?;
         let first = self.event(left)?;
@@ -218,10 +218,10 @@ impl<'a> Parser<'a> {
 
     /// Takes the path of a hidden event.
     fn hidden(&mut self) -> Result<Member, Refusal>
-        ensures found { Takes IsHidden result self.old.rest.now self.new.rest.now }
-        ensures only { (left : ℕ) → Finds (λ _. path_text) ends_path left result self.old.rest.now
+        ensures found { Takes ReadsHidden result self.old.rest.now self.new.rest.now }
+        ensures only { (left : ℕ) → Finds (λ _. path_tokens) ends_path left result self.old.rest.now
             self.new.rest.now }
-        ensures stuck { (left : ℕ) → Halts (λ _. path_text) left result self.old.rest.now
+        ensures stuck { (left : ℕ) → Halts (λ _. path_tokens) left result self.old.rest.now
             self.new.rest.now }
     {
         let path = self.path()?;
@@ -232,11 +232,11 @@ impl<'a> Parser<'a> {
     fn more_hidden(&mut self, members: &mut Vec<Member>) -> Result<(), Refusal>
         ensures found { IfOk result (λ _. (more : _)
             × (members.new.items ≡ members.old.items ++ more)
-            × Spans (each (λ m. token (Sign COMMA) ▸ IsHidden m) more) self.old.rest.now
+            × Spans (each (λ m. token (Sign COMMA) ▸ ReadsHidden m) more) self.old.rest.now
             self.new.rest.now) }
-        ensures only { (left : ℕ) → Finds (λ _. many (token (Sign COMMA) ▸ path_text))
+        ensures only { (left : ℕ) → Finds (λ _. many (token (Sign COMMA) ▸ path_tokens))
             ends_semicolon left result self.old.rest.now self.new.rest.now }
-        ensures stuck { (left : ℕ) → Halts (λ _. many (token (Sign COMMA) ▸ path_text)) left result
+        ensures stuck { (left : ℕ) → Halts (λ _. many (token (Sign COMMA) ▸ path_tokens)) left result
             self.old.rest.now self.new.rest.now }
     {
         while self.eat(TokenKind::Sign(signs::COMMA)) {
@@ -249,13 +249,13 @@ impl<'a> Parser<'a> {
     /// Takes "hide" Path { "," Path } ";".
     pub(crate) fn hides(&mut self, members: &mut Vec<Member>) -> Result<(), Refusal>
         ensures found { IfOk result (λ _. (ms : _) × (members.new.items ≡ members.old.items ++ ms)
-            × Spans (between (Reserved HIDE) (Sign SEMICOLON) (separated (Sign COMMA) IsHidden ms))
+            × Spans (between (Reserved HIDE) (Sign SEMICOLON) (separated_by (Sign COMMA) ReadsHidden ms))
             self.old.rest.now self.new.rest.now) }
         ensures only { (left : ℕ) → Finds
-            (λ _. between (Reserved HIDE) (Sign SEMICOLON) (list_of (Sign COMMA) path_text))
+            (λ _. between (Reserved HIDE) (Sign SEMICOLON) (list_of (Sign COMMA) path_tokens))
             anything left result self.old.rest.now self.new.rest.now }
         ensures stuck { (left : ℕ) → Halts
-            (λ _. between (Reserved HIDE) (Sign SEMICOLON) (list_of (Sign COMMA) path_text)) left
+            (λ _. between (Reserved HIDE) (Sign SEMICOLON) (list_of (Sign COMMA) path_tokens)) left
             result self.old.rest.now self.new.rest.now }
     {
         self.expect(TokenKind::Reserved(words::HIDE))?;
@@ -284,10 +284,10 @@ impl<'a> Parser<'a> {
 
     /// Takes ( "!" | "?" ) Path.
     fn part(&mut self) -> Result<Part, Refusal>
-        ensures found { Takes IsPart result self.old.rest.now self.new.rest.now }
-        ensures only { (left : ℕ) → Finds (λ _. part_text) ends_path left result self.old.rest.now
+        ensures found { Takes ReadsPart result self.old.rest.now self.new.rest.now }
+        ensures only { (left : ℕ) → Finds (λ _. part_tokens) ends_path left result self.old.rest.now
             self.new.rest.now }
-        ensures stuck { (left : ℕ) → Halts (λ _. part_text) left result self.old.rest.now
+        ensures stuck { (left : ℕ) → Halts (λ _. part_tokens) left result self.old.rest.now
             self.new.rest.now }
     {
         let must = self.must()?;
@@ -298,11 +298,11 @@ impl<'a> Parser<'a> {
     /// Takes { "&" Part }.
     fn more_parts(&mut self, parts: &mut Vec<Part>) -> Result<(), Refusal>
         ensures found { IfOk result (λ _. (more : _) × (parts.new.items ≡ parts.old.items ++ more)
-            × Spans (each (λ p. token (Sign AMPERSAND) ▸ IsPart p) more) self.old.rest.now
+            × Spans (each (λ p. token (Sign AMPERSAND) ▸ ReadsPart p) more) self.old.rest.now
             self.new.rest.now) }
-        ensures only { (left : ℕ) → Finds (λ _. many (token (Sign AMPERSAND) ▸ part_text))
+        ensures only { (left : ℕ) → Finds (λ _. many (token (Sign AMPERSAND) ▸ part_tokens))
             ends_semicolon left result self.old.rest.now self.new.rest.now }
-        ensures stuck { (left : ℕ) → Halts (λ _. many (token (Sign AMPERSAND) ▸ part_text)) left
+        ensures stuck { (left : ℕ) → Halts (λ _. many (token (Sign AMPERSAND) ▸ part_tokens)) left
             result self.old.rest.now self.new.rest.now }
     {
         while self.eat(TokenKind::Sign(signs::AMPERSAND)) {
@@ -314,11 +314,11 @@ impl<'a> Parser<'a> {
 
     /// Takes Part { "&" Part } ";".
     fn parts(&mut self) -> Result<Vec<Part>, Refusal>
-        ensures found { Takes (λ parts. separated (Sign AMPERSAND) IsPart parts.items
+        ensures found { Takes (λ parts. separated_by (Sign AMPERSAND) ReadsPart parts.items
             ▸ token (Sign SEMICOLON)) result self.old.rest.now self.new.rest.now }
-        ensures only { (left : ℕ) → Finds (λ _. parts_text) anything left result self.old.rest.now
+        ensures only { (left : ℕ) → Finds (λ _. parts_tokens) anything left result self.old.rest.now
             self.new.rest.now }
-        ensures stuck { (left : ℕ) → Halts (λ _. parts_text) left result self.old.rest.now
+        ensures stuck { (left : ℕ) → Halts (λ _. parts_tokens) left result self.old.rest.now
             self.new.rest.now }
     {
         let first = self.part()?;
@@ -331,10 +331,10 @@ impl<'a> Parser<'a> {
 
     /// Takes Expr "->" Instr.
     fn guarded(&mut self, left: u32) -> Result<(RawExpr, Instr), Refusal>
-        ensures found { Takes (λ x. Node (IsExpr left) x.0 ▸ token (Sign ARROW) ▸ IsInstr left x.1)
+        ensures found { Takes (λ x. Node (ReadsExpr left) x.0 ▸ token (Sign ARROW) ▸ ReadsInstr left x.1)
             result self.old.rest.now self.new.rest.now }
-        ensures only { Finds guarded_text anything left result self.old.rest.now self.new.rest.now }
-        ensures stuck { Halts guarded_text left result self.old.rest.now self.new.rest.now }
+        ensures only { Finds guarded_tokens anything left result self.old.rest.now self.new.rest.now }
+        ensures stuck { Halts guarded_tokens left result self.old.rest.now self.new.rest.now }
     {
         let guard = self.expr(left)?;
         self.expect(TokenKind::Sign(signs::ARROW))?;
@@ -352,7 +352,7 @@ impl<'a> Parser<'a> {
 
     /// Takes name ":" ( Part { "&" Part } ";" | Expr "->" Instr ).
     fn transition(&mut self, left: u32) -> Result<Member, Refusal>
-        ensures found { Takes (IsTransition left) result self.old.rest.now self.new.rest.now }
+        ensures found { Takes (ReadsTransition left) result self.old.rest.now self.new.rest.now }
         ensures only { Finds transition_of anything left result self.old.rest.now
             self.new.rest.now }
         ensures stuck { Halts transition_of left result self.old.rest.now self.new.rest.now }
@@ -375,7 +375,7 @@ impl<'a> Parser<'a> {
     ) -> Result<(), Refusal>
         ensures found { IfOk result (λ _. (more : _)
             × (members.new.items ≡ members.old.items ++ more)
-            × Spans (each (IsTransition left) more) self.old.rest.now self.new.rest.now) }
+            × Spans (each (ReadsTransition left) more) self.old.rest.now self.new.rest.now) }
         ensures only { Finds (λ n. many (transition_of n)) ends_transitions left result
             self.old.rest.now self.new.rest.now }
         ensures stuck { Halts (λ n. many (transition_of n)) left result self.old.rest.now
@@ -392,10 +392,10 @@ impl<'a> Parser<'a> {
     pub(crate) fn assertions(&mut self, left: u32, members: &mut Vec<Member>) -> Result<(), Refusal>
         ensures found { IfOk result (λ _. (more : _)
             × (members.new.items ≡ members.old.items ++ more)
-            × Spans (each (IsAssertion left) more) self.old.rest.now self.new.rest.now) }
-        ensures only { Finds (λ n. many (instr_text deep n)) ends_assertions left result
+            × Spans (each (ReadsAssertion left) more) self.old.rest.now self.new.rest.now) }
+        ensures only { Finds (λ n. many (instr_tokens deep n)) ends_assertions left result
             self.old.rest.now self.new.rest.now }
-        ensures stuck { Halts (λ n. many (instr_text deep n)) left result self.old.rest.now
+        ensures stuck { Halts (λ n. many (instr_tokens deep n)) left result self.old.rest.now
             self.new.rest.now }
     {
         while begins_instr(self.kind()) {

@@ -3,10 +3,10 @@
 ghost use Rattle.std.specs.Prelude.{◌≡◌, ◌++◌, ℕ, Ok, IfOk, IfErr, IfSome};
 ghost use Rattle.ar_lexer.specs.declared.token.TokenKind.TheVariants.{End, Sign};
 ghost use Rattle.ar_lexer.specs.declared.signs.TheConstants.{SEMICOLON};
-ghost use Rattle.ar_grammar.specs.Words.{token, deep, nothing, ◌∣◌, each, many, Has};
-ghost use Rattle.ar_grammar.specs.Texts.{maybe, whole_text, bound_text, domain_text, item_text, model_text};
-ghost use Rattle.ar_grammar.specs.Parts.{domain_body_text};
-ghost use Rattle.ar_grammar.specs.Items.{IsWhole, IsBound, IsDomainBody, IsDomain, IsItem, AreItems};
+ghost use Rattle.ar_grammar.specs.Words.{token, deep, nothing, ◌∣◌, each, many, ReadsSome};
+ghost use Rattle.ar_grammar.specs.Texts.{maybe, whole_tokens, bound_tokens, domain_tokens, item_tokens, model_tokens};
+ghost use Rattle.ar_grammar.specs.Parts.{domain_body_tokens};
+ghost use Rattle.ar_grammar.specs.Items.{ReadsWhole, ReadsBound, ReadsDomainBody, ReadsDomain, ReadsItem, ReadsItems};
 ghost use Rattle.ar_grammar.specs.Results.{Takes, Finds, Halts, Spans, Gets, Plain, AreUnsigned, IsRefusedAs, anything, ends_item, is_end};
 
 use crate::begins::begins_item;
@@ -19,10 +19,10 @@ impl<'a> Parser<'a> {
     /// Takes a whole number.
     fn whole(&mut self) -> Result<i64, Refusal>
         requires { AreUnsigned self.old.rest.now }
-        ensures found { Takes IsWhole result self.old.rest.now self.new.rest.now }
-        ensures only { (left : ℕ) → Finds (λ _. whole_text) anything left result self.old.rest.now
+        ensures found { Takes ReadsWhole result self.old.rest.now self.new.rest.now }
+        ensures only { (left : ℕ) → Finds (λ _. whole_tokens) anything left result self.old.rest.now
             self.new.rest.now }
-        ensures stuck { (left : ℕ) → Halts (λ _. whole_text) left result self.old.rest.now
+        ensures stuck { (left : ℕ) → Halts (λ _. whole_tokens) left result self.old.rest.now
             self.new.rest.now }
     {
         match self.eat_whole() {
@@ -34,10 +34,10 @@ impl<'a> Parser<'a> {
     /// Takes a bound of a range: [ "-" ] whole.
     fn bound(&mut self) -> Result<i64, Refusal>
         requires { AreUnsigned self.old.rest.now }
-        ensures found { Takes IsBound result self.old.rest.now self.new.rest.now }
-        ensures only { (left : ℕ) → Finds (λ _. bound_text) anything left result self.old.rest.now
+        ensures found { Takes ReadsBound result self.old.rest.now self.new.rest.now }
+        ensures only { (left : ℕ) → Finds (λ _. bound_tokens) anything left result self.old.rest.now
             self.new.rest.now }
-        ensures stuck { (left : ℕ) → Halts (λ _. bound_text) left result self.old.rest.now
+        ensures stuck { (left : ℕ) → Halts (λ _. bound_tokens) left result self.old.rest.now
             self.new.rest.now }
     {
         if self.eat(TokenKind::Sign(signs::MINUS)) {
@@ -50,10 +50,10 @@ impl<'a> Parser<'a> {
     /// Takes what a domain holds: "{" Names "}" | "[" Bound "," Bound "]".
     fn domain_body(&mut self) -> Result<DomainBody, Refusal>
         requires { AreUnsigned self.old.rest.now }
-        ensures found { Takes IsDomainBody result self.old.rest.now self.new.rest.now }
-        ensures only { (left : ℕ) → Finds (λ _. domain_body_text) anything left result
+        ensures found { Takes ReadsDomainBody result self.old.rest.now self.new.rest.now }
+        ensures only { (left : ℕ) → Finds (λ _. domain_body_tokens) anything left result
             self.old.rest.now self.new.rest.now }
-        ensures stuck { (left : ℕ) → Halts (λ _. domain_body_text) left result self.old.rest.now
+        ensures stuck { (left : ℕ) → Halts (λ _. domain_body_tokens) left result self.old.rest.now
             self.new.rest.now }
     {
         if self.eat(TokenKind::Sign(signs::OPEN_BRACE)) {
@@ -82,10 +82,10 @@ impl<'a> Parser<'a> {
     /// Takes "domain" name DomainBody [ ";" ].
     fn domain(&mut self) -> Result<DomainDecl, Refusal>
         requires { AreUnsigned self.old.rest.now }
-        ensures found { Takes IsDomain result self.old.rest.now self.new.rest.now }
-        ensures only { (left : ℕ) → Finds (λ _. domain_text) ends_item left result self.old.rest.now
+        ensures found { Takes ReadsDomain result self.old.rest.now self.new.rest.now }
+        ensures only { (left : ℕ) → Finds (λ _. domain_tokens) ends_item left result self.old.rest.now
             self.new.rest.now }
-        ensures stuck { (left : ℕ) → Halts (λ _. domain_text) left result self.old.rest.now
+        ensures stuck { (left : ℕ) → Halts (λ _. domain_tokens) left result self.old.rest.now
             self.new.rest.now }
     {
         self.expect(TokenKind::Reserved(words::DOMAIN))?;
@@ -98,10 +98,10 @@ impl<'a> Parser<'a> {
     /// Takes an item, with room for `left` open productions.
     fn item(&mut self, left: u32) -> Result<Item, Refusal>
         requires { AreUnsigned self.old.rest.now }
-        ensures found { Takes (IsItem left) result self.old.rest.now self.new.rest.now }
-        ensures only { Finds (item_text deep) ends_item left result self.old.rest.now
+        ensures found { Takes (ReadsItem left) result self.old.rest.now self.new.rest.now }
+        ensures only { Finds (item_tokens deep) ends_item left result self.old.rest.now
             self.new.rest.now }
-        ensures stuck { Halts (item_text deep) left result self.old.rest.now self.new.rest.now }
+        ensures stuck { Halts (item_tokens deep) left result self.old.rest.now self.new.rest.now }
     {
         if self.is_at(TokenKind::Reserved(words::DOMAIN)) {
             let domain = self.domain()?;
@@ -120,10 +120,10 @@ impl<'a> Parser<'a> {
     fn more_items(&mut self, left: u32, items: &mut Vec<Item>) -> Result<(), Refusal>
         requires { AreUnsigned self.old.rest.now }
         ensures found { IfOk result (λ _. (more : _) × (items.new.items ≡ items.old.items ++ more)
-            × Spans (each (IsItem left) more) self.old.rest.now self.new.rest.now) }
-        ensures only { Finds (λ n. many (item_text deep n)) is_end left result self.old.rest.now
+            × Spans (each (ReadsItem left) more) self.old.rest.now self.new.rest.now) }
+        ensures only { Finds (λ n. many (item_tokens deep n)) is_end left result self.old.rest.now
             self.new.rest.now }
-        ensures stuck { Halts (λ n. many (item_text deep n)) left result self.old.rest.now
+        ensures stuck { Halts (λ n. many (item_tokens deep n)) left result self.old.rest.now
             self.new.rest.now }
     {
         while begins_item(self.kind()) {
@@ -136,11 +136,11 @@ impl<'a> Parser<'a> {
     /// Takes the items of a model: Item { Item }.
     fn items(&mut self, left: u32) -> Result<Vec<Item>, Refusal>
         requires { AreUnsigned self.old.rest.now }
-        ensures found { Takes (λ items. AreItems left items.items) result self.old.rest.now
+        ensures found { Takes (λ items. ReadsItems left items.items) result self.old.rest.now
             self.new.rest.now }
-        ensures only { Finds (model_text deep) is_end left result self.old.rest.now
+        ensures only { Finds (model_tokens deep) is_end left result self.old.rest.now
             self.new.rest.now }
-        ensures stuck { Halts (model_text deep) left result self.old.rest.now self.new.rest.now }
+        ensures stuck { Halts (model_tokens deep) left result self.old.rest.now self.new.rest.now }
     {
         let first = self.item(left)?;
         let mut items = Vec::new(self.alloc);
@@ -153,8 +153,8 @@ impl<'a> Parser<'a> {
     pub fn model(&mut self, left: u32) -> Result<Vec<Item>, Refusal>
         requires unsigned { AreUnsigned self.old.rest.now }
         requires plain { Plain self.old.rest.now }
-        ensures found { IfOk result (λ items. AreItems left items.items End self.old.rest.now) }
-        ensures only { (n : ℕ) → Has (AreItems n) End self.old.rest.now → Gets left n result }
+        ensures found { IfOk result (λ items. ReadsItems left items.items End self.old.rest.now) }
+        ensures only { (n : ℕ) → ReadsSome (ReadsItems n) End self.old.rest.now → Gets left n result }
         ensures stuck { IfErr result (λ e. IsRefusedAs left e self.old.rest.now self.new.rest.now) }
     {
         let items = self.items(left)?;

@@ -3,8 +3,8 @@
 ghost use Rattle.std.specs.Prelude.{◌≡◌, ◌≢◌, ◌++◌, ◌∷◌, ℕ, length, Option, IfOk, IfErr, IfSome, IfNone, true, false, Some};
 ghost use Rattle.ar_lexer.specs.declared.token.TokenKind.TheVariants.{Sign, Reserved, End};
 ghost use Rattle.ar_lexer.specs.declared.signs.TheConstants.{COMMA, OPEN_PARENTHESIS, CLOSE_PARENTHESIS, PLUS, MINUS};
-ghost use Rattle.ar_grammar.specs.Words.{StandsAt, Covers, token, ◌▸◌, between, each, many, Has};
-ghost use Rattle.ar_grammar.specs.Expressions.{Node, IsExpr, IsNot, IsMinus, IsOr, IsAnd, IsProduct, IsSum, IsTerm, IsCompare, IsPrimary, IsIf, IsSwitch, IsCase, AreOperands, sign_of};
+ghost use Rattle.ar_grammar.specs.Words.{StandsAt, IsSpanOf, token, ◌▸◌, between, each, many, ReadsSome};
+ghost use Rattle.ar_grammar.specs.Expressions.{Node, ReadsExpr, ReadsNot, ReadsMinus, ReadsOr, ReadsAnd, ReadsProduct, ReadsSum, ReadsTerm, ReadsCompare, ReadsPrimary, ReadsIf, ReadsSwitch, ReadsCase, ReadsOperands, sign_of};
 ghost use Rattle.ar_grammar.specs.Chains.{separator_of, operand_form, chain_form, chain_of, ends_operand, ends_chain, IsConstant, word_of, call_of, IsComparison, IsOneCase};
 ghost use Rattle.ar_grammar.specs.Results.{kind_at, Takes, Finds, Spans, Eats, anything, is_relation, begins_term, ends_path, ends_names, ends_product, ends_sum, ends_not, ends_expr};
 ghost use Rattle.ar_grammar.specs.declared.lexeme.Refusal.TheVariants.{Memory};
@@ -216,7 +216,7 @@ impl<'a> Parser<'a> {
         ensures form { result.form ≡ inner.form }
         ensures there { (t : _) (ts : _) → start.now ≡ (t ∷ ts) ++ self.now.rest.now
             → StandsAt result.at (t ∷ ts) }
-        ensures span { (ts : _) → start.now ≡ ts ++ self.now.rest.now → Covers result.span ts }
+        ensures span { (ts : _) → start.now ≡ ts ++ self.now.rest.now → IsSpanOf result.span ts }
     {
         let RawExpr {
             at: _,

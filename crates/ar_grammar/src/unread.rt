@@ -4,9 +4,9 @@ ghost use Rattle.std.specs.Prelude.{◌≡◌, ◌≢◌, ℕ, IfOk, true};
 ghost use Rattle.ar_lexer.specs.declared.token.TokenKind.TheVariants.{Sign};
 ghost use Rattle.ar_lexer.specs.declared.signs.TheConstants.{OPEN_PARENTHESIS, CLOSE_PARENTHESIS};
 ghost use Rattle.ar_grammar.specs.Words.{deep, many, covering};
-ghost use Rattle.ar_grammar.specs.Texts.{bracketed_text, kept_text};
-ghost use Rattle.ar_grammar.specs.Parts.{unread_text, attribute_text, kept_piece_text};
-ghost use Rattle.ar_grammar.specs.Members.{unread, unread_piece, kept, kept_piece, bracketed, IsAttribute};
+ghost use Rattle.ar_grammar.specs.Texts.{bracketed_tokens, kept_tokens};
+ghost use Rattle.ar_grammar.specs.Parts.{unread_tokens, attribute_tokens, kept_piece_tokens};
+ghost use Rattle.ar_grammar.specs.Members.{unread, unread_piece, kept, kept_piece, bracketed, ReadsAttribute};
 ghost use Rattle.ar_grammar.specs.Results.{kind_at, Takes, Finds, Halts, Spans, anything, goes_unread, goes_kept, ends_unread, ends_kept, ends_attribute};
 
 use crate::cursor::{Parser, no_room};
@@ -30,9 +30,9 @@ impl<'a> Parser<'a> {
     #[cycle(unread)]
     fn unread(&mut self, left: u32) -> Result<(), Refusal>
         ensures found { IfOk result (λ _. Spans (unread left) self.old.rest.now self.new.rest.now) }
-        ensures only { Finds (λ n. many (unread_text n)) ends_unread left result self.old.rest.now
+        ensures only { Finds (λ n. many (unread_tokens n)) ends_unread left result self.old.rest.now
             self.new.rest.now }
-        ensures stuck { Halts (λ n. many (unread_text n)) left result self.old.rest.now
+        ensures stuck { Halts (λ n. many (unread_tokens n)) left result self.old.rest.now
             self.new.rest.now }
     {
         while self.is_at_unread() {
@@ -47,8 +47,8 @@ impl<'a> Parser<'a> {
         requires { goes_unread (kind_at self.old.rest.now) ≡ true }
         ensures found { IfOk result (λ _.
             Spans (unread_piece left) self.old.rest.now self.new.rest.now) }
-        ensures only { Finds unread_text anything left result self.old.rest.now self.new.rest.now }
-        ensures stuck { Halts unread_text left result self.old.rest.now self.new.rest.now }
+        ensures only { Finds unread_tokens anything left result self.old.rest.now self.new.rest.now }
+        ensures stuck { Halts unread_tokens left result self.old.rest.now self.new.rest.now }
     {
         if self.is_at(TokenKind::Sign(signs::OPEN_PARENTHESIS)) {
             return self.unread_group(left);
@@ -63,9 +63,9 @@ impl<'a> Parser<'a> {
         requires { kind_at self.old.rest.now ≡ Sign OPEN_PARENTHESIS }
         ensures found { IfOk result (λ _.
             Spans (bracketed left) self.old.rest.now self.new.rest.now) }
-        ensures only { Finds (bracketed_text deep) anything left result self.old.rest.now
+        ensures only { Finds (bracketed_tokens deep) anything left result self.old.rest.now
             self.new.rest.now }
-        ensures stuck { Halts (bracketed_text deep) left result self.old.rest.now
+        ensures stuck { Halts (bracketed_tokens deep) left result self.old.rest.now
             self.new.rest.now }
     {
         if left == 0 {
@@ -90,10 +90,10 @@ impl<'a> Parser<'a> {
 
     /// Takes [ "(" Unread ")" ] and gives the span of what is unread.
     pub(crate) fn attribute(&mut self, left: u32) -> Result<Option<Span>, Refusal>
-        ensures found { Takes (IsAttribute left) result self.old.rest.now self.new.rest.now }
-        ensures only { Finds attribute_text ends_attribute left result self.old.rest.now
+        ensures found { Takes (ReadsAttribute left) result self.old.rest.now self.new.rest.now }
+        ensures only { Finds attribute_tokens ends_attribute left result self.old.rest.now
             self.new.rest.now }
-        ensures stuck { Halts attribute_text left result self.old.rest.now self.new.rest.now }
+        ensures stuck { Halts attribute_tokens left result self.old.rest.now self.new.rest.now }
     {
         if !self.is_at(TokenKind::Sign(signs::OPEN_PARENTHESIS)) {
             return Ok(None);
@@ -114,9 +114,9 @@ impl<'a> Parser<'a> {
         requires { goes_kept (kind_at self.old.rest.now) ≡ true }
         ensures found { IfOk result (λ _.
             Spans (kept_piece left) self.old.rest.now self.new.rest.now) }
-        ensures only { Finds kept_piece_text anything left result self.old.rest.now
+        ensures only { Finds kept_piece_tokens anything left result self.old.rest.now
             self.new.rest.now }
-        ensures stuck { Halts kept_piece_text left result self.old.rest.now self.new.rest.now }
+        ensures stuck { Halts kept_piece_tokens left result self.old.rest.now self.new.rest.now }
     {
         if self.is_at(TokenKind::Sign(signs::OPEN_PARENTHESIS)) {
             return self.unread_group(left);
@@ -129,9 +129,9 @@ impl<'a> Parser<'a> {
     fn more_kept(&mut self, left: u32) -> Result<(), Refusal>
         ensures found { IfOk result (λ _.
             Spans (many (kept_piece left)) self.old.rest.now self.new.rest.now) }
-        ensures only { Finds (λ n. many (kept_piece_text n)) ends_kept left result self.old.rest.now
+        ensures only { Finds (λ n. many (kept_piece_tokens n)) ends_kept left result self.old.rest.now
             self.new.rest.now }
-        ensures stuck { Halts (λ n. many (kept_piece_text n)) left result self.old.rest.now
+        ensures stuck { Halts (λ n. many (kept_piece_tokens n)) left result self.old.rest.now
             self.new.rest.now }
     {
         while self.is_at_kept() {
@@ -144,9 +144,9 @@ impl<'a> Parser<'a> {
     pub(crate) fn kept(&mut self, left: u32) -> Result<Span, Refusal>
         ensures found { Takes (λ span. covering span (kept left)) result self.old.rest.now
             self.new.rest.now }
-        ensures only { Finds (λ n. kept_text (bracketed_text deep n)) ends_kept left result
+        ensures only { Finds (λ n. kept_tokens (bracketed_tokens deep n)) ends_kept left result
             self.old.rest.now self.new.rest.now }
-        ensures stuck { Halts (λ n. kept_text (bracketed_text deep n)) left result self.old.rest.now
+        ensures stuck { Halts (λ n. kept_tokens (bracketed_tokens deep n)) left result self.old.rest.now
             self.new.rest.now }
     {
         let start = self.rest;

@@ -10,7 +10,7 @@ use Rattle.std.proofs.lemmas.Bool.{leb-true}
 use Rattle.std.proofs.lemmas.List.Sums.{AllPass-from_list_all}
 use Rattle.std.proofs.lemmas.List.Quantifiers.{position-Some}
 use Rattle.std.proofs.lemmas.Slice.Eq.{bytes_eq-Decides}
-use Rattle.ar_lexer.specs.Spelling.{signs, place_in, is_letter, is_word_byte, IsWord, IsDigits, IsReal, IsOfKind, IsTokenText, word, whole, real, sign}
+use Rattle.ar_lexer.specs.Spelling.{signs, place_in, is_letter, is_word_byte, IsWord, IsDigits, IsReal, IsTextOfKind, IsTokenText, word, whole, real, sign}
 use Rattle.ar_lexer.specs.declared.token.TokenKind.{TokenKind}
 use Rattle.ar_lexer.specs.Tokens.{is_blank, BeginsComment, IsTokenOf}
 use Rattle.ar_lexer.specs.Scans.{IsLongestFront}
@@ -151,7 +151,7 @@ sign_fronts b rest front back l d e h =
     (s.0, subst (λ (s' : List ℕ). place_in signs s' ≡ Some s.0) (sym f.1) s.1)
 
 -- A token of so many bytes at the front
-pub token_front : (kind : TokenKind) (rest : List ℕ) (n : ℕ) → n ≤ length rest → IsOfKind kind (take n rest)
+pub token_front : (kind : TokenKind) (rest : List ℕ) (n : ℕ) → n ≤ length rest → IsTextOfKind kind (take n rest)
     → ((front back : List ℕ) → rest ≡ front ++ back → IsTokenText front → length front ≤ n) → (BeginsComment rest → ⊥)
     → IsTokenOf kind (take n rest) (drop n rest)
 token_front kind rest n within of longest none = record {

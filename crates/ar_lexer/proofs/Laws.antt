@@ -12,8 +12,8 @@ use Rattle.ar_lexer.specs.declared.token.TokenKind.{TokenKind}
 use Rattle.ar_lexer.specs.declared.token.TokenKind.TheVariants.{Name, Whole, Real, Sign, Reserved, End}
 use Rattle.ar_lexer.specs.declared.token.LexFault.{LexFault}
 use Rattle.ar_lexer.specs.declared.token.LexFault.TheVariants.{Byte, OpenComment, Number, Memory}
-use Rattle.ar_lexer.specs.Spelling.{fraction, exponent, both, signs, place_in, AllPass, IsWord, IsDigits, IsReal, IsTail, IsOfKind, IsTokenText, word, whole, real, sign, number_of}
-use Rattle.ar_lexer.specs.Tokens.{is_blank, is_line_feed, IsLineEnd, Closes, IsGap, blank, line_comment, block_comment, IsTokenOf, IsToken, joined, AreCut, end_of_text, AreTokens, BeginsNothing, IsOpenComment, IsTooLarge, IsFault, IsFirstFault}
+use Rattle.ar_lexer.specs.Spelling.{fraction, exponent, both, signs, place_in, AllPass, IsWord, IsDigits, IsReal, IsTail, IsTextOfKind, IsTokenText, word, whole, real, sign, number_of}
+use Rattle.ar_lexer.specs.Tokens.{is_blank, is_line_feed, IsLineEnd, Closes, IsGap, blank, line_comment, block_comment, IsTokenOf, IsToken, joined_pieces, AreCut, end_of_text, AreTokens, BeginsNothing, IsOpenComment, IsTooLarge, IsFault, IsFirstFault}
 use Rattle.ar_lexer.proofs.RunLemmas.{run_exact, letter_no_digit, blank_digit}
 use Rattle.ar_lexer.proofs.NumberLemmas.{cons_head, cons_tail, digits_pass, tail_fails}
 use Rattle.ar_lexer.proofs.FormLemmas.{sign_passes, blank_form, sign_head, real_head}
@@ -116,7 +116,7 @@ gap_one p q a b (block_comment body i h) (block_comment body' j k) e =
 
 -- Kinds
 
-text_of_kind : (k : TokenKind) (p : List ℕ) → IsOfKind k p → IsTokenText p
+text_of_kind : (k : TokenKind) (p : List ℕ) → IsTextOfKind k p → IsTokenText p
 text_of_kind Name p h = word h.0
 text_of_kind (Whole n) p h = whole h.0
 text_of_kind Real p h = real h
@@ -176,7 +176,7 @@ digits_no_real p h r =
 some_none : {P : Type 0} (m : ℕ) → Some m ≡ None → P
 some_none m e = absurd (cc)
 
-pub kind_one : (k l : TokenKind) (p : List ℕ) → IsOfKind k p → IsOfKind l p → k ≡ l
+pub kind_one : (k l : TokenKind) (p : List ℕ) → IsTextOfKind k p → IsTextOfKind l p → k ≡ l
 kind_one Name Name p h g = refl
 kind_one Name (Whole n) p h g = absurd (word_no_digits p h.0 g.0)
 kind_one Name Real p h g = absurd (word_no_real p h.0 g)
@@ -224,7 +224,7 @@ token_one before p q a b t u h g e =
     let n : length p ≡ length q = ap length s in
     let x = h.to in let y = g.to in (
       s,
-      same_token t u (kind_one t.kind u.kind q (subst (IsOfKind t.kind) s h.of_kind.of_kind) g.of_kind.of_kind)
+      same_token t u (kind_one t.kind u.kind q (subst (IsTextOfKind t.kind) s h.of_kind.of_kind) g.of_kind.of_kind)
           (h.from ∙ sym g.from) (omega (arith, x, y, n)) (h.at ∙ sym g.at),
     )
 
@@ -312,7 +312,7 @@ digits_no_gap p (y ∷ q) a b (block_comment body i h) d e =
     let r : true ≡ false = sym d.0 ∙ ap is_ascii_digit (sym (cons_head f)) in absurd (cc)
 
 -- digits of a number that is too large are of no kind
-large_no_kind : (k : TokenKind) (p : List ℕ) → IsDigits p → 2 ^ 63 ≤ number_of p → IsOfKind k p → ⊥
+large_no_kind : (k : TokenKind) (p : List ℕ) → IsDigits p → 2 ^ 63 ≤ number_of p → IsTextOfKind k p → ⊥
 large_no_kind Name p d l h = word_no_digits p h.0 d
 large_no_kind (Whole n) p d l h = let f = h.1 in omega (arith, f, l)
 large_no_kind Real p d l h = digits_no_real p d h
@@ -327,7 +327,7 @@ stuck_large rest t = record {
       let m = h.longest t.0 t.1 (sym e ∙ t.2) (whole t.3) in
       let n = t.4 p a (sym t.2 ∙ e) (text_of_kind k p h.of_kind) in
       let s : p ≡ t.0 = same_front p t.0 a t.1 (sym e ∙ t.2) (omega (arith, m, n)) in
-      large_no_kind k t.0 t.3 t.5 (subst (IsOfKind k) s h.of_kind);
+      large_no_kind k t.0 t.3 t.5 (subst (IsTextOfKind k) s h.of_kind);
 }
 
 stuck_fault : (before rest : List ℕ) (f : LexFault) → IsFault before rest f → IsStuck rest
@@ -344,30 +344,31 @@ pub record SameCut (ps qs : List (List ℕ)) (a b : List ℕ) (ts us : List Toke
   pub found : ts ≡ us
 
 pub cut_one : (before : List ℕ) (ps qs : List (List ℕ)) (a b : List ℕ) (ts us : List Token) → AreCut before ps a ts
-    → AreCut before qs b us → joined ps a ≡ joined qs b → IsStuck a → IsStuck b → SameCut ps qs a b ts us
+    → AreCut before qs b us → joined_pieces ps a ≡ joined_pieces qs b → IsStuck a → IsStuck b → SameCut ps qs a b ts us
 cut_one before [] [] a b ts us h g e s t = record { pieces = refl; rests = e; found = h ∙ sym g }
-cut_one before [] (q ∷ qs) a b ts us h (inl g) e s t = absurd (s.no_gap q (joined qs b) e g.0)
-cut_one before [] (q ∷ qs) a b ts us h (inr g) e s t = absurd (s.no_token g.0.kind q (joined qs b) e g.3.of_kind)
-cut_one before (p ∷ ps) [] a b ts us (inl h) g e s t = absurd (t.no_gap p (joined ps a) (sym e) h.0)
-cut_one before (p ∷ ps) [] a b ts us (inr h) g e s t = absurd (t.no_token h.0.kind p (joined ps a) (sym e) h.3.of_kind)
+cut_one before [] (q ∷ qs) a b ts us h (inl g) e s t = absurd (s.no_gap q (joined_pieces qs b) e g.0)
+cut_one before [] (q ∷ qs) a b ts us h (inr g) e s t = absurd (s.no_token g.0.kind q (joined_pieces qs b) e g.3.of_kind)
+cut_one before (p ∷ ps) [] a b ts us (inl h) g e s t = absurd (t.no_gap p (joined_pieces ps a) (sym e) h.0)
+cut_one before (p ∷ ps) [] a b ts us (inr h) g e s t = absurd
+    (t.no_token h.0.kind p (joined_pieces ps a) (sym e) h.3.of_kind)
 cut_one before (p ∷ ps) (q ∷ qs) a b ts us (inl h) (inl g) e s t =
-    let same = gap_one p q (joined ps a) (joined qs b) h.0 g.0 e in
+    let same = gap_one p q (joined_pieces ps a) (joined_pieces qs b) h.0 g.0 e in
     let more = cut_one (before ++ q) ps qs a b ts us (subst (λ (r : List ℕ). AreCut (before ++ r) ps a ts) same h.1) g.1
-    (same_back p q (joined ps a) (joined qs b) e same) s t in
+    (same_back p q (joined_pieces ps a) (joined_pieces qs b) e same) s t in
     record {
       pieces = ap (λ (r : List ℕ). r ∷ ps) same ∙ ap (λ (rs : List (List ℕ)). q ∷ rs) more.pieces;
       rests = more.rests;
       found = more.found;
     }
 cut_one before (p ∷ ps) (q ∷ qs) a b ts us (inl h) (inr g) e s t =
-    absurd (gap_no_token g.0.kind p q (joined ps a) (joined qs b) h.0 g.3.of_kind e)
+    absurd (gap_no_token g.0.kind p q (joined_pieces ps a) (joined_pieces qs b) h.0 g.3.of_kind e)
 cut_one before (p ∷ ps) (q ∷ qs) a b ts us (inr h) (inl g) e s t =
-    absurd (gap_no_token h.0.kind q p (joined qs b) (joined ps a) g.0 h.3.of_kind (sym e))
+    absurd (gap_no_token h.0.kind q p (joined_pieces qs b) (joined_pieces ps a) g.0 h.3.of_kind (sym e))
 cut_one before (p ∷ ps) (q ∷ qs) a b ts us (inr h) (inr g) e s t =
-    let same = token_one before p q (joined ps a) (joined qs b) h.0 g.0 h.3 g.3 e in
+    let same = token_one before p q (joined_pieces ps a) (joined_pieces qs b) h.0 g.0 h.3 g.3 e in
     let more = cut_one (before ++ q) ps qs a b h.1 g.1
     (subst (λ (r : List ℕ). AreCut (before ++ r) ps a h.1) same.0 h.4) g.4
-    (same_back p q (joined ps a) (joined qs b) e same.0) s t in
+    (same_back p q (joined_pieces ps a) (joined_pieces qs b) e same.0) s t in
     record {
       pieces = ap (λ (r : List ℕ). r ∷ ps) same.0 ∙ ap (λ (rs : List (List ℕ)). q ∷ rs) more.pieces;
       rests = more.rests;
@@ -387,10 +388,10 @@ tokens_one text ts us h g =
 pub tokens_no_fault : (text : List ℕ) (ts : List Token) (f : LexFault) → AreTokens text ts → IsFirstFault text f → ⊥
 tokens_no_fault text ts f h g =
     let same = cut_one [] h.pieces g.pieces [] g.rest h.found g.found h.cut g.cut (sym h.whole ∙ g.whole) stuck_end
-    (stuck_fault (joined g.pieces []) g.rest f g.fault_there) in
-    no_fault f (subst (λ (r : List ℕ). IsFault (joined g.pieces []) r f) (sym same.rests) g.fault_there)
+    (stuck_fault (joined_pieces g.pieces []) g.rest f g.fault_there) in
+    no_fault f (subst (λ (r : List ℕ). IsFault (joined_pieces g.pieces []) r f) (sym same.rests) g.fault_there)
   where
-    no_fault : (f : LexFault) → IsFault (joined g.pieces []) [] f → ⊥
+    no_fault : (f : LexFault) → IsFault (joined_pieces g.pieces []) [] f → ⊥
     no_fault (Byte at) q = let s = q.0.some in omega (arith, s)
     no_fault (OpenComment at) q = let e : [] ≡ 47 ∷ 42 ∷ q.0.0 = q.0.1 in absurd (cc)
     no_fault (Number at) q = digits_there q.0.0 q.0.1 q.0.2 q.0.3
@@ -428,11 +429,11 @@ fault_at_one before rest Memory g h k = elim h [ ]
 pub fault_one : (text : List ℕ) (f g : LexFault) → IsFirstFault text f → IsFirstFault text g → f ≡ g
 fault_one text f g h k =
     let same = cut_one [] h.pieces k.pieces h.rest k.rest h.found k.found h.cut k.cut (sym h.whole ∙ k.whole)
-    (stuck_fault (joined h.pieces []) h.rest f h.fault_there)
-    (stuck_fault (joined k.pieces []) k.rest g k.fault_there) in
-    fault_at_one (joined k.pieces []) k.rest f g
-    (subst (λ (r : List ℕ). IsFault (joined k.pieces []) r f) same.rests
-    (subst (λ (ps : List (List ℕ)). IsFault (joined ps []) h.rest f) same.pieces h.fault_there))
+    (stuck_fault (joined_pieces h.pieces []) h.rest f h.fault_there)
+    (stuck_fault (joined_pieces k.pieces []) k.rest g k.fault_there) in
+    fault_at_one (joined_pieces k.pieces []) k.rest f g
+    (subst (λ (r : List ℕ). IsFault (joined_pieces k.pieces []) r f) same.rests
+    (subst (λ (ps : List (List ℕ)). IsFault (joined_pieces ps []) h.rest f) same.pieces h.fault_there))
     k.fault_there
 
 -- what a call answers, by what it found

@@ -9,7 +9,7 @@ use Rattle.ar_base.proofs.Fronts.{HeadFails, run_stops}
 use Rattle.ar_lexer.specs.declared.token.TokenKind.{TokenKind}
 use Rattle.ar_lexer.specs.declared.token.TokenKind.TheVariants.{Whole, Sign}
 use Rattle.ar_lexer.specs.declared.piece.Piece.TheVariants.{Gap, Text}
-use Rattle.ar_lexer.specs.Spelling.{signs, place_in, AllPass, is_letter, is_word_byte, IsWord, IsDigits, IsReal, IsTail, number_of, IsOfKind, IsTokenText}
+use Rattle.ar_lexer.specs.Spelling.{signs, place_in, AllPass, is_letter, is_word_byte, IsWord, IsDigits, IsReal, IsTail, number_of, IsTextOfKind, IsTokenText}
 use Rattle.ar_lexer.specs.Tokens.{is_blank, is_line_feed, blank, line_comment, block_comment, IsLineEnd, Closes, BeginsComment, IsTooLarge, BeginsNothing}
 use Rattle.ar_lexer.specs.Scans.{ClosesFirst, HeadPasses, IsLongestFront, IsPieceAt, IsSignFront, IsSignOfLen}
 use Rattle.ar_lexer.proofs.RunLemmas.{letter_of_word, run_passes}
@@ -180,7 +180,7 @@ digit_no_slash b l e = let q : false ≡ true = sym (ap is_ascii_digit e) ∙ l 
 
 -- a word at the front, of a kind that words have
 pub word_piece : (kind : TokenKind) (rest : List ℕ) (n : ℕ) → HeadPasses is_letter rest
-    → n ≡ prefix_len is_word_byte rest → (IsWord (take n rest) → IsOfKind kind (take n rest))
+    → n ≡ prefix_len is_word_byte rest → (IsWord (take n rest) → IsTextOfKind kind (take n rest))
     → IsPieceAt rest (Text kind n)
 word_piece kind [] n h len of = elim h [ ]
 word_piece kind (b ∷ rest) n h len of =
@@ -211,7 +211,7 @@ number_longest b rest d t h len tail front back e w =
 
 -- a number at the front
 pub number_piece : (kind : TokenKind) (rest : List ℕ) (d t : ℕ) → HeadPasses is_ascii_digit rest
-    → d ≡ prefix_len is_ascii_digit rest → IsLongestFront IsTail (drop d rest) t → IsOfKind kind (take (d + t) rest)
+    → d ≡ prefix_len is_ascii_digit rest → IsLongestFront IsTail (drop d rest) t → IsTextOfKind kind (take (d + t) rest)
     → IsPieceAt rest (Text kind (d + t))
 number_piece kind [] d t h len tail of = elim h [ ]
 number_piece kind (b ∷ rest) d t h len tail of =
@@ -293,6 +293,6 @@ pub whole_piece : (rest : List ℕ) (d t : ℕ) (m n : ℤ) → m ≡ n → Head
     → n ≡ pos (number_of (take d rest)) → number_of (take d rest) < 2 ^ 63 → IsPieceAt rest (Text (Whole m) d)
 whole_piece rest d t m n same h len tail none value fits =
     let z : d + t ≡ d = omega (arith, none) in
-    let of : IsOfKind (Whole m) (take d rest) = (digits_front rest d h len, fits, same ∙ value) in
+    let of : IsTextOfKind (Whole m) (take d rest) = (digits_front rest d h len, fits, same ∙ value) in
     subst (λ (k : ℕ). IsPieceAt rest (Text (Whole m) k)) z
-    (number_piece (Whole m) rest d t h len tail (subst (λ (k : ℕ). IsOfKind (Whole m) (take k rest)) (sym z) of))
+    (number_piece (Whole m) rest d t h len tail (subst (λ (k : ℕ). IsTextOfKind (Whole m) (take k rest)) (sym z) of))

@@ -7,17 +7,17 @@ use Rattle.ar_lexer.specs.declared.token.Token.{Token}
 use Rattle.ar_lexer.specs.declared.token.TokenKind.{TokenKind}
 use Rattle.ar_lexer.specs.declared.token.TokenKind.TheVariants.{End}
 use Rattle.ar_lexer.specs.declared.token.LexFault.{LexFault}
-use Rattle.ar_lexer.specs.Tokens.{is_line_feed, place_after, IsGap, IsTokenOf, IsToken, joined, AreCut, end_of_text, AreTokens, IsFault, IsFirstFault}
+use Rattle.ar_lexer.specs.Tokens.{is_line_feed, place_after, IsGap, IsTokenOf, IsToken, joined_pieces, AreCut, end_of_text, AreTokens, IsFault, IsFirstFault}
 use Rattle.ar_lexer.specs.Scans.{Moves, IsTokenAt}
 use Rattle.ar_lexer.proofs.CutLemmas.{joined_push, joined_split, joined_last, cut_gap, cut_token}
 
 -- The text has been read as far as `rest`, which stands at this place, and has given these tokens.
 pub record HasRead (text rest : List ℕ) (start : ℕ) (there : Place) (found : List Token) : Type 0 where
   pub pieces : List (List ℕ)
-  pub whole : text ≡ joined pieces rest
+  pub whole : text ≡ joined_pieces pieces rest
   pub cut : AreCut [] pieces rest found
-  pub start_is : start ≡ length (joined pieces [])
-  pub there_is : there ≡ place_after (joined pieces [])
+  pub start_is : start ≡ length (joined_pieces pieces [])
+  pub there_is : there ≡ place_after (joined_pieces pieces [])
 
 pub read_start : (text : List ℕ) → HasRead text text 0 (record { line = 1; column = 1 }) []
 read_start text = record { pieces = []; whole = refl; cut = refl; start_is = refl; there_is = refl }
@@ -28,22 +28,23 @@ module _ (text rest rest' : List ℕ) (start start' n : ℕ) (there there' : Pla
   cut_there : AreCut [] h.pieces (take n rest ++ drop n rest) found
   cut_there = subst (λ (s : List ℕ). AreCut [] h.pieces s found) (sym (take-append-drop n rest)) h.cut
 
-  whole_there : text ≡ joined (h.pieces ++ take n rest ∷ []) rest'
+  whole_there : text ≡ joined_pieces (h.pieces ++ take n rest ∷ []) rest'
   whole_there =
-      h.whole ∙ ap (joined h.pieces) (sym (take-append-drop n rest))
+      h.whole ∙ ap (joined_pieces h.pieces) (sym (take-append-drop n rest))
       ∙ sym (joined_push h.pieces (take n rest) (drop n rest))
-      ∙ ap (joined (h.pieces ++ take n rest ∷ [])) (sym left)
+      ∙ ap (joined_pieces (h.pieces ++ take n rest ∷ [])) (sym left)
 
-  start_there : start' ≡ length (joined (h.pieces ++ take n rest ∷ []) [])
+  start_there : start' ≡ length (joined_pieces (h.pieces ++ take n rest ∷ []) [])
   start_there =
       let a = h.start_is in
-      let b : length (joined (h.pieces ++ take n rest ∷ []) []) ≡ length (joined h.pieces []) + length (take n rest) =
-      ap length (joined_last h.pieces (take n rest)) ∙ length-append (joined h.pieces []) (take n rest) in
+      let b : length (joined_pieces (h.pieces ++ take n rest ∷ []) []) ≡ length (joined_pieces h.pieces []) + length
+      (take n rest) =
+      ap length (joined_last h.pieces (take n rest)) ∙ length-append (joined_pieces h.pieces []) (take n rest) in
       let c : length (take n rest) ≡ n = length-take-le n rest within in
       omega (arith, a, b, c, moved)
 
-  place_there : there' ≡ place_after (joined (h.pieces ++ take n rest ∷ []) [])
-  place_there = moves (joined h.pieces []) h.there_is ∙ ap place_after (sym (joined_last h.pieces (take n rest)))
+  place_there : there' ≡ place_after (joined_pieces (h.pieces ++ take n rest ∷ []) [])
+  place_there = moves (joined_pieces h.pieces []) h.there_is ∙ ap place_after (sym (joined_last h.pieces (take n rest)))
 
   pub read_gap : IsGap (take n rest) (drop n rest) → HasRead text rest' start' there' found
   read_gap gap = record {
@@ -56,7 +57,7 @@ module _ (text rest rest' : List ℕ) (start start' n : ℕ) (there there' : Pla
   }
 
   token_there : (kind : TokenKind) (t : Token) → IsTokenOf kind (take n rest) (drop n rest)
-      → IsTokenAt start there kind n t → IsToken ([] ++ joined h.pieces []) (take n rest) (drop n rest) t
+      → IsTokenAt start there kind n t → IsToken ([] ++ joined_pieces h.pieces []) (take n rest) (drop n rest) t
   token_there kind t of stands =
       let c : length (take n rest) ≡ n = length-take-le n rest within in
       let a = stands.from in let b = stands.to in let s = h.start_is in
@@ -88,7 +89,7 @@ pub read_end : (text rest : List ℕ) (start : ℕ) (there : Place) (found all :
     → HasRead text rest start there found → rest ≡ [] → IsTokenAt start there End 0 t → all ≡ found ++ t ∷ []
     → AreTokens text all
 read_end text rest start there found all t h empty stands pushed =
-    let w : text ≡ joined h.pieces [] = h.whole ∙ ap (joined h.pieces) empty in
+    let w : text ≡ joined_pieces h.pieces [] = h.whole ∙ ap (joined_pieces h.pieces) empty in
     let s : start ≡ length text = h.start_is ∙ sym (ap length w) in
     let a = stands.to in
     record {
@@ -103,7 +104,8 @@ read_end text rest start there found all t h empty stands pushed =
 
 -- where nothing goes on
 pub read_fault : (text rest : List ℕ) (start : ℕ) (there : Place) (found : List Token) (fault : LexFault)
-    → (h : HasRead text rest start there found) → IsFault (joined h.pieces []) rest fault → IsFirstFault text fault
+    → (h : HasRead text rest start there found) → IsFault (joined_pieces h.pieces []) rest fault
+    → IsFirstFault text fault
 read_fault text rest start there found fault h there_is = record {
   pieces = h.pieces;
   found = found;
@@ -126,17 +128,17 @@ column_bound before =
 
 module _ (text rest : List ℕ) (start n : ℕ) (there : Place) (found : List Token)
     (h : HasRead text rest start there found) (small : length text ≤ 4194304) (within : n ≤ length rest) where
-  within_text : length (joined h.pieces []) + n ≤ 4194304
+  within_text : length (joined_pieces h.pieces []) + n ≤ 4194304
   within_text =
-      let e : length text ≡ length (joined h.pieces []) + length rest =
-      ap length (h.whole ∙ joined_split h.pieces rest) ∙ length-append (joined h.pieces []) rest in
+      let e : length text ≡ length (joined_pieces h.pieces []) + length rest =
+      ap length (h.whole ∙ joined_split h.pieces rest) ∙ length-append (joined_pieces h.pieces []) rest in
       omega (arith, e, small, within)
 
   pub start_fits : start + n < 2 ^ 32
   start_fits = let w = within_text in let s = h.start_is in omega (arith, w, s)
 
   pub line_fits : there.line + n < 2 ^ 32
-  line_fits = let w = within_text in let l = line_bound (joined h.pieces []) in let e : there.line ≡ (place_after (joined h.pieces [])).line = ap (λ (p : Place). p.line) h.there_is in omega (arith, w, l, e)
+  line_fits = let w = within_text in let l = line_bound (joined_pieces h.pieces []) in let e : there.line ≡ (place_after (joined_pieces h.pieces [])).line = ap (λ (p : Place). p.line) h.there_is in omega (arith, w, l, e)
 
   pub column_fits : there.column + n < 2 ^ 32
-  column_fits = let w = within_text in let l = column_bound (joined h.pieces []) in let e : there.column ≡ (place_after (joined h.pieces [])).column = ap (λ (p : Place). p.column) h.there_is in omega (arith, w, l, e)
+  column_fits = let w = within_text in let l = column_bound (joined_pieces h.pieces []) in let e : there.column ≡ (place_after (joined_pieces h.pieces [])).column = ap (λ (p : Place). p.column) h.there_is in omega (arith, w, l, e)

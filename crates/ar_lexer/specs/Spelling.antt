@@ -78,13 +78,13 @@ abbrev pub IsReal : List ℕ → Type 0
 IsReal text = (digits : List ℕ) × (tail : List ℕ) × (text ≡ digits ++ tail) × IsDigits digits × IsTail tail
 
 -- The text of a token of this kind. The end of the text has none.
-abbrev pub IsOfKind : TokenKind → List ℕ → Type 0
-IsOfKind Name text = IsWord text × (place_in reserved_words text ≡ None)
-IsOfKind (Whole n) text = IsDigits text × (number_of text < 2 ^ 63) × (n ≡ pos (number_of text))
-IsOfKind Real text = IsReal text
-IsOfKind (Sign n) text = place_in signs text ≡ Some n
-IsOfKind (Reserved n) text = IsWord text × (place_in reserved_words text ≡ Some n)
-IsOfKind End text = ⊥
+abbrev pub IsTextOfKind : TokenKind → List ℕ → Type 0
+IsTextOfKind Name text = IsWord text × (place_in reserved_words text ≡ None)
+IsTextOfKind (Whole n) text = IsDigits text × (number_of text < 2 ^ 63) × (n ≡ pos (number_of text))
+IsTextOfKind Real text = IsReal text
+IsTextOfKind (Sign n) text = place_in signs text ≡ Some n
+IsTextOfKind (Reserved n) text = IsWord text × (place_in reserved_words text ≡ Some n)
+IsTextOfKind End text = ⊥
 
 -- The text of some token, of a whole number that is too large too.
 pub data IsTokenText (text : List ℕ) : Type 0 where

@@ -7,7 +7,7 @@ use Rattle.ar_lexer.specs.declared.token.TokenKind.{TokenKind}
 use Rattle.ar_lexer.specs.declared.token.TokenKind.TheVariants.{End}
 use Rattle.ar_lexer.specs.declared.token.LexFault.{LexFault}
 use Rattle.ar_lexer.specs.declared.token.LexFault.TheVariants.{Byte, OpenComment, Number, Memory}
-use Rattle.ar_lexer.specs.Spelling.{AllPass, IsDigits, number_of, IsOfKind, IsTokenText}
+use Rattle.ar_lexer.specs.Spelling.{AllPass, IsDigits, number_of, IsTextOfKind, IsTokenText}
 
 -- Places
 
@@ -59,7 +59,7 @@ IsLongest text after = (front back : List ℕ) → text ++ after ≡ front ++ ba
 
 -- A token of this kind, with `after` behind it.
 pub record IsTokenOf (kind : TokenKind) (text after : List ℕ) : Type 0 where
-  pub of_kind : IsOfKind kind text
+  pub of_kind : IsTextOfKind kind text
   pub longest : IsLongest text after
   pub no_comment : BeginsComment (text ++ after) → ⊥
 
@@ -71,17 +71,17 @@ pub record IsToken (before text after : List ℕ) (t : Token) : Type 0 where
   pub at : t.at ≡ place_after before
 
 -- The pieces one behind the other, and then the rest.
-abbrev pub joined : List (List ℕ) → List ℕ → List ℕ
-joined [] rest = rest
-joined (piece ∷ pieces) rest = piece ++ joined pieces rest
+abbrev pub joined_pieces : List (List ℕ) → List ℕ → List ℕ
+joined_pieces [] rest = rest
+joined_pieces (piece ∷ pieces) rest = piece ++ joined_pieces pieces rest
 
 -- Behind `before` stand these pieces, and then the rest. Each piece is a blank, a comment or a token, and these are the
 -- tokens.
 abbrev pub AreCut : List ℕ → List (List ℕ) → List ℕ → List Token → Type 0
 AreCut before [] rest ts = ts ≡ []
 AreCut before (piece ∷ pieces) rest ts =
-    (IsGap piece (joined pieces rest) × AreCut (before ++ piece) pieces rest ts)
-    ⊎ ((t : Token) × (more : List Token) × (ts ≡ t ∷ more) × IsToken before piece (joined pieces rest) t
+    (IsGap piece (joined_pieces pieces rest) × AreCut (before ++ piece) pieces rest ts)
+    ⊎ ((t : Token) × (more : List Token) × (ts ≡ t ∷ more) × IsToken before piece (joined_pieces pieces rest) t
     × AreCut (before ++ piece) pieces rest more)
 
 -- the token behind the whole text
@@ -92,7 +92,7 @@ end_of_text text = record { kind = End; span = record { from = length text; to =
 pub record AreTokens (text : List ℕ) (ts : List Token) : Type 0 where
   pub pieces : List (List ℕ)
   pub found : List Token
-  pub whole : text ≡ joined pieces []
+  pub whole : text ≡ joined_pieces pieces []
   pub cut : AreCut [] pieces [] found
   pub all : ts ≡ found ++ end_of_text text ∷ []
 
@@ -127,6 +127,6 @@ pub record IsFirstFault (text : List ℕ) (fault : LexFault) : Type 0 where
   pub pieces : List (List ℕ)
   pub found : List Token
   pub rest : List ℕ
-  pub whole : text ≡ joined pieces rest
+  pub whole : text ≡ joined_pieces pieces rest
   pub cut : AreCut [] pieces rest found
-  pub fault_there : IsFault (joined pieces []) rest fault
+  pub fault_there : IsFault (joined_pieces pieces []) rest fault

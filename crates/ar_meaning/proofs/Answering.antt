@@ -9,7 +9,7 @@ use Rattle.typed_expr.specs.Yields.{Yields}
 use Rattle.typed_expr.specs.declared.expr.Expr.{out-Expr}
 use Rattle.typed_expr.proofs.Listing.{Told, Listed, listed_as, listed_or, listed_where, value_told, contains_told, yields_listed, yields_told}
 use Rattle.ar_meaning.specs.Systems.{Assign, Variable, Transition, Way, Leaf, Joint, Branches, Empty, Branch, Net}
-use Rattle.ar_meaning.specs.Facts.{Passes, HasValue}
+use Rattle.ar_meaning.specs.Facts.{PassesConditions, HasValue}
 use Rattle.ar_meaning.specs.Flows.{Flows, Outcome, Fails, Total}
 use Rattle.ar_meaning.specs.Ways.{has_must, Can, guard_holds, all_musts, some_may, Musts_can, no_part, must, may, Some_can, this, later, Effects, acts, by_part, Part_effects, by_must, by_may, by_later}
 use Rattle.ar_meaning.specs.Steps.{Clashes, LeavesDomain, Receives, changed, kept, Answer, Refused, Next, NotEnabled, Clash, Range, Flow, Step, not_enabled, clash, range, flow, moves}
@@ -65,7 +65,7 @@ module _ {V : Type 0} (facts : V → Value → Type 0) (known : (x : V) → List
       pub assign : Assign V
       pub is_one : IsOneOf xs assign
       pub is_target : assign.target ≡ x
-      pub passes : Passes facts assign.conditions
+      pub passes : PassesConditions facts assign.conditions
       pub yields : Yields facts (out-Expr V assign.value) v
 
     acts_listed : (xs : List (Assign V)) → Listed (Acts xs)
@@ -80,7 +80,7 @@ module _ {V : Type 0} (facts : V → Value → Type 0) (known : (x : V) → List
         (yields_listed facts known a.value)) (acts_listed xs)) on back
       where
         on : (v : Value)
-            → (((a.target ≡ x) × Passes facts a.conditions) × Yields facts (out-Expr V a.value) v) ⊎ Acts xs v
+            → (((a.target ≡ x) × PassesConditions facts a.conditions) × Yields facts (out-Expr V a.value) v) ⊎ Acts xs v
             → Acts (a ∷ xs) v
         on v (inl h) = record { assign = a; is_one = one_first a xs; is_target = h.0.0; passes = h.0.1; yields = h.1 }
         on v (inr h) = record {
@@ -91,15 +91,16 @@ module _ {V : Type 0} (facts : V → Value → Type 0) (known : (x : V) → List
           yields = h.yields;
         }
 
-        at : (v : Value) (b : Assign V) → a ≡ b → b.target ≡ x → Passes facts b.conditions
+        at : (v : Value) (b : Assign V) → a ≡ b → b.target ≡ x → PassesConditions facts b.conditions
             → Yields facts (out-Expr V b.value) v
-            → ((a.target ≡ x) × Passes facts a.conditions) × Yields facts (out-Expr V a.value) v
+            → ((a.target ≡ x) × PassesConditions facts a.conditions) × Yields facts (out-Expr V a.value) v
         at v b e i p y =
-            subst (λ (z : Assign V). ((z.target ≡ x) × Passes facts z.conditions) × Yields facts (out-Expr V z.value) v)
+            subst (λ (z : Assign V). ((z.target ≡ x) × PassesConditions facts z.conditions) × Yields facts
+            (out-Expr V z.value) v)
             (sym e) ((i, p), y)
 
         back : (v : Value) → Acts (a ∷ xs) v
-            → (((a.target ≡ x) × Passes facts a.conditions) × Yields facts (out-Expr V a.value) v) ⊎ Acts xs v
+            → (((a.target ≡ x) × PassesConditions facts a.conditions) × Yields facts (out-Expr V a.value) v) ⊎ Acts xs v
         back v h = elim (one_cases a xs h.assign h.is_one) [
           | inl e ↦ inl (at v h.assign e h.is_target h.passes h.yields)
           | inr o ↦

@@ -4,7 +4,7 @@ use Rattle.ar_base.specs.Lists.{Stands}
 use Rattle.ar_base.proofs.Standing.{stands_one}
 use Rattle.domains.specs.declared.Value.{Value}
 use Rattle.ar_meaning.specs.Systems.{Variable, Net}
-use Rattle.ar_meaning.specs.Facts.{Allows, HasValue, IsGiven, AreKeyed, AreNumbered}
+use Rattle.ar_meaning.specs.Facts.{Allows, HasValue, HasStateValue, AreKeyed, AreNumbered}
 
 module _ (net : Net ℕ) (numbered : AreNumbered net) where
   pub keyed : AreKeyed net
@@ -25,15 +25,15 @@ module _ (net : Net ℕ) (numbered : AreNumbered net) where
       let i : k ≡ n = sym (numbered.key k y s) ∙ e in
       stands_one net.variables n y x (subst (λ z. Stands net.variables z y) i s) r
 
-  pub given_at : (t : List Value) (n : ℕ) (x : Variable ℕ) (v : Value) → Stands net.variables n x → IsGiven net t n v
-      → (x.is_state ≡ true) × Stands t n v
+  pub given_at : (t : List Value) (n : ℕ) (x : Variable ℕ) (v : Value) → Stands net.variables n x → HasStateValue net t
+      n v → (x.is_state ≡ true) × Stands t n v
   given_at t n x v s h =
       let e : h.place ≡ n = sym (numbered.key h.place h.variable h.stands) ∙ h.is_key in
       let i : h.variable ≡ x = the_variable h.place n x h.variable h.stands h.is_key s in
       (sym (ap (λ z. z.is_state) i) ∙ h.is_state, subst (λ z. Stands t z v) e h.value)
 
   pub given_from : (t : List Value) (n : ℕ) (x : Variable ℕ) (v : Value) → Stands net.variables n x → x.is_state ≡ true
-      → Stands t n v → IsGiven net t n v
+      → Stands t n v → HasStateValue net t n v
   given_from t n x v s i h = record {
     place = n;
     variable = x;

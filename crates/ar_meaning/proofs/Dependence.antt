@@ -7,7 +7,7 @@ use Rattle.typed_expr.specs.Mentions.{Mentions}
 use Rattle.typed_expr.specs.declared.expr.Expr.{Expr, out-Expr}
 use Rattle.typed_expr.proofs.Facts.{yields_named}
 use Rattle.typed_expr.proofs.Renaming.{Mentioned, mentions_carry}
-use Rattle.ar_meaning.specs.Facts.{Passes}
+use Rattle.ar_meaning.specs.Facts.{PassesConditions}
 use Rattle.ar_meaning.specs.Facts as f
 use Rattle.ar_meaning.specs.Image.{Conditions_rename}
 use Rattle.ar_meaning.specs.Image as i
@@ -32,7 +32,7 @@ module _ {V : Type 0} where
 
   -- conditions pass by the facts of the variables that they name
   pub passes_named : {P Q : V → Value → Type 0} {cs : List (Expr V × Bool)}
-      → ((x : V) (v : Value) → Tests x cs → P x v → Q x v) → Passes P cs → Passes Q cs
+      → ((x : V) (v : Value) → Tests x cs → P x v → Q x v) → PassesConditions P cs → PassesConditions Q cs
   passes_named k f.none = f.none
   passes_named k (f.one_and y p) =
       f.one_and (yields_named (λ x v n h. k x v (in_this n) h) y) (passes_named (λ x v n h. k x v (in_later n) h) p)

@@ -5,7 +5,7 @@ use Rattle.ar_base.proofs.Standing.{stands_one}
 use Rattle.typed_expr.specs.Pairs.{turned}
 use Rattle.ar_meaning.specs.Systems.{Variable, Transition, Net, System}
 use Rattle.ar_meaning.specs.Facts.{AreKeyed, AreNumbered}
-use Rattle.ar_meaning.specs.Expand.{Declared, Member}
+use Rattle.ar_meaning.specs.Expand.{EventDeclaration, Member}
 use Rattle.ar_meaning.specs.ExpandImage.{Part_renames, Member_renames, transitions, synchronise, Declared_renames}
 use Rattle.ar_meaning.specs.Image.{IsNetImage, IsImage}
 use Rattle.ar_meaning.specs.TraceText.{Naming}
@@ -104,7 +104,7 @@ module _ {V E : Type 0} (things : List V) (keys : List E) where
       transitions (transition_joined (IsNumber things) (λ m n. m ≡ n) (IsNumber things) (by_copy things) d e f p q)
   member_copied a b c (synchronise p) (synchronise q) = synchronise (along_joined part_copied p q)
 
-  declared_copied : (d : Declared (Transition V) E) (e f : Declared (Transition ℕ) ℕ)
+  declared_copied : (d : EventDeclaration (Transition V) E) (e f : EventDeclaration (Transition ℕ) ℕ)
       → Declared_renames (IsNumber things) (IsNumber keys) d e → Declared_renames (λ m n. m ≡ n) (λ m n. m ≡ n) e f
       → Declared_renames (IsNumber things) (IsNumber keys) d f
   declared_copied d e f p q = record {
@@ -114,7 +114,7 @@ module _ {V E : Type 0} (things : List V) (keys : List E) where
     members = along_joined member_copied p.members q.members;
   }
 
-  pub copied_events : (ds : List (Declared (Transition V) E)) (es fs : List (Declared (Transition ℕ) ℕ))
+  pub copied_events : (ds : List (EventDeclaration (Transition V) E)) (es fs : List (EventDeclaration (Transition ℕ) ℕ))
       → AreFlatOf things keys ds es → Along (Declared_renames (λ m n. m ≡ n) (λ m n. m ≡ n)) es fs
       → AreFlatOf things keys ds fs
   copied_events ds es fs f k = record { different = f.different; events = along_joined declared_copied f.events k }

@@ -3,9 +3,9 @@ use Rattle.std.proofs.Common.{◌≡◌, ℕ, zero, suc, Bool, true, false, List
 use Rattle.ar_base.specs.Lists.{Stands, IsOneOf, IsFirst, HasNo, Along}
 use Rattle.ar_base.specs.Lists as l
 use Rattle.ar_meaning.specs.Systems.{Assign, Variable, Transition, Way, Leaf, Branches, Net}
-use Rattle.ar_meaning.specs.Facts.{Passes, Fact, given, Allows, HasValue, IsGiven, FactOf}
+use Rattle.ar_meaning.specs.Facts.{PassesConditions, Fact, given, Allows, HasValue, HasStateValue, FactOf}
 use Rattle.ar_meaning.specs.Facts as f
-use Rattle.ar_meaning.specs.Flows.{HasTwo, IsOutside, IsBroken, Completes, none, state, known, unknown, Outcome, Flows, two, outside, broken, all_hold}
+use Rattle.ar_meaning.specs.Flows.{HasTwo, IsOutside, IsBrokenAssign, Completes, none, state, known, unknown, Outcome, Flows, two, outside, broken, all_hold}
 use Rattle.ar_meaning.specs.Ways.{has_must, Can, guard_holds, all_musts, some_may, Musts_can, must, may, Some_can, this, later, Effects, acts, by_part, Part_effects, by_must, by_may, by_later}
 use Rattle.ar_meaning.specs.Ways as w
 use Rattle.ar_meaning.specs.Steps.{Clashes, LeavesDomain, Receives, Answer, Step, not_enabled, clash, range, flow, moves}
@@ -57,7 +57,7 @@ module _ {A B : Type 0} {R : A → B → Type 0} {S : B → A → Type 0} {P : A
 pub passes_carry : (V W : Type 0) (P : V → Value → Type 0) (Q : W → Value → Type 0) (same : V → W → Type 0)
     (kept : (x : V) (y : W) (v : Value) → same x y → P x v → Q y v) {es : List (Expr V × Bool)}
     {fs : List (Expr W × Bool)}
-    → Passes P es → Conditions_rename same es fs → Passes Q fs
+    → PassesConditions P es → Conditions_rename same es fs → PassesConditions Q fs
 passes_carry V W P Q same kept f.none i.none = f.none
 passes_carry V W P Q same kept (f.one_and d ds) (i.one_and r rs) =
     f.one_and (carries V W P Q same kept d r) (passes_carry V W P Q same kept ds rs)
@@ -120,7 +120,8 @@ module _ {V W : Type 0} (same : V → W → Type 0) (A : Net V) (B : Net W) (ima
         value = h.value;
       }
 
-  pub given_there : (t : List Value) (x : V) (y : W) (v : Value) → same x y → IsGiven A t x v → IsGiven B t y v
+  pub given_there : (t : List Value) (x : V) (y : W) (v : Value) → same x y → HasStateValue A t x v
+      → HasStateValue B t y v
   given_there t x y v s h =
       let p = partner image.variables h.place h.variable h.stands in
       record {
@@ -147,11 +148,12 @@ module _ {V W : Type 0} (same : V → W → Type 0) (A : Net V) (B : Net W) (ima
   fact_there t x y v s h =
       let P : V → Value → Type 0 = λ x v. (y : W) → same x y → FactOf B t y v in
       let go : (x : V) (y : W) (w : Value) → same x y → P x w → FactOf B t y w = λ x y w r h. h y r in
-      least A.assertions (Allows A) (IsGiven A t) P
+      least A.assertions (Allows A) (HasStateValue A t) P
       (λ x v h y q. given (given_there t x y v q h))
       (λ a v m p d l y q.
       let b = partner image.assertions m.place a m.stands in
-      let k = closed B.assertions (Allows B) (IsGiven B t) b.item v (record { place = m.place; stands = b.stands })
+      let k = closed B.assertions (Allows B) (HasStateValue B t) b.item v
+      (record { place = m.place; stands = b.stands })
       (passes_carry V W P (FactOf B t) same go p b.related.conditions)
       (carries V W P (FactOf B t) same go d b.related.value)
       (allows_there a.target b.item.target v b.related.target l) in
@@ -212,8 +214,8 @@ receives_there on off (l.one_and {a = x} {b = y} r rs) (s.kept h d) =
 
 -- denials want both ways
 module _ {V W : Type 0} (same : V → W → Type 0) (A : Net V) (B : Net W) (image : IsNetImage same A B) where
-  broken_there : (t : List Value) (a : Assign V) (b : Assign W) → Assign_renames same a b → IsBroken A t a
-      → IsBroken B t b
+  broken_there : (t : List Value) (a : Assign V) (b : Assign W) → Assign_renames same a b → IsBrokenAssign A t a
+      → IsBrokenAssign B t b
   broken_there t a b r h =
       let go =
       λ (x : V) (y : W) (v : Value) (s : same x y) (d : HasValue A t x v). value_there same A B image t x y v s d in

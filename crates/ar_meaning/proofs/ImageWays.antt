@@ -6,7 +6,7 @@ use Rattle.ar_base.specs.Lists as l
 use Rattle.ar_base.proofs.Items.{along_append}
 use Rattle.ar_base.proofs.Standing.{along_length}
 use Rattle.ar_meaning.specs.Systems.{Transition, Tree, Branches, Leaf, Joint, Empty, Branch, Event}
-use Rattle.ar_meaning.specs.Expand.{Declared, Member, Synchronises, Ways, event, Members_give, no_member, one, synchronises, Parts_give, no_part, choice, choices, HasPart, ReachesPart, part_of, further, LeadsBack, AreKeyed, IsExpanded}
+use Rattle.ar_meaning.specs.Expand.{EventDeclaration, Member, Synchronises, Ways, event, Members_give, no_member, one, synchronises, Parts_give, no_part, choice, choices, HasPart, ReachesPart, part_of, further, LeadsBack, AreKeyedEvents, IsExpanded}
 use Rattle.ar_meaning.specs.ExpandImage.{Part_renames, Member_along, transitions, synchronise, Declared_along, Declared_renames}
 use Rattle.ar_meaning.specs.Image.{Trees_along, leaves, joints, Branches_along, no_branch, branch, Transition_renames, Event_renames}
 use Rattle.ar_meaning.specs.TraceText.{ways_of}
@@ -32,8 +32,8 @@ module _ {L M : Type 0} (same : L → M → Type 0) where
       (choices_along m rs d)
 
 -- the ways here give ways there
-module _ {L M E F : Type 0} (same : L → M → Type 0) (event_same : E → F → Type 0) (ds : List (Declared L E))
-    (es : List (Declared M F))
+module _ {L M E F : Type 0} (same : L → M → Type 0) (event_same : E → F → Type 0) (ds : List (EventDeclaration L E))
+    (es : List (EventDeclaration M F))
     (related : Along (Declared_along same event_same) ds es)
     (single : (x : E) (y z : F) → event_same x y → event_same x z → y ≡ z) where
   mutual
@@ -141,7 +141,7 @@ module _ {L M E F : Type 0} (same : L → M → Type 0) (event_same : E → F �
       }
 
   -- where no two events there have one key, no two here have
-  pub keyed_back : AreKeyed es → AreKeyed ds
+  pub keyed_back : AreKeyedEvents es → AreKeyedEvents ds
   keyed_back k = record {
     one = λ m n d e s r i.
         let p = partner related m d s in
@@ -160,7 +160,7 @@ module _ {L M E F : Type 0} (same : L → M → Type 0) (event_same : E → F �
   member_turned m n (transitions q) = transitions q
   member_turned m n (synchronise q) = synchronise (along_turned part_turned q)
 
-  pub declared_turned : (d : Declared L E) (e : Declared M F) → Declared_along same event_same d e
+  pub declared_turned : (d : EventDeclaration L E) (e : EventDeclaration M F) → Declared_along same event_same d e
       → Declared_along (turned same) (turned event_same) e d
   declared_turned d e r = record {
     key = r.key;
@@ -180,8 +180,8 @@ module _ {L M E F : Type 0} (same : L → M → Type 0) (event_same : E → F �
     branches_turned (branch q qs) = branch (trees_turned q) (branches_turned qs)
 
   -- the ways there are given by ways here
-  pub ways_back : (ds : List (Declared L E)) (es : List (Declared M F)) → Along (Declared_along same event_same) ds es
-      → ((x y : E) (z : F) → event_same x z → event_same y z → x ≡ y)
+  pub ways_back : (ds : List (EventDeclaration L E)) (es : List (EventDeclaration M F)) → Along (Declared_along same
+      event_same) ds es → ((x y : E) (z : F) → event_same x z → event_same y z → x ≡ y)
       → {e : E} {f : F} {us : List (Tree M)} → event_same e f → Ways es f us
       → (ts : List (Tree L)) × Ways ds e ts × Along (Trees_along same) ts us
   ways_back ds es related single s w =
@@ -190,8 +190,8 @@ module _ {L M E F : Type 0} (same : L → M → Type 0) (event_same : E → F �
       (λ z x y p q. single x y z p q) s w in
       (r.0, r.1, along_turned (λ u t q. trees_turned q) r.2)
 
-  pub leads_back : (ds : List (Declared L E)) (es : List (Declared M F)) → Along (Declared_along same event_same) ds es
-      → ((x y : E) (z : F) → event_same x z → event_same y z → x ≡ y)
+  pub leads_back : (ds : List (EventDeclaration L E)) (es : List (EventDeclaration M F)) → Along (Declared_along same
+      event_same) ds es → ((x y : E) (z : F) → event_same x z → event_same y z → x ≡ y)
       → {e : E} {f : F} {k : ℕ} → event_same e f → LeadsBack es f k → LeadsBack ds e k
   leads_back ds es related single s h =
       leads_there (turned same) (turned event_same) es ds (along_turned declared_turned related)
@@ -199,10 +199,10 @@ module _ {L M E F : Type 0} (same : L → M → Type 0) (event_same : E → F �
 
 -- events of systems, here and there
 module _ {V W E F : Type 0} (same : V → W → Type 0) (event_same : E → F → Type 0)
-    (ds : List (Declared (Transition V) E)) (es : List (Declared (Transition W) F))
+    (ds : List (EventDeclaration (Transition V) E)) (es : List (EventDeclaration (Transition W) F))
     (related : Along (Declared_renames same event_same) ds es)
     (single : (x : E) (y z : F) → event_same x y → event_same x z → y ≡ z) where
-  pub events_along : {ds' : List (Declared (Transition V) E)} {es' : List (Declared (Transition W) F)}
+  pub events_along : {ds' : List (EventDeclaration (Transition V) E)} {es' : List (EventDeclaration (Transition W) F)}
       {vs : List (Event V)}
       → Along (Declared_renames same event_same) ds' es' → Along (IsExpanded ds) ds' vs
       → (ws : List (Event W)) × Along (IsExpanded es) es' ws × Along (Event_renames same) vs ws
@@ -217,7 +217,7 @@ module _ {V W E F : Type 0} (same : V → W → Type 0) (event_same : E → F �
 
 -- the events there are given by events here
 pub events_back : {V W E F : Type 0} (same : V → W → Type 0) (event_same : E → F → Type 0)
-    (ds : List (Declared (Transition V) E)) (es : List (Declared (Transition W) F))
+    (ds : List (EventDeclaration (Transition V) E)) (es : List (EventDeclaration (Transition W) F))
     → Along (Declared_renames same event_same) ds es → ((x y : E) (z : F) → event_same x z → event_same y z → x ≡ y)
     → {ws : List (Event W)} → Along (IsExpanded es) es ws
     → (vs : List (Event V)) × Along (IsExpanded ds) ds vs × Along (Event_renames same) vs ws
@@ -232,8 +232,8 @@ events_back {V = V} {W = W} {E = E} {F = F} same event_same ds es related single
     member_back m n (transitions {d = d} {e = e} q) = transitions (transition_turned same d e q)
     member_back m n (synchronise q) = synchronise (along_turned (λ p q r. record { must = sym r.must; key = r.key }) q)
 
-    back : (d : Declared (Transition V) E) (e : Declared (Transition W) F) → Declared_renames same event_same d e
-        → Declared_renames (turned same) (turned event_same) e d
+    back : (d : EventDeclaration (Transition V) E) (e : EventDeclaration (Transition W) F) → Declared_renames same
+        event_same d e → Declared_renames (turned same) (turned event_same) e d
     back d e r = record {
       key = r.key;
       unit = sym r.unit;

@@ -3,7 +3,7 @@ use Rattle.std.proofs.Common.{◌≡◌, ◌<◌, inl, inr, ℕ, zero, suc, List
 use Rattle.ar_base.specs.Lists.{IsFirst, HasNo}
 use Rattle.ar_meaning.specs.Systems.{Variable, Net, Way}
 use Rattle.ar_meaning.specs.Facts.{FactOf}
-use Rattle.ar_meaning.specs.Flows.{HasTwo, IsBroken, Completes, none, state, known, unknown, Outcome, Fails, Total, Two, Outside, Broken, Flows, two, outside, broken, all_hold}
+use Rattle.ar_meaning.specs.Flows.{HasTwo, IsBrokenAssign, Completes, none, state, known, unknown, Outcome, Fails, Total, Two, Outside, Broken, Flows, two, outside, broken, all_hold}
 use Rattle.ar_meaning.specs.Steps.{Clashes, LeavesDomain, Receives, changed, kept, StepFault, Answer, Refused, Next, NotEnabled, Clash, Range, Flow, Step, not_enabled, clash, range, flow, moves}
 use Rattle.ar_meaning.specs.Steps as r
 use Rattle.domains.specs.declared.Value.{Value}
@@ -60,14 +60,16 @@ module _ {V : Type 0} (net : Net V) where
   flows_same (broken t n m c a) (outside n' b) = absurd (no_first m b)
   flows_same {t = s} (broken {i = i} t n m c a) (broken t' n' m' c' b) =
       let e = completes_same s n c c' in
-      ap (λ n. Fails (Broken n)) (first_same (subst (λ z. IsFirst net.assertions (IsBroken net z) i) e a) b)
+      ap (λ n. Fails (Broken n)) (first_same (subst (λ z. IsFirst net.assertions (IsBrokenAssign net z) i) e a) b)
   flows_same {t = s} (broken t n m c a) (all_hold n' m' c' b) =
       let e =
-      completes_same s n c c' in absurd (no_first (subst (λ z. HasNo net.assertions (IsBroken net z)) (sym e) b) a)
+      completes_same s n c c' in absurd
+      (no_first (subst (λ z. HasNo net.assertions (IsBrokenAssign net z)) (sym e) b) a)
   flows_same (all_hold n m c a) (two b) = absurd (no_first n b)
   flows_same (all_hold n m c a) (outside n' b) = absurd (no_first m b)
   flows_same {t = s} (all_hold n m c a) (broken t' n' m' c' b) =
-      let e = completes_same s n c c' in absurd (no_first (subst (λ z. HasNo net.assertions (IsBroken net z)) e a) b)
+      let e = completes_same s n c c' in absurd
+      (no_first (subst (λ z. HasNo net.assertions (IsBrokenAssign net z)) e a) b)
   flows_same {t = s} (all_hold n m c a) (all_hold n' m' c' b) = ap Total (completes_same s n c c')
 
 pub receives_same : {V : Type 0} {effects : V → Value → Type 0} {xs : List (Variable V)} {vs ws us : List Value}

@@ -4,7 +4,7 @@ use Rattle.ar_base.specs.Lists.{Stands, Along}
 use Rattle.ar_base.specs.Lists as l
 use Rattle.ar_base.proofs.Standing.{stands_one}
 use Rattle.ar_meaning.specs.Systems.{System, Event, Transition, Way, Tree, Branches, Leaf, Joint}
-use Rattle.ar_meaning.specs.Expand.{Declared, Member, Ways, event, Members_give, no_member, one, synchronises, Parts_give, no_part, choice, AreKeyed, IsExpanded}
+use Rattle.ar_meaning.specs.Expand.{EventDeclaration, Member, Ways, event, Members_give, no_member, one, synchronises, Parts_give, no_part, choice, AreKeyedEvents, IsExpanded}
 use Rattle.ar_meaning.specs.Numbered.{Body, Means_way, leaf, joint, Mean_parts, part}
 use Rattle.ar_meaning.specs.Numbered as numbered
 use Rattle.ar_meaning.specs.Steps.{Step, Refused, Next}
@@ -14,7 +14,7 @@ use Rattle.domains.specs.declared.Value.{Value}
 use Rattle.ar_meaning.proofs.OneAnswer.{flows_same, step_same}
 
 -- an event has one list of ways
-module _ {L E : Type 0} (events : List (Declared L E)) (keyed : AreKeyed events) where
+module _ {L E : Type 0} (events : List (EventDeclaration L E)) (keyed : AreKeyedEvents events) where
   mutual
     pub ways_same : {e : E} {ts us : List (Tree L)} → Ways events e ts → Ways events e us → ts ≡ us
     ways_same {us = us} (event {d = d} n s k m) (event {d = d'} n' s' k' m') =
@@ -34,8 +34,9 @@ module _ {L E : Type 0} (events : List (Declared L E)) (keyed : AreKeyed events)
     parts_same (choice {must = m} w p) (choice w' p') = let e = ways_same w w' in let i = parts_same p p' in cc
 
 -- the declared events make one list of events
-module _ {V E : Type 0} (events : List (Declared (Transition V) E)) (keyed : AreKeyed events) where
-  event_same : (d : Declared (Transition V) E) (e f : Event V) → IsExpanded events d e → IsExpanded events d f → e ≡ f
+module _ {V E : Type 0} (events : List (EventDeclaration (Transition V) E)) (keyed : AreKeyedEvents events) where
+  event_same : (d : EventDeclaration (Transition V) E) (e f : Event V) → IsExpanded events d e → IsExpanded events d f
+      → e ≡ f
   event_same d e f a b =
       go e.unit f.unit e.hidden f.hidden e.ways f.ways (sym a.unit ∙ b.unit) (sym a.hidden ∙ b.hidden)
       (ways_same events keyed a.ways b.ways)
@@ -44,8 +45,8 @@ module _ {V E : Type 0} (events : List (Declared (Transition V) E)) (keyed : Are
           → ◌≡◌ {A = Event V} (record { unit = u; hidden = h; ways = ws }) (record { unit = v; hidden = k; ways = xs })
       go u v h k ws xs a b c = cc
 
-  pub events_same : {ds : List (Declared (Transition V) E)} {es fs : List (Event V)} → Along (IsExpanded events) ds es
-      → Along (IsExpanded events) ds fs → es ≡ fs
+  pub events_same : {ds : List (EventDeclaration (Transition V) E)} {es fs : List (Event V)} → Along (IsExpanded events)
+      ds es → Along (IsExpanded events) ds fs → es ≡ fs
   events_same l.none l.none = refl
   events_same (l.one_and {a = d} {b = e} r rs) (l.one_and {b = f} s ss) =
       let i : e ≡ f = event_same d e f r s in

@@ -6,15 +6,15 @@ use Rattle.domains.specs.declared.Value.{Value}
 use Rattle.domains.specs.declared.Value.TheVariants.{Truth}
 use Rattle.ar_base.specs.Lists.{Stands, IsOneOf, IsFirst, HasNo}
 use Rattle.ar_base.proofs.Standing.{stands_none}
-use Rattle.typed_expr.specs.Pairs.{Pair, Has}
+use Rattle.typed_expr.specs.Pairs.{Pair, HasPair}
 use Rattle.typed_expr.specs.Yields.{Yields}
 use Rattle.typed_expr.specs.declared.expr.Expr.{Expr, out-Expr}
 use Rattle.typed_expr.proofs.Facts.{yields_more}
 use Rattle.typed_expr.proofs.Listing.{Told, Listed, listed_as, listed_told, value_told, contains_told, yields_listed, yields_told}
 use Rattle.ar_meaning.specs.Systems.{Assign, Variable, Net}
-use Rattle.ar_meaning.specs.Facts.{Passes, Fact, given, Allows, IsGiven, HasValue, FactOf}
+use Rattle.ar_meaning.specs.Facts.{PassesConditions, Fact, given, Allows, HasStateValue, HasValue, FactOf}
 use Rattle.ar_meaning.specs.Facts as f
-use Rattle.ar_meaning.specs.Flows.{HasTwo, IsOutside, IsBroken, Completes, Flows, Outcome, Fails, Total, Two, Outside, Broken}
+use Rattle.ar_meaning.specs.Flows.{HasTwo, IsOutside, IsBrokenAssign, Completes, Flows, Outcome, Fails, Total, Two, Outside, Broken}
 use Rattle.ar_meaning.specs.Flows as w
 use Rattle.ar_meaning.proofs.Least.{least, closed, passes_more}
 
@@ -99,11 +99,12 @@ bool_told false false = inl refl
 
 -- whether conditions pass
 pub passes_told : {V : Type 0} (P : V → Value → Type 0) → ((x : V) → Listed (P x)) → (cs : List (Expr V × Bool))
-    → Told (Passes P cs)
+    → Told (PassesConditions P cs)
 passes_told P known [] = inl f.none
 passes_told {V = V} P known ((e, b) ∷ cs) = go (yields_told P known e (Truth b)) (passes_told P known cs)
   where
-    go : Told (Yields P (out-Expr V e) (Truth b)) → Told (Passes P cs) → Told (Passes P ((e, b) ∷ cs))
+    go : Told (Yields P (out-Expr V e) (Truth b)) → Told (PassesConditions P cs)
+        → Told (PassesConditions P ((e, b) ∷ cs))
     go (inl h) (inl k) = inl (f.one_and h k)
     go (inl h) (inr n) = inr (λ p. elim p [ f.one_and a c ↦ n c ])
     go (inr n) t = inr (λ p. elim p [ f.one_and a c ↦ n a ])
@@ -213,7 +214,7 @@ from_pairs {V = V} test (z ∷ xs) (u ∷ ts) x v m =
 
 module _ {V : Type 0} (key_told : (x y : V) → Told (x ≡ y)) where
   -- the values that pairs give a variable
-  pub pairs_listed : (ps : List (Pair V)) (x : V) → Listed (Has ps x)
+  pub pairs_listed : (ps : List (Pair V)) (x : V) → Listed (HasPair ps x)
   pairs_listed [] x = record {
     items = [];
     sound = λ v m. absurd (nothing-in v m);
@@ -221,7 +222,7 @@ module _ {V : Type 0} (key_told : (x y : V) → Told (x ≡ y)) where
   }
   pairs_listed ((k, u) ∷ ps) x = go (key_told k x) (pairs_listed ps x)
     where
-      go : Told (k ≡ x) → Listed (Has ps x) → Listed (Has ((k, u) ∷ ps) x)
+      go : Told (k ≡ x) → Listed (HasPair ps x) → Listed (HasPair ((k, u) ∷ ps) x)
       go (inl e) r = record {
         items = u ∷ r.items;
         sound = λ v m. elim (contains-cases u v r.items m) [
@@ -251,17 +252,17 @@ module _ {V : Type 0} (key_told : (x y : V) → Told (x ≡ y)) where
       pub assign : Assign V
       pub is_one : IsOneOf net.assertions assign
       pub is_target : assign.target ≡ p.0
-      pub passes : Passes (Has K) assign.conditions
-      pub yields : Yields (Has K) (out-Expr V assign.value) p.1
+      pub passes : PassesConditions (HasPair K) assign.conditions
+      pub yields : Yields (HasPair K) (out-Expr V assign.value) p.1
 
     derives_told : (K : List (Pair V)) (p : Pair V) → Told (Derives K p)
     derives_told K p =
         elim
         (one_told (λ (a : Assign V). (a.target ≡ p.0)
-        × (Passes (Has K) a.conditions × Yields (Has K) (out-Expr V a.value) p.1)) net.assertions
+        × (PassesConditions (HasPair K) a.conditions × Yields (HasPair K) (out-Expr V a.value) p.1)) net.assertions
         (λ a o. both_told (key_told a.target p.0)
-        (both_told (passes_told (Has K) (pairs_listed K) a.conditions)
-        (yields_told (Has K) (pairs_listed K) a.value p.1)))) [
+        (both_told (passes_told (HasPair K) (pairs_listed K) a.conditions)
+        (yields_told (HasPair K) (pairs_listed K) a.value p.1)))) [
           | inl r ↦ inl (record { assign = r.0; is_one = r.1; is_target = r.2.0; passes = r.2.1.0; yields = r.2.1.1 })
           | inr n ↦ inr (λ d. n (d.assign, d.is_one, (d.is_target, (d.passes, d.yields))))
         ]
@@ -269,16 +270,17 @@ module _ {V : Type 0} (key_told : (x y : V) → Told (x ≡ y)) where
     -- pairs that are facts, have what the state gives and are closed
     record Saturated : Type 0 where
       pub pairs : List (Pair V)
-      pub sound : (x : V) (v : Value) → Has pairs x v → FactOf net t x v
-      pub begins : (x : V) (v : Value) → IsGiven net t x v → Has pairs x v
-      pub closes : (x : V) (v : Value) → Allows net x v → Derives pairs (x, v) → Has pairs x v
+      pub sound : (x : V) (v : Value) → HasPair pairs x v → FactOf net t x v
+      pub begins : (x : V) (v : Value) → HasStateValue net t x v → HasPair pairs x v
+      pub closes : (x : V) (v : Value) → Allows net x v → Derives pairs (x, v) → HasPair pairs x v
 
-    new_fact : (K : List (Pair V)) → ((x : V) (v : Value) → Has K x v → FactOf net t x v) → (x : V) (v : Value)
+    new_fact : (K : List (Pair V)) → ((x : V) (v : Value) → HasPair K x v → FactOf net t x v) → (x : V) (v : Value)
         → Allows net x v → Derives K (x, v) → FactOf net t x v
     new_fact K sound x v a d =
         subst (λ z. FactOf net t z v) d.is_target
-        (closed net.assertions (Allows net) (IsGiven net t) d.assign v d.is_one
-        (passes_more V (Has K) (FactOf net t) sound d.passes) (yields_more V (Has K) (FactOf net t) sound d.yields)
+        (closed net.assertions (Allows net) (HasStateValue net t) d.assign v d.is_one
+        (passes_more V (HasPair K) (FactOf net t) sound d.passes)
+        (yields_more V (HasPair K) (FactOf net t) sound d.yields)
         (subst (λ z. Allows net z v) (sym d.is_target) a))
 
     -- how far the facts have come: the pairs that may still follow, and those that do
@@ -287,9 +289,9 @@ module _ {V : Type 0} (key_told : (x y : V) → Told (x ≡ y)) where
       pub long : length rest ≡ n
       pub allowed : (x : V) (v : Value) → Contains rest (x, v) → Allows net x v
       pub pairs : List (Pair V)
-      pub sound : (x : V) (v : Value) → Has pairs x v → FactOf net t x v
-      pub begins : (x : V) (v : Value) → IsGiven net t x v → Has pairs x v
-      pub covers : (x : V) (v : Value) → Allows net x v → Has pairs x v ⊎ Contains rest (x, v)
+      pub sound : (x : V) (v : Value) → HasPair pairs x v → FactOf net t x v
+      pub begins : (x : V) (v : Value) → HasStateValue net t x v → HasPair pairs x v
+      pub covers : (x : V) (v : Value) → Allows net x v → HasPair pairs x v ⊎ Contains rest (x, v)
 
     advance : (n : ℕ) (s : Stage n) → Saturated ⊎ ((m : ℕ) × (n ≡ suc m) × Stage m)
     advance n s = go (search_list (Derives s.pairs) s.rest (λ p m. derives_told s.pairs p))
@@ -369,7 +371,7 @@ module _ {V : Type 0} (key_told : (x y : V) → Told (x ≡ y)) where
             value = r.value;
           });
       begins = λ x v g.
-          subst (λ z. Has given_pairs z v) g.is_key
+          subst (λ z. HasPair given_pairs z v) g.is_key
           (in_pairs (λ x. x.is_state) net.variables t g.place g.variable v g.stands g.value g.is_state);
       covers = λ x v a.
           inr
@@ -382,7 +384,7 @@ module _ {V : Type 0} (key_told : (x y : V) → Told (x ≡ y)) where
     facts_known x =
         let s = saturated in
         listed_as (pairs_listed s.pairs x) (λ v h. s.sound x v h)
-        (λ v h. least net.assertions (Allows net) (IsGiven net t) (Has s.pairs) s.begins
+        (λ v h. least net.assertions (Allows net) (HasStateValue net t) (HasPair s.pairs) s.begins
         (λ a d o p y l. s.closes a.target d l
         (record { assign = a; is_one = o; is_target = refl; passes = p; yields = y })) x v h)
 
@@ -390,7 +392,7 @@ module _ {V : Type 0} (key_told : (x y : V) → Told (x ≡ y)) where
     pub values_known : (x : V) → Listed (HasValue net t x)
     values_known x = listed_as (pairs_listed (pairs_of (λ x. true) net.variables t) x)
         (λ v h. let r = from_pairs (λ x. true) net.variables t x v h in record { place = r.place; variable = r.variable; stands = r.stands; is_key = r.is_key; value = r.value })
-        (λ v h. subst (λ (z : V). Has (pairs_of (λ x. true) net.variables t) z v) h.is_key
+        (λ v h. subst (λ (z : V). HasPair (pairs_of (λ x. true) net.variables t) z v) h.is_key
         (in_pairs (λ x. true) net.variables t h.place h.variable v h.stands h.value refl))
 
 -- each variable's value, where the facts of each are listed
@@ -452,7 +454,7 @@ module _ {V : Type 0} (key_told : (x y : V) → Told (x ≡ y)) (net : Net V) (t
   outside_told x =
       let P : Assign V → Type 0 =
       λ a. (a.target ≡ x.key) ×
-      (Passes (FactOf net t) a.conditions
+      (PassesConditions (FactOf net t) a.conditions
       × ((v : Value) × Contains (given_by (FactOf net t) known a).items v × (Contains x.domain v → ⊥))) in
       elim
       (both_told (bool_told x.is_state false)
@@ -492,7 +494,7 @@ module _ {V : Type 0} (key_told : (x y : V) → Told (x ≡ y)) (net : Net V) (t
             ))
       ]
 
-  broken_told : (total : List Value) (a : Assign V) → Told (IsBroken net total a)
+  broken_told : (total : List Value) (a : Assign V) → Told (IsBrokenAssign net total a)
   broken_told total a =
       let k = values_known key_told net total in
       let l = given_by (HasValue net total) k a in
@@ -511,7 +513,8 @@ module _ {V : Type 0} (key_told : (x y : V) → Told (x ≡ y)) (net : Net V) (t
     where
       last : HasNo net.variables (HasTwo net t) → HasNo net.variables (IsOutside net t) → (total : List Value)
           → Completes (FactOf net t) net.variables t total
-          → ((i : ℕ) × IsFirst net.assertions (IsBroken net total) i) ⊎ HasNo net.assertions (IsBroken net total)
+          → ((i : ℕ) × IsFirst net.assertions (IsBrokenAssign net total) i) ⊎ HasNo net.assertions
+          (IsBrokenAssign net total)
           → (o : Outcome) × Flows net t o
       last n m total c (inl r) = (Fails (Broken r.0), w.broken total n m c r.1)
       last n m total c (inr h) = (Total total, w.all_hold n m c h)
@@ -523,4 +526,4 @@ module _ {V : Type 0} (key_told : (x y : V) → Told (x ≡ y)) (net : Net V) (t
       go (inr n) (inl r) = (Fails (Outside r.0), w.outside n r.1)
       go (inr n) (inr m) =
           let c = completed (FactOf net t) known net.variables t long in
-          last n m c.0 c.1 (first_or_none (IsBroken net c.0) net.assertions (λ a o. broken_told c.0 a))
+          last n m c.0 c.1 (first_or_none (IsBrokenAssign net c.0) net.assertions (λ a o. broken_told c.0 a))

@@ -4,7 +4,7 @@ use Rattle.ar_base.specs.Lists.{Stands, IsFirst, HasNo}
 use Rattle.domains.specs.declared.Value.{Value}
 use Rattle.typed_expr.proofs.Facts.{yields_more}
 use Rattle.ar_meaning.specs.Systems.{Variable, Net}
-use Rattle.ar_meaning.specs.Facts.{IsGiven, Allows, given, FactOf}
+use Rattle.ar_meaning.specs.Facts.{HasStateValue, Allows, given, FactOf}
 use Rattle.ar_meaning.specs.Flows.{HasTwo, IsOutside, Completes, state, known, unknown, Outcome, Flows, two, outside, broken, all_hold}
 use Rattle.ar_meaning.specs.Flows as flows
 use Rattle.ar_meaning.proofs.Least.{least, closed, passes_more}
@@ -46,7 +46,7 @@ same_completes on off (flow {x = x} e d) (unknown i n c) =
 module _ {V : Type 0} (net : Net V) where
   same_fact : {t u : List Value} → Same_states net.variables t u → (x : V) (v : Value) → FactOf net t x v
       → FactOf net u x v
-  same_fact {t = t} {u = u} d = least net.assertions (Allows net) (IsGiven net t) (FactOf net u)
+  same_fact {t = t} {u = u} d = least net.assertions (Allows net) (HasStateValue net t) (FactOf net u)
       (λ x v h. given (record {
         place = h.place;
         variable = h.variable;
@@ -55,7 +55,7 @@ module _ {V : Type 0} (net : Net V) where
         is_state = h.is_state;
         value = same_at d h.place h.variable h.stands h.is_state v h.value;
       }))
-      (λ a v m p y l. closed net.assertions (Allows net) (IsGiven net u) a v m p y l)
+      (λ a v m p y l. closed net.assertions (Allows net) (HasStateValue net u) a v m p y l)
 
   same_two : {t u : List Value} → Same_states net.variables t u → (x : Variable V) → HasTwo net t x → HasTwo net u x
   same_two d x h = record {

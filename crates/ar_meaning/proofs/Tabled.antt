@@ -6,7 +6,7 @@ use Rattle.typed_expr.specs.Yields.{Yields}
 use Rattle.typed_expr.proofs.Facts.{yields_more}
 use Rattle.typed_expr.specs.declared.expr.Expr.{out-Expr}
 use Rattle.ar_meaning.specs.Systems.{Assign, Variable, Net}
-use Rattle.ar_meaning.specs.Facts.{Passes, given, Allows, HasValue, IsGiven, FactOf, AreNumbered}
+use Rattle.ar_meaning.specs.Facts.{PassesConditions, given, Allows, HasValue, HasStateValue, FactOf, AreNumbered}
 use Rattle.ar_meaning.specs.Flows.{HasTwo, IsOutside, Completes, Flows, Total, all_hold}
 use Rattle.ar_meaning.proofs.ByNumber.{value_at, given_from, allowed_from}
 use Rattle.ar_meaning.proofs.Least.{least, closed, passes_more}
@@ -45,7 +45,8 @@ Starts net t table =
 abbrev pub Closes : Net ℕ → List (Option Value) → Type 0
 Closes net table =
     AllFrom
-    (λ n (a : Assign ℕ). (v : Value) → Passes (Known table) a.conditions → Yields (Known table) (out-Expr ℕ a.value) v
+    (λ n (a : Assign ℕ). (v : Value) → PassesConditions (Known table) a.conditions
+    → Yields (Known table) (out-Expr ℕ a.value) v
     → Known table a.target v) 0 net.assertions
 
 module _ (net : Net ℕ) (numbered : AllFrom (λ n (x : Variable ℕ). x.key ≡ n) 0 net.variables) where
@@ -60,10 +61,10 @@ module _ (net : Net ℕ) (numbered : AllFrom (λ n (x : Variable ℕ). x.key ≡
 
   pub added_fact : (t : List Value) (k : ℕ) (a : Assign ℕ) (n : ℕ) (x : Variable ℕ) (v : Value)
       → Stands net.assertions k a → a.target ≡ n → Stands net.variables n x → Contains x.domain v
-      → Passes (FactOf net t) a.conditions → Yields (FactOf net t) (out-Expr ℕ a.value) v → FactOf net t n v
+      → PassesConditions (FactOf net t) a.conditions → Yields (FactOf net t) (out-Expr ℕ a.value) v → FactOf net t n v
   added_fact t k a n x v s e m c p d =
       subst (λ z. FactOf net t z v) e
-      (closed net.assertions (Allows net) (IsGiven net t) a v (record { place = k; stands = s }) p d
+      (closed net.assertions (Allows net) (HasStateValue net t) a v (record { place = k; stands = s }) p d
       (subst (λ z. Allows net z v) (sym e) (allowed_from net is_numbered n x v m c)))
 
   -- at most what the table knows follows
@@ -71,12 +72,12 @@ module _ (net : Net ℕ) (numbered : AllFrom (λ n (x : Variable ℕ). x.key ≡
       (starts : Starts net t table)
       (closes : Closes net table) where
     pub at_most : (x : ℕ) (v : Value) → FactOf net t x v → Known table x v
-    at_most = least net.assertions (Allows net) (IsGiven net t) (Known table)
+    at_most = least net.assertions (Allows net) (HasStateValue net t) (Known table)
         (λ x v h. let e : h.place ≡ x = sym (is_numbered.key h.place h.variable h.stands) ∙ h.is_key in
         subst (λ z. Known table z v) e
         (at_place (λ n (x : Variable ℕ). x.is_state ≡ true → (v : Value) → Stands t n v → Known table n v) 0
         net.variables starts h.place h.place h.variable h.stands (omega arith) h.is_state v h.value))
-        (λ a v o p d l. in_list (λ (a : Assign ℕ). (v : Value) → Passes (Known table) a.conditions
+        (λ a v o p d l. in_list (λ (a : Assign ℕ). (v : Value) → PassesConditions (Known table) a.conditions
         → Yields (Known table) (out-Expr ℕ a.value) v → Known table a.target v) net.assertions closes o.place a
         o.stands v p d)
 
@@ -96,7 +97,7 @@ module _ (net : Net ℕ) (numbered : AllFrom (λ n (x : Variable ℕ). x.key ≡
         has_not = λ k x s h.
             let c =
             in_list
-            (λ (a : Assign ℕ). (v : Value) → Passes (Known table) a.conditions
+            (λ (a : Assign ℕ). (v : Value) → PassesConditions (Known table) a.conditions
             → Yields (Known table) (out-Expr ℕ a.value) v → Known table a.target v) net.assertions closes
             h.is_one.place h.assign h.is_one.stands in
             let n : Known table h.assign.target h.value =
@@ -110,13 +111,13 @@ module _ (net : Net ℕ) (numbered : AllFrom (λ n (x : Variable ℕ). x.key ≡
       }
 
       pub flows : (total : List Value) → Completes (FactOf net t) net.variables t total
-          → AllFrom (λ n (a : Assign ℕ). (v : Value) → Passes (Stands total) a.conditions
+          → AllFrom (λ n (a : Assign ℕ). (v : Value) → PassesConditions (Stands total) a.conditions
           → Yields (Stands total) (out-Expr ℕ a.value) v → HasValue net total a.target v) 0 net.assertions
           → Flows net t (Total total)
       flows total c h = all_hold no_two none_outside c (record {
         has_not = λ k a s b.
             b.differs
-            (in_list (λ (a : Assign ℕ). (v : Value) → Passes (Stands total) a.conditions
+            (in_list (λ (a : Assign ℕ). (v : Value) → PassesConditions (Stands total) a.conditions
             → Yields (Stands total) (out-Expr ℕ a.value) v → HasValue net total a.target v) net.assertions h k a s
             b.value
             (passes_more ℕ (HasValue net total) (Stands total) (value_at net is_numbered total) b.passes)

@@ -9,7 +9,7 @@ use Rattle.typed_expr.specs.Values.{is_related}
 use Rattle.typed_expr.specs.declared.expr.Relation.TheVariants.{Equal}
 use Rattle.typed_expr.specs.declared.expr.Expr.{Expr, out-Expr}
 use Rattle.ar_meaning.specs.Systems.{Variable, Way, Net}
-use Rattle.ar_meaning.specs.Facts.{Passes, one_and, HasValue, FactOf}
+use Rattle.ar_meaning.specs.Facts.{PassesConditions, one_and, HasValue, FactOf}
 use Rattle.ar_meaning.specs.Facts as facts
 use Rattle.ar_meaning.specs.Flows.{HasTwo, Completes, state, known, unknown, Flows, Total, Fails, Two, two}
 use Rattle.ar_meaning.specs.Flows as flowing
@@ -222,7 +222,7 @@ module _ (test on opposite off first : Expr ℕ) (i : IsQuarrel test on opposite
   open_switch : FactOf torn before 0 opened
   open_switch = given_fact torn (refl, (refl, (refl, tt))) before 0 (state_of 0 switches closed) opened refl refl refl
 
-  passes : Passes (FactOf torn before) ((test, false) ∷ [])
+  passes : PassesConditions (FactOf torn before) ((test, false) ∷ [])
   passes = one_and (closed_yields (FactOf torn before) test opened i.is_test open_switch) facts.none
 
   is_true : FactOf torn before 1 (Truth true)

@@ -15,7 +15,7 @@ abbrev pub Names : {V : Type 0} → Assign V → V → Type 0
 Names {V} a x = Mentions x (out-Expr V a.value) ⊎ Tests x a.conditions
 
 -- the assignment of number n names the variable
-pub record Reads {V : Type 0} (net : Net V) (x : V) (n : ℕ) : Type 0 where
+pub record IsReadBy {V : Type 0} (net : Net V) (x : V) (n : ℕ) : Type 0 where
   pub assign : Assign V
   pub stands : Stands net.assertions n assign
   pub names : Names assign x

@@ -13,7 +13,7 @@ pub data Member (L E : Type 0) : Type 0 where
 
 -- an event as it is declared: what stands for it, the number of its unit, whether a hide clause names it, and its
 -- members in order
-pub record Declared (L E : Type 0) : Type 0 where
+pub record EventDeclaration (L E : Type 0) : Type 0 where
   pub key : E
   pub unit : ℕ
   pub hidden : Bool
@@ -25,12 +25,13 @@ choices must ts bss = flat_map (λ t. map (λ bs. Branch must t bs) bss) ts
 
 mutual
   -- the ways of an event are what its members give, in member order
-  pub data Ways {L E : Type 0} (events : List (Declared L E)) : E → List (Tree L) → Type 0 where
-    event : {d : Declared L E} {e : E} {ts : List (Tree L)} (n : ℕ) → Stands events n d → d.key ≡ e
+  pub data Ways {L E : Type 0} (events : List (EventDeclaration L E)) : E → List (Tree L) → Type 0 where
+    event : {d : EventDeclaration L E} {e : E} {ts : List (Tree L)} (n : ℕ) → Stands events n d → d.key ≡ e
         → Members_give events d.members ts → Ways events e ts
 
   -- a transition gives one way, a synchronisation one for each choice of one way for each part
-  pub data Members_give {L E : Type 0} (events : List (Declared L E)) : List (Member L E) → List (Tree L) → Type 0 where
+  pub data Members_give {L E : Type 0} (events : List (EventDeclaration L E)) : List (Member L E) → List (Tree L)
+      → Type 0 where
     no_member : Members_give events [] []
     one : {l : L} {ms : List (Member L E)} {ts : List (Tree L)} → Members_give events ms ts
         → Members_give events (One l ∷ ms) (Leaf l ∷ ts)
@@ -39,20 +40,21 @@ mutual
         → Members_give events (Synchronises ps ∷ ms) (map Joint bss ++ ts)
 
   -- every choice of one way for each part, in lexicographic order
-  pub data Parts_give {L E : Type 0} (events : List (Declared L E)) : List (Bool × E) → List (Branches L) → Type 0 where
+  pub data Parts_give {L E : Type 0} (events : List (EventDeclaration L E)) : List (Bool × E) → List (Branches L)
+      → Type 0 where
     no_part : Parts_give events [] (Empty ∷ [])
     choice : {must : Bool} {e : E} {ps : List (Bool × E)} {ts : List (Tree L)} {bss : List (Branches L)}
         → Ways events e ts → Parts_give events ps bss
         → Parts_give events ((must, e) ∷ ps) (choices must ts bss)
 
 -- no two events have one key
-pub record AreKeyed {L E : Type 0} (events : List (Declared L E)) : Type 0 where
-  pub one : (m n : ℕ) (d e : Declared L E) → Stands events m d → Stands events n e → d.key ≡ e.key → m ≡ n
+pub record AreKeyedEvents {L E : Type 0} (events : List (EventDeclaration L E)) : Type 0 where
+  pub one : (m n : ℕ) (d e : EventDeclaration L E) → Stands events m d → Stands events n e → d.key ≡ e.key → m ≡ n
 
 -- a synchronisation of the first event has the second as a part
-pub record HasPart {L E : Type 0} (events : List (Declared L E)) (d e : E) : Type 0 where
+pub record HasPart {L E : Type 0} (events : List (EventDeclaration L E)) (d e : E) : Type 0 where
   pub place : ℕ
-  pub declared : Declared L E
+  pub declared : EventDeclaration L E
   pub stands : Stands events place declared
   pub is_key : declared.key ≡ d
   pub parts : List (Bool × E)
@@ -61,14 +63,14 @@ pub record HasPart {L E : Type 0} (events : List (Declared L E)) (d e : E) : Typ
   pub is_part : IsOneOf parts (must, e)
 
 -- the second event is reached from the synchronisations of the first
-pub data ReachesPart {L E : Type 0} (events : List (Declared L E)) : E → E → Type 0 where
+pub data ReachesPart {L E : Type 0} (events : List (EventDeclaration L E)) : E → E → Type 0 where
   part_of : {d e : E} → HasPart events d e → ReachesPart events d e
   further : {d e f : E} → HasPart events d e → ReachesPart events e f → ReachesPart events d f
 
 -- member k of the event is a synchronisation from which the event is reached again
-pub record LeadsBack {L E : Type 0} (events : List (Declared L E)) (e : E) (k : ℕ) : Type 0 where
+pub record LeadsBack {L E : Type 0} (events : List (EventDeclaration L E)) (e : E) (k : ℕ) : Type 0 where
   pub place : ℕ
-  pub declared : Declared L E
+  pub declared : EventDeclaration L E
   pub stands : Stands events place declared
   pub is_key : declared.key ≡ e
   pub parts : List (Bool × E)
@@ -79,8 +81,8 @@ pub record LeadsBack {L E : Type 0} (events : List (Declared L E)) (e : E) (k : 
   pub back : (part ≡ e) ⊎ ReachesPart events part e
 
 -- the event of a system that a declared event is
-pub record IsExpanded {V E : Type 0} (events : List (Declared (Transition V) E)) (d : Declared (Transition V) E)
-    (e : Event V) : Type 0 where
+pub record IsExpanded {V E : Type 0} (events : List (EventDeclaration (Transition V) E)) (d : EventDeclaration
+    (Transition V) E) (e : Event V) : Type 0 where
   pub unit : d.unit ≡ e.unit
   pub hidden : d.hidden ≡ e.hidden
   pub ways : Ways events d.key e.ways

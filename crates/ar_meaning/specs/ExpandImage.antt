@@ -2,7 +2,7 @@
 use Rattle.std.specs.Prelude.{◌≡◌, Bool, List}
 use Rattle.ar_base.specs.Lists.{Along}
 use Rattle.ar_meaning.specs.Systems.{Transition}
-use Rattle.ar_meaning.specs.Expand.{Declared, Member, One, Synchronises}
+use Rattle.ar_meaning.specs.Expand.{EventDeclaration, Member, One, Synchronises}
 use Rattle.ar_meaning.specs.Image.{Transition_renames}
 
 -- the parts have the same mark, and their events are related
@@ -18,8 +18,8 @@ pub data Member_along {L M E F : Type 0} (same : L → M → Type 0)
       → Member_along same event_same (Synchronises ps) (Synchronises qs)
 
 -- the declared events have related keys, one unit, one mark for hidden, and related members
-pub record Declared_along {L M E F : Type 0} (same : L → M → Type 0) (event_same : E → F → Type 0) (d : Declared L E)
-    (e : Declared M F) : Type 0 where
+pub record Declared_along {L M E F : Type 0} (same : L → M → Type 0) (event_same : E → F → Type 0) (d : EventDeclaration
+    L E) (e : EventDeclaration M F) : Type 0 where
   pub key : event_same d.key e.key
   pub unit : d.unit ≡ e.unit
   pub hidden : d.hidden ≡ e.hidden
@@ -30,6 +30,6 @@ abbrev pub Member_renames : {V W E F : Type 0} → (V → W → Type 0) → (E �
     → Member (Transition W) F → Type 0
 Member_renames same = Member_along (Transition_renames same)
 
-abbrev pub Declared_renames : {V W E F : Type 0} → (V → W → Type 0) → (E → F → Type 0) → Declared (Transition V) E
-    → Declared (Transition W) F → Type 0
+abbrev pub Declared_renames : {V W E F : Type 0} → (V → W → Type 0) → (E → F → Type 0) → EventDeclaration (Transition V)
+    E → EventDeclaration (Transition W) F → Type 0
 Declared_renames same = Declared_along (Transition_renames same)

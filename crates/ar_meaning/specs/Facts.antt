@@ -3,24 +3,24 @@ use Rattle.std.specs.Prelude.{◌≡◌, ℕ, Bool, true, List, [], ◌∷◌, C
 use Rattle.ar_base.specs.Lists.{Stands, IsOneOf}
 use Rattle.domains.specs.declared.Value.{Value}
 use Rattle.domains.specs.declared.Value.TheVariants.{Truth}
-use Rattle.typed_expr.specs.Pairs.{Pair, Has}
+use Rattle.typed_expr.specs.Pairs.{Pair, HasPair}
 use Rattle.typed_expr.specs.Yields.{Yields}
 use Rattle.typed_expr.specs.declared.expr.Expr.{Expr, out-Expr}
 use Rattle.ar_meaning.specs.Systems.{Assign, Variable, Net}
 
 -- every condition yields from the facts the truth value that it must have
-pub data Passes {V : Type 0} (facts : V → Value → Type 0) : List (Expr V × Bool) → Type 0 where
-  none : Passes facts []
+pub data PassesConditions {V : Type 0} (facts : V → Value → Type 0) : List (Expr V × Bool) → Type 0 where
+  none : PassesConditions facts []
   one_and : {e : Expr V} {b : Bool} {cs : List (Expr V × Bool)} → Yields facts (out-Expr V e) (Truth b)
-      → Passes facts cs → Passes facts ((e, b) ∷ cs)
+      → PassesConditions facts cs → PassesConditions facts ((e, b) ∷ cs)
 
 -- the least facts: what the state gives, and what an assignment yields for its target where facts K reach it, if the
 -- target's domain has the value
 pub data Fact {V : Type 0} (assigns : List (Assign V)) (allows state : V → Value → Type 0) : V → Value → Type 0 where
   given : {x : V} {v : Value} → state x v → Fact assigns allows state x v
   assigned : (a : Assign V) {v : Value} (K : List (Pair V)) → IsOneOf assigns a
-      → ((x : V) (w : Value) → Has K x w → Fact assigns allows state x w)
-      → Passes (Has K) a.conditions → Yields (Has K) (out-Expr V a.value) v → allows a.target v
+      → ((x : V) (w : Value) → HasPair K x w → Fact assigns allows state x w)
+      → PassesConditions (HasPair K) a.conditions → Yields (HasPair K) (out-Expr V a.value) v → allows a.target v
       → Fact assigns allows state a.target v
 
 -- the variable's domain has the value
@@ -40,7 +40,7 @@ pub record HasValue {V : Type 0} (net : Net V) (t : List Value) (x : V) (v : Val
   pub value : Stands t place v
 
 -- the valuation gives the state variable this value
-pub record IsGiven {V : Type 0} (net : Net V) (t : List Value) (x : V) (v : Value) : Type 0 where
+pub record HasStateValue {V : Type 0} (net : Net V) (t : List Value) (x : V) (v : Value) : Type 0 where
   pub place : ℕ
   pub variable : Variable V
   pub stands : Stands net.variables place variable
@@ -50,7 +50,7 @@ pub record IsGiven {V : Type 0} (net : Net V) (t : List Value) (x : V) (v : Valu
 
 -- the facts that follow from the state variables' values
 abbrev pub FactOf : {V : Type 0} → Net V → List Value → V → Value → Type 0
-FactOf net t = Fact net.assertions (Allows net) (IsGiven net t)
+FactOf net t = Fact net.assertions (Allows net) (HasStateValue net t)
 
 -- no two variables have one key
 pub record AreKeyed {V : Type 0} (net : Net V) : Type 0 where

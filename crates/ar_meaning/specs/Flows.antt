@@ -5,7 +5,7 @@ use Rattle.domains.specs.declared.Value.{Value}
 use Rattle.typed_expr.specs.Yields.{Yields}
 use Rattle.typed_expr.specs.declared.expr.Expr.{out-Expr}
 use Rattle.ar_meaning.specs.Systems.{Assign, Variable, Net}
-use Rattle.ar_meaning.specs.Facts.{Passes, HasValue, FactOf}
+use Rattle.ar_meaning.specs.Facts.{PassesConditions, HasValue, FactOf}
 
 -- the flow has two different values
 pub record HasTwo {V : Type 0} (net : Net V) (t : List Value) (x : Variable V) : Type 0 where
@@ -23,7 +23,7 @@ pub record IsOutside {V : Type 0} (net : Net V) (t : List Value) (x : Variable V
   pub value : Value
   pub is_one : IsOneOf net.assertions assign
   pub is_target : assign.target ≡ x.key
-  pub passes : Passes (FactOf net t) assign.conditions
+  pub passes : PassesConditions (FactOf net t) assign.conditions
   pub yields : Yields (FactOf net t) (out-Expr V assign.value) value
   pub outside : Contains x.domain value → ⊥
 
@@ -42,8 +42,8 @@ pub data Completes {V : Type 0} (facts : V → Value → Type 0) : List
       → Completes facts xs vs ws → Completes facts (x ∷ xs) (v ∷ vs) (x.value ∷ ws)
 
 -- the total valuation reaches the assignment, and its value is not its target's
-pub record IsBroken {V : Type 0} (net : Net V) (total : List Value) (a : Assign V) : Type 0 where
-  pub passes : Passes (HasValue net total) a.conditions
+pub record IsBrokenAssign {V : Type 0} (net : Net V) (total : List Value) (a : Assign V) : Type 0 where
+  pub passes : PassesConditions (HasValue net total) a.conditions
   pub value : Value
   pub yields : Yields (HasValue net total) (out-Expr V a.value) value
   pub differs : HasValue net total a.target value → ⊥
@@ -65,8 +65,8 @@ pub data Flows {V : Type 0} (net : Net V) (t : List Value) : Outcome → Type 0 
   outside : {n : ℕ} → HasNo net.variables (HasTwo net t) → IsFirst net.variables (IsOutside net t) n
       → Flows net t (Fails (Outside n))
   broken : {i : ℕ} (total : List Value) → HasNo net.variables (HasTwo net t) → HasNo net.variables (IsOutside net t)
-      → Completes (FactOf net t) net.variables t total → IsFirst net.assertions (IsBroken net total) i
+      → Completes (FactOf net t) net.variables t total → IsFirst net.assertions (IsBrokenAssign net total) i
       → Flows net t (Fails (Broken i))
   all_hold : {total : List Value} → HasNo net.variables (HasTwo net t) → HasNo net.variables (IsOutside net t)
-      → Completes (FactOf net t) net.variables t total → HasNo net.assertions (IsBroken net total)
+      → Completes (FactOf net t) net.variables t total → HasNo net.assertions (IsBrokenAssign net total)
       → Flows net t (Total total)

@@ -5,9 +5,9 @@ use Rattle.typed_expr.specs.Sets.{HasExactly}
 use Rattle.typed_expr.specs.Yields.{Yields}
 use Rattle.typed_expr.specs.declared.expr.Expr.{out-Expr}
 use Rattle.ar_meaning.specs.Systems.{Assign}
-use Rattle.ar_meaning.specs.Facts.{Passes}
+use Rattle.ar_meaning.specs.Facts.{PassesConditions}
 
 -- what an assignment that is reached yields, or that it is not reached
 abbrev pub Reaches : (ℕ → Value → Type 0) → Assign ℕ → Option (List Value) → Type 0
-Reaches facts a None = Passes facts a.conditions → ⊥
-Reaches facts a (Some set) = Passes facts a.conditions × HasExactly set (Yields facts (out-Expr ℕ a.value))
+Reaches facts a None = PassesConditions facts a.conditions → ⊥
+Reaches facts a (Some set) = PassesConditions facts a.conditions × HasExactly set (Yields facts (out-Expr ℕ a.value))

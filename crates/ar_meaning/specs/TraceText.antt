@@ -85,9 +85,9 @@ label_lines names sys [] = []
 label_lines names sys (l ∷ ls) = line (codes "  " ++ label_text names sys l) ++ label_lines names sys ls
 
 -- `LINE:COLUMN`
-abbrev pub place_text : Option Place → List ℕ
-place_text None = []
-place_text (Some p) = decimal p.line ++ (codes ":" ++ decimal p.column)
+abbrev pub optional_place_text : Option Place → List ℕ
+optional_place_text None = []
+optional_place_text (Some p) = decimal p.line ++ (codes ":" ++ decimal p.column)
 
 -- a fault of the flows; an assignment by its number, counted from 1, and its place
 abbrev pub flow_fault_text : Naming → FlowFault → List ℕ
@@ -95,7 +95,7 @@ flow_fault_text names (Two n) = codes "flow " ++ (text_at names.variables n ++ c
 flow_fault_text names (Outside n) = codes "flow " ++ (text_at names.variables n ++ codes " is outside its domain")
 flow_fault_text names (Broken i) = codes
     "assignment " ++ (decimal (i + 1) ++ (codes
-    " at " ++ (place_text (slice_get names.places i) ++ codes " does not hold")))
+    " at " ++ (optional_place_text (slice_get names.places i) ++ codes " does not hold")))
 
 -- a fault of a step
 abbrev pub step_fault_text : Naming → StepFault → List ℕ

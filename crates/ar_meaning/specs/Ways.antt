@@ -6,7 +6,7 @@ use Rattle.domains.specs.declared.Value.TheVariants.{Truth}
 use Rattle.typed_expr.specs.Yields.{Yields}
 use Rattle.typed_expr.specs.declared.expr.Expr.{out-Expr}
 use Rattle.ar_meaning.specs.Systems.{Assign, Transition, Way, Leaf, Joint, Branches, Empty, Branch}
-use Rattle.ar_meaning.specs.Facts.{Passes}
+use Rattle.ar_meaning.specs.Facts.{PassesConditions}
 
 -- one of the parts is marked !
 abbrev pub has_must : {L : Type 0} → Branches L → Bool
@@ -37,7 +37,7 @@ mutual
   -- the way gives the variable this value: an assignment of its action that the facts reach yields it, or a part that
   -- takes part gives it
   pub data Effects {V : Type 0} (facts : V → Value → Type 0) : Way V → V → Value → Type 0 where
-    acts : {d : Transition V} {v : Value} (a : Assign V) → IsOneOf d.action a → Passes facts a.conditions
+    acts : {d : Transition V} {v : Value} (a : Assign V) → IsOneOf d.action a → PassesConditions facts a.conditions
         → Yields facts (out-Expr V a.value) v → Effects facts (Leaf d) a.target v
     by_part : {bs : Branches (Transition V)} {x : V} {v : Value} → Part_effects facts bs x v
         → Effects facts (Joint bs) x v

@@ -9,7 +9,7 @@ ghost use Rattle.ar_meaning.specs.Flows.{Flows, Outcome};
 ghost use Rattle.ar_meaning.specs.Steps.{Step, Answer};
 ghost use Rattle.ar_meaning.specs.Runs.{Runs, Command, Moment, FiresWays};
 ghost use Rattle.ar_meaning.specs.Found.{AreTold};
-ghost use Rattle.ar_meaning.specs.Expand.{Declared, AreKeyed as HaveKeys, Ways, IsExpanded};
+ghost use Rattle.ar_meaning.specs.Expand.{EventDeclaration, AreKeyedEvents as HaveKeys, Ways, IsExpanded};
 ghost use Rattle.ar_meaning.specs.TraceText.{Naming, TraceText};
 ghost use Rattle.ar_meaning.specs.Numbered.{Body, Means_way};
 
@@ -27,7 +27,7 @@ pub fn one_answer<V>()
 /// Where no two events have one key, an event has at most one list of ways. A number stands for at
 /// most one way.
 pub fn one_list_of_ways<L, E>()
-    ensures ways { (events : List (Declared L E)) → HaveKeys events
+    ensures ways { (events : List (EventDeclaration L E)) → HaveKeys events
         → (e : E) (ts us : List (Tree L)) → Ways events e ts → Ways events e us → ts ≡ us }
     ensures numbers { (bodies : List (Body L)) (n : ℕ) (t u : Tree L) → Means_way bodies n t
         → Means_way bodies n u → t ≡ u }
@@ -35,7 +35,7 @@ pub fn one_list_of_ways<L, E>()
 
 /// Declared events, no two of which have one key, make at most one list of events of a system.
 pub fn one_list_of_events<V, E>()
-    ensures events { (events : List (Declared (Transition V) E)) → HaveKeys events
+    ensures events { (events : List (EventDeclaration (Transition V) E)) → HaveKeys events
         → (es fs : List (Event V)) → Along (IsExpanded events) events es
         → Along (IsExpanded events) events fs → es ≡ fs }
 {}

@@ -6,27 +6,27 @@ ghost use Rattle.domains.specs.declared.Value.{Value};
 ghost use Rattle.typed_expr.specs.Yields.{Yields};
 ghost use Rattle.typed_expr.specs.declared.expr.Expr.{out-Expr};
 ghost use Rattle.ar_meaning.specs.Systems.{Assign, Variable, Net};
-ghost use Rattle.ar_meaning.specs.Facts.{Passes, Allows, HasValue, IsGiven, FactOf, AreKeyed, AreNumbered};
+ghost use Rattle.ar_meaning.specs.Facts.{PassesConditions, Allows, HasValue, HasStateValue, FactOf, AreKeyed, AreNumbered};
 ghost use Rattle.ar_meaning.specs.Flows.{Flows, Outcome};
 
 /// The facts hold what the state gives and what each assignment adds that they reach, they are the
 /// least such, and more values give more facts.
 pub fn facts_are_least<V>()
-    ensures given { (net : Net V) (t : List Value) (x : V) (v : Value) → IsGiven net t x v
+    ensures given { (net : Net V) (t : List Value) (x : V) (v : Value) → HasStateValue net t x v
         → FactOf net t x v }
     ensures closed { (net : Net V) (t : List Value) (a : Assign V) (v : Value)
-        → IsOneOf net.assertions a → Passes (FactOf net t) a.conditions
+        → IsOneOf net.assertions a → PassesConditions (FactOf net t) a.conditions
         → Yields (FactOf net t) (out-Expr V a.value) v → Allows net a.target v
         → FactOf net t a.target v }
     ensures least { (net : Net V) (t : List Value) (holds : V → Value → Bool)
-        → ((x : V) (v : Value) → IsGiven net t x v → IsTrue (holds x v))
+        → ((x : V) (v : Value) → HasStateValue net t x v → IsTrue (holds x v))
         → ((a : Assign V) (v : Value) → IsOneOf net.assertions a
-        → Passes (λ x w. IsTrue (holds x w)) a.conditions
+        → PassesConditions (λ x w. IsTrue (holds x w)) a.conditions
         → Yields (λ x w. IsTrue (holds x w)) (out-Expr V a.value) v
         → Allows net a.target v → IsTrue (holds a.target v))
         → (x : V) (v : Value) → FactOf net t x v → IsTrue (holds x v) }
     ensures more { (net : Net V) (t u : List Value)
-        → ((x : V) (v : Value) → IsGiven net t x v → IsGiven net u x v) → (x : V) (v : Value)
+        → ((x : V) (v : Value) → HasStateValue net t x v → HasStateValue net u x v) → (x : V) (v : Value)
         → FactOf net t x v → FactOf net u x v }
 {}
 
@@ -39,7 +39,7 @@ pub fn variables_by_number()
         → (HasValue net t n v ↔ Stands t n v) }
     ensures given { (net : Net ℕ) → AreNumbered net
         → (t : List Value) (n : ℕ) (x : Variable ℕ) (v : Value) → Stands net.variables n x
-        → (IsGiven net t n v ↔ ((x.is_state ≡ true) × Stands t n v)) }
+        → (HasStateValue net t n v ↔ ((x.is_state ≡ true) × Stands t n v)) }
     ensures allowed { (net : Net ℕ) → AreNumbered net → (n : ℕ) (x : Variable ℕ) (v : Value)
         → Stands net.variables n x → (Allows net n v ↔ Contains x.domain v) }
 {}

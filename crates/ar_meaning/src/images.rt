@@ -10,7 +10,7 @@ ghost use Rattle.ar_meaning.specs.Ways.{Can, Effects};
 ghost use Rattle.ar_meaning.specs.Steps.{Step, Answer};
 ghost use Rattle.ar_meaning.specs.Runs.{Runs, Command, Moment};
 ghost use Rattle.ar_meaning.specs.TraceText.{Naming, TraceText};
-ghost use Rattle.ar_meaning.specs.Expand.{Declared, AreKeyed as HaveKeys, Ways, LeadsBack, IsExpanded};
+ghost use Rattle.ar_meaning.specs.Expand.{EventDeclaration, AreKeyedEvents as HaveKeys, Ways, LeadsBack, IsExpanded};
 ghost use Rattle.ar_meaning.specs.ExpandImage.{Declared_along, Declared_renames};
 ghost use Rattle.ar_meaning.specs.Image.{Way_renames, Event_renames, IsImage};
 ghost use Rattle.ar_meaning.specs.FlatOf.{IsNumber, IsFlatOf, AreFlatOf, NameAlike};
@@ -50,27 +50,27 @@ pub fn flat_answers<V>()
 /// Flat declared events have the ways, events of a system and ways back to themselves of their
 /// declared events, and no others.
 pub fn flat_declarations<V, E>()
-    ensures ways { (things : List V) (keys : List E) (ds : List (Declared (Transition V) E))
-        (es : List (Declared (Transition ℕ) ℕ)) → AreFlatOf things keys ds es → (e : E) (n : ℕ)
+    ensures ways { (things : List V) (keys : List E) (ds : List (EventDeclaration (Transition V) E))
+        (es : List (EventDeclaration (Transition ℕ) ℕ)) → AreFlatOf things keys ds es → (e : E) (n : ℕ)
         → Stands keys n e → (vs : List (Way V)) → Ways ds e vs
         → (ws : List (Way ℕ)) × Ways es n ws × Along (Way_renames (IsNumber things)) vs ws }
-    ensures ways_back { (things : List V) (keys : List E) (ds : List (Declared (Transition V) E))
-        (es : List (Declared (Transition ℕ) ℕ)) → AreFlatOf things keys ds es → (e : E) (n : ℕ)
+    ensures ways_back { (things : List V) (keys : List E) (ds : List (EventDeclaration (Transition V) E))
+        (es : List (EventDeclaration (Transition ℕ) ℕ)) → AreFlatOf things keys ds es → (e : E) (n : ℕ)
         → Stands keys n e → (ws : List (Way ℕ)) → Ways es n ws
         → (vs : List (Way V)) × Ways ds e vs × Along (Way_renames (IsNumber things)) vs ws }
-    ensures events { (things : List V) (keys : List E) (ds : List (Declared (Transition V) E))
-        (es : List (Declared (Transition ℕ) ℕ)) → AreFlatOf things keys ds es
+    ensures events { (things : List V) (keys : List E) (ds : List (EventDeclaration (Transition V) E))
+        (es : List (EventDeclaration (Transition ℕ) ℕ)) → AreFlatOf things keys ds es
         → (vs : List (Event V)) → Along (IsExpanded ds) ds vs → (ws : List (Event ℕ))
         × Along (IsExpanded es) es ws × Along (Event_renames (IsNumber things)) vs ws }
-    ensures events_back { (things : List V) (keys : List E) (ds : List (Declared (Transition V) E))
-        (es : List (Declared (Transition ℕ) ℕ)) → AreFlatOf things keys ds es
+    ensures events_back { (things : List V) (keys : List E) (ds : List (EventDeclaration (Transition V) E))
+        (es : List (EventDeclaration (Transition ℕ) ℕ)) → AreFlatOf things keys ds es
         → (ws : List (Event ℕ)) → Along (IsExpanded es) es ws → (vs : List (Event V))
         × Along (IsExpanded ds) ds vs × Along (Event_renames (IsNumber things)) vs ws }
-    ensures leads_back { (things : List V) (keys : List E) (ds : List (Declared (Transition V) E))
-        (es : List (Declared (Transition ℕ) ℕ)) → AreFlatOf things keys ds es → (e : E) (n k : ℕ)
+    ensures leads_back { (things : List V) (keys : List E) (ds : List (EventDeclaration (Transition V) E))
+        (es : List (EventDeclaration (Transition ℕ) ℕ)) → AreFlatOf things keys ds es → (e : E) (n k : ℕ)
         → Stands keys n e → (LeadsBack ds e k ↔ LeadsBack es n k) }
-    ensures keys { (things : List V) (keys : List E) (ds : List (Declared (Transition V) E))
-        (es : List (Declared (Transition ℕ) ℕ)) → AreFlatOf things keys ds es
+    ensures keys { (things : List V) (keys : List E) (ds : List (EventDeclaration (Transition V) E))
+        (es : List (EventDeclaration (Transition ℕ) ℕ)) → AreFlatOf things keys ds es
         → (HaveKeys ds ↔ HaveKeys es) }
 {}
 
@@ -79,8 +79,8 @@ pub fn flat_declarations<V, E>()
 pub fn copied<V, E>()
     ensures systems { (things : List V) (sys : System V) (flat other : System ℕ)
         → IsFlatOf things sys flat → IsImage (λ m n. m ≡ n) flat other → IsFlatOf things sys other }
-    ensures declared { (things : List V) (keys : List E) (ds : List (Declared (Transition V) E))
-        (es fs : List (Declared (Transition ℕ) ℕ)) → AreFlatOf things keys ds es
+    ensures declared { (things : List V) (keys : List E) (ds : List (EventDeclaration (Transition V) E))
+        (es fs : List (EventDeclaration (Transition ℕ) ℕ)) → AreFlatOf things keys ds es
         → Along (Declared_renames (λ m n. m ≡ n) (λ m n. m ≡ n)) es fs
         → AreFlatOf things keys ds fs }
 {}
@@ -88,17 +88,17 @@ pub fn copied<V, E>()
 /// Declared events whose transitions are mapped, with each key's number in its place, have the
 /// mapped ways, and no others.
 pub fn mapped_declarations<L, M, E>()
-    ensures ways { (f : L → M) (keys : List E) (ds : List (Declared L E)) (es : List (Declared M ℕ))
+    ensures ways { (f : L → M) (keys : List E) (ds : List (EventDeclaration L E)) (es : List (EventDeclaration M ℕ))
         → AreDifferent keys → Along (Declared_along (λ l m. f l ≡ m) (IsNumber keys)) ds es
         → (e : E) (n : ℕ) → Stands keys n e → (ts : List (Tree L)) → Ways ds e ts
         → Ways es n (map (changed f) ts) }
-    ensures ways_back { (f : L → M) (keys : List E) (ds : List (Declared L E))
-        (es : List (Declared M ℕ))
+    ensures ways_back { (f : L → M) (keys : List E) (ds : List (EventDeclaration L E))
+        (es : List (EventDeclaration M ℕ))
         → AreDifferent keys → Along (Declared_along (λ l m. f l ≡ m) (IsNumber keys)) ds es
         → (e : E) (n : ℕ) → Stands keys n e → (us : List (Tree M)) → Ways es n us
         → (ts : List (Tree L)) × Ways ds e ts × (us ≡ map (changed f) ts) }
-    ensures leads_back { (f : L → M) (keys : List E) (ds : List (Declared L E))
-        (es : List (Declared M ℕ))
+    ensures leads_back { (f : L → M) (keys : List E) (ds : List (EventDeclaration L E))
+        (es : List (EventDeclaration M ℕ))
         → AreDifferent keys → Along (Declared_along (λ l m. f l ≡ m) (IsNumber keys)) ds es
         → (e : E) (n k : ℕ) → Stands keys n e → (LeadsBack ds e k ↔ LeadsBack es n k) }
 {}

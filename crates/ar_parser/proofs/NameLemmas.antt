@@ -17,8 +17,8 @@ use Rattle.ar_lexer.specs.declared.token.TokenKind.{TokenKind}
 use Rattle.ar_lexer.specs.declared.token.TokenKind.TheVariants.{Name, Whole, Real, Sign, Reserved, End}
 use Rattle.ar_lexer.specs.declared.token.LexFault.{LexFault}
 use Rattle.ar_lexer.specs.declared.token.LexFault.TheVariants as lex_fault
-use Rattle.ar_lexer.specs.Spelling.{AllPass, is_word_byte, IsWord, IsDigits, IsOfKind}
-use Rattle.ar_lexer.specs.Tokens.{IsToken, joined, AreCut, AreTokens, end_of_text, IsFirstFault}
+use Rattle.ar_lexer.specs.Spelling.{AllPass, is_word_byte, IsWord, IsDigits, IsTextOfKind}
+use Rattle.ar_lexer.specs.Tokens.{IsToken, joined_pieces, AreCut, AreTokens, end_of_text, IsFirstFault}
 use Rattle.ar_lexer.proofs.RunLemmas.{letter_of_word}
 use Rattle.ar_lexer.proofs.Laws.{tokens_one, tokens_no_fault, fault_one}
 use Rattle.ar_grammar.specs.declared.lexeme.Lexeme.{Lexeme}
@@ -27,7 +27,7 @@ use Rattle.ar_parser.specs.declared.fault.ParseFault.TheVariants.{Lex, Memory}
 use Rattle.ar_base.specs.Numbers.{NameId}
 use Rattle.ar_grammar.specs.Words.{Tokens}
 use Rattle.ar_parser.specs.Names.{IsSpelled, AreSpelled, lexeme_of}
-use Rattle.ar_parser.specs.Models.{token_of, text_of, IsNumbered, name, other, AreNumbered, AreLexemes, HasFaultAt, IsPlaceOf}
+use Rattle.ar_parser.specs.Models.{token_of, text_of, IsNumbered, name, other, AreNamesNumbered, AreLexemes, HasFaultAt, IsPlaceOf}
 use Rattle.ar_parser.specs.Names.{fault_of}
 
 -- The bytes of names
@@ -54,7 +54,7 @@ piece_text bytes before p after from to e f t =
 name_spelled : (bytes before p after : List ℕ) (t : Token) → bytes ≡ before ++ (p ++ after) → IsToken before p after t
     → t.kind ≡ Name → IsSpelled bytes t
 name_spelled bytes before p after t e h k =
-    let of_name : IsOfKind Name p = subst (λ (kind : TokenKind). IsOfKind kind p) k h.of_kind.of_kind in
+    let of_name : IsTextOfKind Name p = subst (λ (kind : TokenKind). IsTextOfKind kind p) k h.of_kind.of_kind in
     let n : length bytes ≡ length before + (length p + length after) =
     ap length e ∙ length-append before (p ++ after)
     ∙ ap (λ (k : ℕ). length before + k) (length-append p after) in
@@ -68,15 +68,15 @@ name_spelled bytes before p after t e h k =
     }
 
 cut_spelled : (bytes before : List ℕ) (ps : List (List ℕ)) (rest : List ℕ) (ts : List Token)
-    → bytes ≡ before ++ joined ps rest → AreCut before ps rest ts → AreSpelled bytes ts
+    → bytes ≡ before ++ joined_pieces ps rest → AreCut before ps rest ts → AreSpelled bytes ts
 cut_spelled bytes before [] rest ts e h = subst (AreSpelled bytes) (sym h) tt
 cut_spelled bytes before (p ∷ ps) rest ts e (inl h) =
-    cut_spelled bytes (before ++ p) ps rest ts (e ∙ sym (append_assoc before p (joined ps rest))) h.1
+    cut_spelled bytes (before ++ p) ps rest ts (e ∙ sym (append_assoc before p (joined_pieces ps rest))) h.1
 cut_spelled bytes before (p ∷ ps) rest ts e (inr h) =
     subst (AreSpelled bytes) (sym h.2) (
-      name_spelled bytes before p (joined ps rest) h.0 e h.3,
+      name_spelled bytes before p (joined_pieces ps rest) h.0 e h.3,
       cut_spelled bytes (before ++ p) ps rest h.1
-          (e ∙ sym (append_assoc before p (joined ps rest))) h.4,
+          (e ∙ sym (append_assoc before p (joined_pieces ps rest))) h.4,
     )
 
 -- How many tokens there are
@@ -88,7 +88,7 @@ real_not_empty : (digits tail : List ℕ) → [] ≡ digits ++ tail → IsDigits
 real_not_empty [] tail e h = h
 real_not_empty (d ∷ digits) tail e h = absurd (cc)
 
-kind_not_empty : (k : TokenKind) → IsOfKind k [] → ⊥
+kind_not_empty : (k : TokenKind) → IsTextOfKind k [] → ⊥
 kind_not_empty Name h = h.0
 kind_not_empty (Whole n) h = h.0
 kind_not_empty Real h = real_not_empty h.0 h.1 h.2 h.3
@@ -96,19 +96,21 @@ kind_not_empty (Sign n) h = let x : None ≡ Some n = h in absurd (cc)
 kind_not_empty (Reserved n) h = h.0
 kind_not_empty End h = h
 
-piece_some : (k : TokenKind) (p : List ℕ) → IsOfKind k p → 0 < length p
+piece_some : (k : TokenKind) (p : List ℕ) → IsTextOfKind k p → 0 < length p
 piece_some k [] h = absurd (kind_not_empty k h)
 piece_some k (b ∷ p) h = omega arith
 
 cut_count : (before : List ℕ) (ps : List (List ℕ)) (rest : List ℕ) (ts : List Token) → AreCut before ps rest ts
-    → length ts ≤ length (joined ps rest)
+    → length ts ≤ length (joined_pieces ps rest)
 cut_count before [] rest ts h = let n : length ts ≡ 0 = ap length h in omega (arith, n)
 cut_count before (p ∷ ps) rest ts (inl h) =
-    let n : length (p ++ joined ps rest) ≡ length p + length (joined ps rest) = length-append p (joined ps rest) in
+    let n : length (p ++ joined_pieces ps rest) ≡ length p + length (joined_pieces ps rest) =
+    length-append p (joined_pieces ps rest) in
     let l = cut_count (before ++ p) ps rest ts h.1 in
     omega (arith, n, l)
 cut_count before (p ∷ ps) rest ts (inr h) =
-    let n : length (p ++ joined ps rest) ≡ length p + length (joined ps rest) = length-append p (joined ps rest) in
+    let n : length (p ++ joined_pieces ps rest) ≡ length p + length (joined_pieces ps rest) =
+    length-append p (joined_pieces ps rest) in
     let l = cut_count (before ++ p) ps rest h.1 h.4 in
     let m : length ts ≡ suc (length h.1) = ap length h.2 in
     let s = piece_some h.0.kind p h.3.of_kind.of_kind in
@@ -139,7 +141,7 @@ pub front_of : (bytes : List ℕ) (all found : List Token) (end : Token) → Are
 front_of bytes all found end h e =
     let same = snoc_front found h.found end (end_of_text bytes) (sym e ∙ h.all) in
     let l = cut_count [] h.pieces [] h.found h.cut in
-    let n : length (joined h.pieces []) ≡ length bytes = sym (ap length h.whole) in
+    let n : length (joined_pieces h.pieces []) ≡ length bytes = sym (ap length h.whole) in
     let m : length found ≡ length h.found = ap length same.0 in
     record {
       spelled = subst (AreSpelled bytes) (sym same.0) (cut_spelled bytes [] h.pieces [] h.found h.whole h.cut);
@@ -157,7 +159,7 @@ all_some bytes all h e = no h.found (sym h.all ∙ e)
 -- Numbering
 
 pub numbered_push : (bytes : List ℕ) (ls : Tokens) (l : Lexeme) (old mid new : List (List ℕ))
-    → AreNumbered bytes old ls mid → IsNumbered bytes mid l new → AreNumbered bytes old (ls ++ l ∷ []) new
+    → AreNamesNumbered bytes old ls mid → IsNumbered bytes mid l new → AreNamesNumbered bytes old (ls ++ l ∷ []) new
 numbered_push bytes [] l old mid new h n = (new, subst (λ (t : List (List ℕ)). IsNumbered bytes t l new) h n, refl)
 numbered_push bytes (x ∷ ls) l old mid new h n = (h.0, h.1, numbered_push bytes ls l h.0 mid new h.2 n)
 
@@ -181,7 +183,7 @@ map_push (x ∷ ls) l = ap (λ (ts : List Token). token_of x ∷ ts) (map_push l
 pub record Numbering (bytes : List ℕ) (start names : List (List ℕ)) (tokens rest : List Token) (ls : Tokens) : Type
     0 where
   pub done : map token_of ls ++ rest ≡ tokens
-  pub numbers : AreNumbered bytes start ls names
+  pub numbers : AreNamesNumbered bytes start ls names
   pub spelled : AreSpelled bytes rest
   pub room : length names + length rest < 2 ^ 32
 
@@ -189,7 +191,7 @@ pub numbering_start : (bytes : List ℕ) (names : List (List ℕ)) (tokens : Lis
     → AreSpelled bytes tokens → length names + length tokens < 2 ^ 32 → Numbering bytes names names tokens tokens ls
 numbering_start bytes names tokens ls e s r = record {
   done = ap (λ (xs : Tokens). map token_of xs ++ tokens) e;
-  numbers = subst (λ (xs : Tokens). AreNumbered bytes names xs names) (sym e) refl;
+  numbers = subst (λ (xs : Tokens). AreNamesNumbered bytes names xs names) (sym e) refl;
   spelled = s;
   room = r;
 }
@@ -207,7 +209,7 @@ numbering_next bytes start names names' tokens rest more ls ls' t id n e h p =
           ∙ ap (λ (xs : List Token). xs ++ more) (map_push ls (lexeme_of t id))
           ∙ append_assoc (map token_of ls) (t ∷ []) more ∙ ap (λ (xs : List Token). map token_of ls ++ xs) (sym e.0)
           ∙ n.done;
-      numbers = subst (λ (xs : Tokens). AreNumbered bytes start xs names') (sym p)
+      numbers = subst (λ (xs : Tokens). AreNamesNumbered bytes start xs names') (sym p)
           (numbered_push bytes ls (lexeme_of t id) start names names' n.numbers h);
       spelled = (subst (AreSpelled bytes) e.0 n.spelled).1;
       room = omega (arith, c, l, r);
@@ -249,7 +251,7 @@ no_length (x ∷ xs) e = absurd (omega (arith, e))
 
 pub numbering_done : (bytes : List ℕ) (start names : List (List ℕ)) (tokens rest : List Token) (ls : Tokens)
     → Numbering bytes start names tokens rest ls → length rest ≡ 0
-    → (map token_of ls ≡ tokens) × AreNumbered bytes start ls names
+    → (map token_of ls ≡ tokens) × AreNamesNumbered bytes start ls names
 numbering_done bytes start names tokens rest ls n e = (
   sym (append-nil (map token_of ls)) ∙ ap (λ (xs : List Token). map token_of ls ++ xs) (sym (no_length rest e))
       ∙ n.done,
@@ -257,14 +259,14 @@ numbering_done bytes start names tokens rest ls n e = (
 )
 
 pub lexemes_made : (bytes : List ℕ) (all found : List Token) (end : Token) (ls : Tokens) (old names : List (List ℕ))
-    → AreTokens bytes all → all ≡ found ++ end ∷ [] → (map token_of ls ≡ found) × AreNumbered bytes old ls names
+    → AreTokens bytes all → all ≡ found ++ end ∷ [] → (map token_of ls ≡ found) × AreNamesNumbered bytes old ls names
     → old ≡ [] → AreLexemes bytes ls names end.at
 lexemes_made bytes all found end ls old names h e n o =
     let f = front_of bytes all found end h e in
     record {
       tokens = subst (AreTokens bytes) (e ∙ ap (λ (xs : List Token). xs ++ end ∷ []) (sym n.0)
           ∙ ap (λ (t : Token). map token_of ls ++ t ∷ []) f.last) h;
-      names_are = subst (λ (t : List (List ℕ)). AreNumbered bytes t ls names) o n.1;
+      names_are = subst (λ (t : List (List ℕ)). AreNamesNumbered bytes t ls names) o n.1;
       end_is = ap (λ (t : Token). t.at) f.last;
     }
 
@@ -315,7 +317,8 @@ one_number bytes old new new' l m d e (other k f z) (other k' f' z') =
     record { same = same_lexeme l m e (z ∙ sym z'); table = f ∙ sym f'; different = subst AreDifferent (sym f) d }
 
 one_numbering : (bytes : List ℕ) (ls ms : Tokens) (old new new' : List (List ℕ)) → AreDifferent old
-    → map token_of ls ≡ map token_of ms → AreNumbered bytes old ls new → AreNumbered bytes old ms new' → ls ≡ ms
+    → map token_of ls ≡ map token_of ms → AreNamesNumbered bytes old ls new → AreNamesNumbered bytes old ms new'
+    → ls ≡ ms
 one_numbering bytes [] [] old new new' d e h k = refl
 one_numbering bytes [] (m ∷ ms) old new new' d e h k = absurd (cc)
 one_numbering bytes (l ∷ ls) [] old new new' d e h k = absurd (cc)
@@ -324,7 +327,7 @@ one_numbering bytes (l ∷ ls) (m ∷ ms) old new new' d e h k =
     let rest : map token_of ls ≡ map token_of ms = cc in
     let s = one_number bytes old h.0 k.0 l m d first h.1 k.1 in
     let more = one_numbering bytes ls ms h.0 new new' s.different rest h.2
-    (subst (λ (t : List (List ℕ)). AreNumbered bytes t ms new') (sym s.table) k.2) in
+    (subst (λ (t : List (List ℕ)). AreNamesNumbered bytes t ms new') (sym s.table) k.2) in
     ap (λ (x : Lexeme). x ∷ ls) s.same ∙ ap (λ (xs : Tokens). m ∷ xs) more
 
 none_different : AreDifferent {A = List ℕ} []

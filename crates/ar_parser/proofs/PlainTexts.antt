@@ -6,7 +6,7 @@ use Rattle.std.proofs.lemmas.List.{append_cancel_right}
 use Rattle.std.proofs.lemmas.List.Quantifiers.{position-Some}
 use Rattle.ar_lexer.specs.declared.token.Token.{Token}
 use Rattle.ar_lexer.specs.declared.token.TokenKind.{TokenKind}
-use Rattle.ar_lexer.specs.Spelling.{signs, place_in, IsOfKind}
+use Rattle.ar_lexer.specs.Spelling.{signs, place_in, IsTextOfKind}
 use Rattle.ar_lexer.specs.Tokens.{AreCut, AreTokens, end_of_text}
 use Rattle.ar_grammar.specs.Words.{Tokens}
 use Rattle.ar_parser.specs.Models.{token_of}
@@ -27,7 +27,7 @@ plain_cut (piece ∷ pieces) before' rest ts (l ∷ ls) (inr h) e =
     let q : token_of l ∷ map token_of ls ≡ h.0 ∷ h.1 = e ∙ h.2 in
     let same : token_of l ≡ h.0 = cc in
     let more : map token_of ls ≡ h.1 = cc in (
-      λ k. no_sign piece (subst (λ (j : TokenKind). IsOfKind j piece) (sym (ap (λ (t : Token). t.kind) same) ∙ k)
+      λ k. no_sign piece (subst (λ (j : TokenKind). IsTextOfKind j piece) (sym (ap (λ (t : Token). t.kind) same) ∙ k)
           h.3.of_kind.of_kind),
       plain_cut pieces (before' ++ piece) rest h.1 ls h.4 more,
     )
@@ -39,7 +39,7 @@ plain_tokens bytes ls a = plain_cut a.pieces [] [] a.found ls a.cut
 
 -- Nor has a whole number a sign.
 
-no_sign_kind : (n : ℤ) (piece : List ℕ) → IsOfKind (Whole n) piece → pos 0 ≤ℤ n
+no_sign_kind : (n : ℤ) (piece : List ℕ) → IsTextOfKind (Whole n) piece → pos 0 ≤ℤ n
 no_sign_kind n piece h = subst (λ (z : ℤ). pos 0 ≤ℤ z) (sym h.2) (omega (arith, ints))
 
 unsigned_cut : (pieces : List (List ℕ)) (before' rest : List ℕ) (ts : List Token) (ls : Tokens)
@@ -52,7 +52,7 @@ unsigned_cut (piece ∷ pieces) before' rest ts (l ∷ ls) (inr h) e =
     let q : token_of l ∷ map token_of ls ≡ h.0 ∷ h.1 = e ∙ h.2 in
     let same : token_of l ≡ h.0 = cc in
     let more : map token_of ls ≡ h.1 = cc in (
-      λ n k. no_sign_kind n piece (subst (λ (j : TokenKind). IsOfKind j piece)
+      λ n k. no_sign_kind n piece (subst (λ (j : TokenKind). IsTextOfKind j piece)
           (sym (ap (λ (t : Token). t.kind) same) ∙ k) h.3.of_kind.of_kind),
       unsigned_cut pieces (before' ++ piece) rest h.1 ls h.4 more,
     )

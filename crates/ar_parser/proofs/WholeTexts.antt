@@ -8,11 +8,11 @@ use Rattle.ar_parser.specs.declared.fault.ParseFault.{ParseFault}
 use Rattle.ar_parser.specs.declared.fault.ParseFault.TheVariants.{Lex, Syntax, Depth, Memory}
 use Rattle.ar_grammar.specs.declared.lexeme.Refusal.{Refusal}
 use Rattle.ar_grammar.specs.declared.lexeme.Refusal.TheVariants as refusal
-use Rattle.ar_grammar.specs.Words.{Tokens, Has, place_at}
+use Rattle.ar_grammar.specs.Words.{Tokens, ReadsSome, place_at}
 use Rattle.ar_grammar.specs.Texts.{IsSyntaxAt, IsDepthAt}
 use Rattle.ar_parser.specs.Names.{told}
-use Rattle.ar_parser.specs.Models.{AreLexemes, HasFaultAt, ReadsWithin, Reaches, IsRefusedAt, SyntaxStandsAt, DepthStandsAt}
-use Rattle.ar_grammar.specs.Items.{AreItems}
+use Rattle.ar_parser.specs.Models.{AreLexemes, HasFaultAt, ReadsWithin, EndsWithin, IsRefusedAt, SyntaxStandsAt, DepthStandsAt}
+use Rattle.ar_grammar.specs.Items.{ReadsItems}
 use Rattle.ar_grammar.specs.Results.{Gets, Plain, AreUnsigned, IsRefusedAs}
 use Rattle.ar_parser.proofs.NameLemmas.{one_lexing, no_fault_there, one_fault_place}
 use Rattle.ar_parser.proofs.PlainTexts.{plain_tokens, unsigned_tokens}
@@ -43,9 +43,9 @@ pub lex_faulty : {A : Type 0} (bytes : List ℕ) (r : Result A ParseFault) (e : 
 lex_faulty bytes (Ok x) e h f at fault = elim h [ ]
 lex_faulty bytes (Err x) e h f at fault = λ m. let w = f (λ q. m (h ∙ q)) in h ∙ w.1 ∙ ap Lex (one_fault_place bytes w.0 at w.2 fault)
 
-reaches_as : (A : Type 0) (left n : ℕ) (x e : ParseFault) → x ≡ e → Reaches {A = A} left n (Err e)
-    → Reaches {A = A} left n (Err x)
-reaches_as A left n x e h a = subst (λ (f : ParseFault). Reaches {A = A} left n (Err f)) (sym h) a
+reaches_as : (A : Type 0) (left n : ℕ) (x e : ParseFault) → x ≡ e → EndsWithin {A = A} left n (Err e)
+    → EndsWithin {A = A} left n (Err x)
+reaches_as A left n x e h a = subst (λ (f : ParseFault). EndsWithin {A = A} left n (Err f)) (sym h) a
 
 -- where a text has tokens there is no other fault than memory
 lex_lexed : (bytes : List ℕ) (x e : ParseFault) (ls : Tokens) (names : List (List ℕ)) (end : Place) → x ≡ e
@@ -54,7 +54,7 @@ lex_lexed bytes x e ls names end h f a m = let w = f (λ q. m (h ∙ q)) in no_f
 
 pub lex_reaches : {A : Type 0} (bytes : List ℕ) (left : ℕ) (r : Result A ParseFault) (e : ParseFault)
     → IsErrAnd r (λ x. x ≡ e) → IsToldOf bytes e → (n : ℕ) (model : Model) → ReadsWithin n bytes model
-    → Reaches left n r
+    → EndsWithin left n r
 lex_reaches bytes left (Ok x) e h f n model m = tt
 lex_reaches bytes left (Err Memory) e h f n model m = tt
 lex_reaches bytes left (Err (Lex at)) e h f n model m =
@@ -86,15 +86,15 @@ lex_unplaced bytes P (Err x) e want h f at s =
 
 -- the tokens of a text have the text's items
 pub its_items : (bytes : List ℕ) (ls ts : Tokens) (names : List (List ℕ)) (end : Place) (n : ℕ) (model : Model)
-    → ts ≡ ls → AreLexemes bytes ls names end → ReadsWithin n bytes model → Has (AreItems n) End ts
+    → ts ≡ ls → AreLexemes bytes ls names end → ReadsWithin n bytes model → ReadsSome (ReadsItems n) End ts
 its_items bytes ls ts names end n model e l m = (
   model.items.items,
-  subst (λ (xs : Tokens). AreItems n model.items.items End xs)
+  subst (λ (xs : Tokens). ReadsItems n model.items.items End xs)
       (one_lexing bytes m.lexemes ls model.names names model.end end m.are l ∙ sym e) m.items,
 )
 
 pub told_reaches : (A B : Type 0) (left n : ℕ) (e : Refusal) (at : Place) (x : ParseFault)
-    → x ≡ told e at → Gets {A = A} left n (Err e) → Reaches {A = B} left n (Err x)
+    → x ≡ told e at → Gets {A = A} left n (Err e) → EndsWithin {A = B} left n (Err x)
 told_reaches A B left n refusal.Syntax at x h a = elim a [ ]
 told_reaches A B left n refusal.Depth at x h a = reaches_as B left n x (Depth at) h a
 told_reaches A B left n refusal.Memory at x h a = reaches_as B left n x Memory h tt
@@ -136,9 +136,9 @@ at_limit e old new q r = subst (λ (l : ℕ). IsRefusedAs l e old new) q r
 pub gets_at_limit : {A : Type 0} {limit n : ℕ} (m : ℕ) (r : Result A Refusal) → limit ≡ n → Gets limit m r → Gets n m r
 gets_at_limit m r q g = subst (λ (l : ℕ). Gets l m r) q g
 
-pub items_at_limit : {limit n : ℕ} (xs : List Item) (ts : Tokens) → limit ≡ n → AreItems limit xs End ts
-    → AreItems n xs End ts
-items_at_limit xs ts q h = subst (λ (l : ℕ). AreItems l xs End ts) q h
+pub items_at_limit : {limit n : ℕ} (xs : List Item) (ts : Tokens) → limit ≡ n → ReadsItems limit xs End ts
+    → ReadsItems n xs End ts
+items_at_limit xs ts q h = subst (λ (l : ℕ). ReadsItems l xs End ts) q h
 
 module _ (n : ℕ) (bytes : List ℕ) (at : Place) (ts rest : Tokens) (k : Stopped bytes at ts rest) where
   refused_at : {P : Tokens → Tokens → Type 0} (place : Place) (front : Tokens) → place ≡ at → ts ≡ front ++ rest
@@ -205,15 +205,15 @@ module _ (n : ℕ) (bytes : List ℕ) (at : Place) (ts rest : Tokens) (k : Stopp
   depth_told refusal.Memory x h r place s m = absurd (m h)
 
   -- and not where it is read
-  read_refused : {P : Tokens → Tokens → Type 0} (xs : List Item) → AreItems n xs End ts → (place : Place)
+  read_refused : {P : Tokens → Tokens → Type 0} (xs : List Item) → ReadsItems n xs End ts → (place : Place)
       → (s : IsRefusedAt P bytes place) → IsRefusal n s.front s.rest → ⊥
   read_refused xs h place s r = text_stands n ts s.front s.rest plain_given
       (turns_items n n (omega arith) xs End End ts h) (same_tokens place s) r
 
-  pub read_no_syntax : (xs : List Item) → AreItems n xs End ts → (place : Place)
+  pub read_no_syntax : (xs : List Item) → ReadsItems n xs End ts → (place : Place)
       → IsRefusedAt (IsSyntaxAt n) bytes place → ⊥
   read_no_syntax xs h place s = read_refused xs h place s (inl s.told)
 
-  pub read_no_depth : (xs : List Item) → AreItems n xs End ts → (place : Place) → IsRefusedAt (IsDepthAt n) bytes place
-      → ⊥
+  pub read_no_depth : (xs : List Item) → ReadsItems n xs End ts → (place : Place) → IsRefusedAt (IsDepthAt n) bytes
+      place → ⊥
   read_no_depth xs h place s = read_refused xs h place s (inr s.told)

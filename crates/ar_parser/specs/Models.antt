@@ -13,7 +13,7 @@ use Rattle.ar_lexer.specs.Tokens.{AreTokens, IsFirstFault, end_of_text, place_af
 use Rattle.ar_syntax.specs.declared.items.Model.{Model}
 use Rattle.ar_grammar.specs.declared.lexeme.Lexeme.{Lexeme}
 use Rattle.ar_grammar.specs.Words.{Tokens, place_at}
-use Rattle.ar_grammar.specs.Items.{AreItems}
+use Rattle.ar_grammar.specs.Items.{ReadsItems}
 use Rattle.ar_grammar.specs.Texts.{IsSyntaxAt, IsDepthAt}
 use Rattle.ar_parser.specs.declared.fault.ParseFault.{ParseFault}
 use Rattle.ar_parser.specs.declared.fault.ParseFault.TheVariants as fault
@@ -35,15 +35,16 @@ pub data IsNumbered (bytes : List ℕ) (old : List (List ℕ)) (l : Lexeme) (new
 
 -- The table `new` is `old` with the texts of the names, in the order of their first use, and each name's number stands
 -- for its text.
-abbrev pub AreNumbered : List ℕ → List (List ℕ) → Tokens → List (List ℕ) → Type 0
-AreNumbered bytes old [] new = new ≡ old
-AreNumbered bytes old (l ∷ ls) new = (mid : List (List ℕ)) × IsNumbered bytes old l mid × AreNumbered bytes mid ls new
+abbrev pub AreNamesNumbered : List ℕ → List (List ℕ) → Tokens → List (List ℕ) → Type 0
+AreNamesNumbered bytes old [] new = new ≡ old
+AreNamesNumbered bytes old (l ∷ ls) new = (mid : List (List ℕ)) × IsNumbered bytes old l mid × AreNamesNumbered bytes
+    mid ls new
 
 -- The tokens of the text but for its end, with the numbers of their names, the table of these, and the place behind the
 -- text.
 pub record AreLexemes (bytes : List ℕ) (ls : Tokens) (names : List (List ℕ)) (end : Place) : Type 0 where
   pub tokens : AreTokens bytes (map token_of ls ++ end_of_text bytes ∷ [])
-  pub names_are : AreNumbered bytes [] ls names
+  pub names_are : AreNamesNumbered bytes [] ls names
   pub end_is : end ≡ place_after bytes
 
 abbrev pub IsPlaceOf : LexFault → Place → Type 0
@@ -62,7 +63,7 @@ pub record HasFaultAt (bytes : List ℕ) (at : Place) : Type 0 where
 pub record ReadsWithin (n : ℕ) (bytes : List ℕ) (model : Model) : Type 0 where
   pub lexemes : Tokens
   pub are : AreLexemes bytes lexemes model.names model.end
-  pub items : AreItems n model.items.items End lexemes
+  pub items : ReadsItems n model.items.items End lexemes
 
 -- A text is read as this tree.
 abbrev pub Reads : List ℕ → Model → Type 0
@@ -70,12 +71,12 @@ Reads bytes model = ReadsWithin (limit_of Nesting) bytes model
 
 -- How a call with room for `left` open productions may end where the text has a tree of nesting n: well, or by want of
 -- room or of memory.
-abbrev pub Reaches : {A : Type 0} → ℕ → ℕ → Result A ParseFault → Type 0
-Reaches left n (Ok x) = Unit {0}
-Reaches left n (Err (fault.Lex at)) = ⊥
-Reaches left n (Err (fault.Syntax at)) = ⊥
-Reaches left n (Err (fault.Depth at)) = left < n
-Reaches left n (Err fault.Memory) = Unit {0}
+abbrev pub EndsWithin : {A : Type 0} → ℕ → ℕ → Result A ParseFault → Type 0
+EndsWithin left n (Ok x) = Unit {0}
+EndsWithin left n (Err (fault.Lex at)) = ⊥
+EndsWithin left n (Err (fault.Syntax at)) = ⊥
+EndsWithin left n (Err (fault.Depth at)) = left < n
+EndsWithin left n (Err fault.Memory) = Unit {0}
 
 -- A text is refused at the token that stands here: P tells how, of the tokens before it and of those from it on.
 pub record IsRefusedAt (P : Tokens → Tokens → Type 0) (bytes : List ℕ) (at : Place) : Type 0 where

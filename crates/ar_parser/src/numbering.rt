@@ -5,7 +5,7 @@ ghost use Rattle.ar_base.specs.Counts.{limit_of};
 ghost use Rattle.ar_base.specs.declared.counts.Count.TheVariants.{ModelBytes};
 ghost use Rattle.ar_lexer.specs.declared.token.TokenKind.TheVariants.{Name};
 ghost use Rattle.ar_parser.specs.declared.fault.ParseFault.TheVariants.{Lex, Memory};
-ghost use Rattle.ar_parser.specs.Models.{token_of, IsNumbered, AreNumbered, AreLexemes, HasFaultAt};
+ghost use Rattle.ar_parser.specs.Models.{token_of, IsNumbered, AreNamesNumbered, AreLexemes, HasFaultAt};
 ghost use Rattle.ar_parser.specs.Names.{IsSpelled, AreSpelled, lexeme_of, fault_of};
 
 use crate::fault::ParseFault;
@@ -51,7 +51,7 @@ fn numbered(
     requires spelled { AreSpelled text.now (reverse left.items) }
     requires room { length names.old + length (reverse left.items) < 2 ^ 32 }
     ensures found { IfOk result (λ ls. (map token_of ls.items ≡ reverse left.items)
-        × AreNumbered text.now names.old ls.items names.new) }
+        × AreNamesNumbered text.now names.old ls.items names.new) }
     ensures fault { IfErr result (λ e. e ≡ Memory) }
 {
     let mut lexemes = Vec::new(alloc);

@@ -4,7 +4,7 @@ ghost use Rattle.std.specs.Prelude.{◌≡◌, ◌≢◌, ◌≤◌, ℕ, length
 ghost use Rattle.ar_base.specs.Counts.{limit_of};
 ghost use Rattle.ar_base.specs.declared.counts.Count.TheVariants.{ModelBytes, Nesting};
 ghost use Rattle.ar_parser.specs.declared.fault.ParseFault.TheVariants.{Lex, Syntax, Depth, Memory};
-ghost use Rattle.ar_parser.specs.Models.{HasFaultAt, ReadsWithin, Reads, Reaches, SyntaxStandsAt, DepthStandsAt};
+ghost use Rattle.ar_parser.specs.Models.{HasFaultAt, ReadsWithin, Reads, EndsWithin, SyntaxStandsAt, DepthStandsAt};
 
 use crate::fault::{ParseFault, refused_at};
 use crate::numbering::lexemes;
@@ -29,7 +29,7 @@ pub fn parse(alloc: Global, text: &[u8]) -> Result<Model, ParseFault>
 
     // A text that has a reading of any nesting is read, or refused for want of memory or, where the nesting is above the limit, of room.
     ensures only { (n : ℕ) (model : _) → ReadsWithin n text.now model
-        → Reaches (limit_of Nesting) n result }
+        → EndsWithin (limit_of Nesting) n result }
 
     // A text is refused at the first token that no text of the grammar goes on with, and only there.
     ensures syntax { IfErr result (λ e. (at : _) → e ≡ Syntax at → SyntaxStandsAt text.now at) }

@@ -4,7 +4,7 @@ use Rattle.std.proofs.lemmas.List.{append_cancel_left, length-append}
 use Rattle.ar_base.specs.Lists.{IsOneOf}
 use Rattle.ar_base.proofs.Standing.{one_first, one_rest, one_right, one_split, one_cases, one_none}
 use Rattle.eq_core.specs.Gates.{Operand, Gate}
-use Rattle.aralia_text.specs.Texts.{operand_text, joint_text, more_text, operands_text, name_text, gate_line}
+use Rattle.aralia_text.specs.Texts.{operand_text, joint_text, more_text, operands_text, gate_name, gate_line}
 use Rattle.aralia_text.specs.Fronts.{Stops, IsAny, BeginAlike, begins_with, IsRead, AreBegun, part, IsStuck, IsStuckIn, IsOperandAt, HasOperand, IsJoint, next_text, IsGateAt, header_text, operands_line}
 use Rattle.aralia_text.proofs.Stuck.{alike_behind, alike_first, Inside, stuck_behind, stuck_here}
 
@@ -443,7 +443,7 @@ module _ (gates : ℕ) (events : List (List ℕ)) where
 
     module _ (n : ℕ) where
       line_is : (gate : Gate) → gate_line events n gate ≡ header_text n ++ operands_line events gate
-      line_is gate = sym (append_assoc (name_text n) (codes " := ") (operands_line events gate))
+      line_is gate = sym (append_assoc (gate_name n) (codes " := ") (operands_line events gate))
 
       line_cut : (gate : Gate) (back : List ℕ)
           → gate_line events n gate ++ back ≡ header_text n ++ (operands_line events gate ++ back)

@@ -9,7 +9,7 @@ use Rattle.std.proofs.lemmas.Str.{digit_value_digit}
 use Rattle.std.proofs.lemmas.Str.Parse.{digit_at, digits_value-take-le}
 use Rattle.std.proofs.lemmas.Int.Digits.{digits_value_more}
 use Rattle.aralia_text.specs.Readings.{IsPath}
-use Rattle.aralia_text.specs.Texts.{name_text}
+use Rattle.aralia_text.specs.Texts.{gate_name}
 use Rattle.aralia_text.specs.Fronts.{Stops, BeginAlike, IsRead, AreBegun, none, part, IsStuck, IsStuckIn, IsBelowGate, IsNumberWith, AreDigits}
 use Rattle.aralia_text.proofs.Runs.{path_unique, path_byte, number_passes}
 use Rattle.aralia_text.proofs.Stuck.{alike_stops, stops_alike, alike_head, Compared, shorter, same, longer, compared, no_prefix, prefixed_stuck, prefixed_read}
@@ -216,23 +216,23 @@ module _ (gates : ℕ) (few : gates < 2 ^ 32) (rest : List ℕ) (value n : ℕ) 
 -- `g` and the number
 
 pub no_mark : (gates : ℕ) (rest : List ℕ) (n : ℕ) → 0 < gates → IsStuckIn (codes "g") rest n
-    → IsStuck (IsBelowGate gates) name_text Stops rest n
+    → IsStuck (IsBelowGate gates) gate_name Stops rest n
 no_mark gates rest n some k = no_prefix (IsBelowGate gates) number_text Stops (codes "g") rest 0 some n k
 
 module _ (gates : ℕ) (rest behind left : List ℕ) (value n : ℕ) (begun : rest ≡ codes "g" ++ behind)
     (few : gates < 2 ^ 32) where
   pub stuck_at : 0 < gates → AreDigits gates behind value n → left ≡ drop n behind → (n ≡ 0) ⊎ (Stops left → ⊥)
-      → IsStuck (IsBelowGate gates) name_text Stops rest (length left)
+      → IsStuck (IsBelowGate gates) gate_name Stops rest (length left)
   stuck_at some digits is out =
-      subst (λ (z : List ℕ). IsStuck (IsBelowGate gates) name_text Stops rest (length z)) (sym is)
+      subst (λ (z : List ℕ). IsStuck (IsBelowGate gates) gate_name Stops rest (length z)) (sym is)
       (prefixed_stuck (IsBelowGate gates) number_text Stops (codes "g") rest behind begun 0 some
       (length (drop n behind)) (number_stuck gates few behind value n digits
       (subst (λ (z : List ℕ). (n ≡ 0) ⊎ (Stops z → ⊥)) is out)))
 
   pub read_at : AreDigits gates behind value n → left ≡ drop n behind → 0 < n → Stops left → (m : ℕ) → m ≡ value - 1
-      → IsRead (IsBelowGate gates) name_text Stops rest m left
+      → IsRead (IsBelowGate gates) gate_name Stops rest m left
   read_at digits is some ends m new =
-      subst (λ (z : List ℕ). IsRead (IsBelowGate gates) name_text Stops rest m z) (sym is)
-      (subst (λ (z : ℕ). IsRead (IsBelowGate gates) name_text Stops rest z (drop n behind)) (sym new)
+      subst (λ (z : List ℕ). IsRead (IsBelowGate gates) gate_name Stops rest m z) (sym is)
+      (subst (λ (z : ℕ). IsRead (IsBelowGate gates) gate_name Stops rest z (drop n behind)) (sym new)
       (prefixed_read (IsBelowGate gates) number_text Stops (codes "g") rest behind begun (value - 1) (drop n behind)
       (number_read gates few behind value n digits some (subst Stops is ends))))

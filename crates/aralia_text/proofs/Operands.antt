@@ -4,7 +4,7 @@ use Rattle.std.proofs.lemmas.Bool.{eqb-true}
 use Rattle.std.proofs.lemmas.List.{length-take-le}
 use Rattle.ar_base.specs.Texts.{text_at}
 use Rattle.eq_core.specs.Gates.{Operand, Always, Never, EventIs, GateIs}
-use Rattle.aralia_text.specs.Texts.{sign_text, operand_text, name_text}
+use Rattle.aralia_text.specs.Texts.{sign_text, operand_text, gate_name}
 use Rattle.aralia_text.specs.Fronts.{Stops, BeginAlike, begins_with, IsRead, AreBegun, none, part, IsStuck, IsStuckIn, IsAny, IsPathOf, event_text, IsEventPart, IsBelowGate, IsOperandAt, HasOperand, HasNoMinus}
 use Rattle.aralia_text.proofs.Stuck.{alike_first, alike_behind, Inside, stuck_behind, not_stuck}
 
@@ -60,7 +60,7 @@ sign_same rest named other false false c more is h alike e =
 pub data Behind (gates : ℕ) (events : List (List ℕ)) (s : Bool) (other back : List ℕ) (o : Operand) : Type 0 where
   event : (e : ℕ) → o ≡ EventIs e s → IsPathOf events e → other ≡ event_text events e ++ back
       → Behind gates events s other back o
-  gate : (g : ℕ) → o ≡ GateIs g s → g < gates → other ≡ name_text g ++ back → Behind gates events s other back o
+  gate : (g : ℕ) → o ≡ GateIs g s → g < gates → other ≡ gate_name g ++ back → Behind gates events s other back o
 
 module _ (gates : ℕ) (events : List (List ℕ)) (rest named : List ℕ) (s : Bool) (cut : IsSigned rest named s) where
   behind : (o : Operand) (back other : List ℕ) → IsOperandAt gates events o → BeginAlike named other
@@ -76,7 +76,7 @@ module _ (gates : ℕ) (events : List (List ℕ)) (rest named : List ℕ) (s : B
       (e ∙ append_assoc (sign_text t) (103 ∷ decimal (n + 1)) back) in
       gate n (ap (λ (z : Bool). GateIs n z) one.0) is.earlier one.1
 
-  event_not_gate : (e g : ℕ) (other back : List ℕ) → event_text events e ++ other ≡ name_text g ++ back → ⊥
+  event_not_gate : (e g : ℕ) (other back : List ℕ) → event_text events e ++ other ≡ gate_name g ++ back → ⊥
   event_not_gate e g other back i =
       let both : ◌≡◌ {A = List ℕ} (101 ∷ 46 ∷ (text_at events e ++ other)) (103 ∷ (decimal (g + 1) ++ back)) = i in
       let head : ◌≡◌ {A = ℕ} 101 103 = cc in
@@ -101,22 +101,22 @@ module _ (gates : ℕ) (events : List (List ℕ)) (rest named : List ℕ) (s : B
       by o back other stop alike (event k is p f) = let both = r.only k back other p stop alike f in (is ∙ ap (λ (z : ℕ). EventIs z s) both.0, both.1)
       by o back other stop alike (gate k is p f) = absurd (event_not_gate n k other back f)
 
-  pub gate_read : (n : ℕ) (left : List ℕ) → IsRead (IsBelowGate gates) name_text Stops named n left
+  pub gate_read : (n : ℕ) (left : List ℕ) → IsRead (IsBelowGate gates) gate_name Stops named n left
       → IsRead (IsOperandAt gates events) (operand_text events) Stops rest (GateIs n s) left
   gate_read n left r = record {
     sought = record { earlier = r.sought; named = tt };
     joined = cut.joined ∙ ap (λ (z : List ℕ). sign_text s ++ z) r.joined
-        ∙ sym (append_assoc (sign_text s) (name_text n) left);
+        ∙ sym (append_assoc (sign_text s) (gate_name n) left);
     only = λ o back other is stop alike e.
         by o back other stop alike
-        (behind o back (name_text n ++ other) is
-        (subst (λ (z : List ℕ). BeginAlike z (name_text n ++ other)) (sym r.joined)
-        (alike_behind (name_text n) left other alike))
-        (sym (append_assoc (sign_text s) (name_text n) other) ∙ e));
+        (behind o back (gate_name n ++ other) is
+        (subst (λ (z : List ℕ). BeginAlike z (gate_name n ++ other)) (sym r.joined)
+        (alike_behind (gate_name n) left other alike))
+        (sym (append_assoc (sign_text s) (gate_name n) other) ∙ e));
   }
     where
       by : (o : Operand) (back other : List ℕ) → Stops back → BeginAlike left other
-          → Behind gates events s (name_text n ++ other) back o → (o ≡ GateIs n s) × (back ≡ other)
+          → Behind gates events s (gate_name n ++ other) back o → (o ≡ GateIs n s) × (back ≡ other)
       by o back other stop alike (event k is p f) = absurd (event_not_gate k n back other (sym f))
       by o back other stop alike (gate k is p f) = let both = r.only k back other p stop alike f in (is ∙ ap (λ (z : ℕ). GateIs z s) both.0, both.1)
 
@@ -132,7 +132,7 @@ module _ (gates : ℕ) (events : List (List ℕ)) (rest named : List ℕ) (s : B
       by Never is = absurd is.earlier
       by (EventIs e t) is = part (EventIs e false) (event_text events e) (record { earlier = tt; named = is.named })
           refl
-      by (GateIs g t) is = part (GateIs g false) (name_text g) (record { earlier = is.earlier; named = tt }) refl
+      by (GateIs g t) is = part (GateIs g false) (gate_name g) (record { earlier = is.earlier; named = tt }) refl
 
   module _ (some : HasOperand gates events) (n : ℕ) where
     pub event_stuck : begins_with 103 named ≡ false → IsStuck (IsPathOf events) (event_text events) Stops named n
@@ -157,22 +157,22 @@ module _ (gates : ℕ) (events : List (List ℕ)) (rest named : List ℕ) (s : B
             let here : begins_with 103 other ≡ false = alike_first 103 named other alike ∙ no_gate in
             absurd (true≢false (sym (ap (begins_with 103) f) ∙ here))
 
-    pub gate_stuck : begins_with 103 named ≡ true → IsStuck (IsBelowGate gates) name_text Stops named n
+    pub gate_stuck : begins_with 103 named ≡ true → IsStuck (IsBelowGate gates) gate_name Stops named n
         → IsStuck (IsOperandAt gates events) (operand_text events) Stops rest n
     gate_stuck a_gate k =
-        stuck_behind (IsBelowGate gates) name_text Stops (IsOperandAt gates events) (operand_text events) Stops rest
+        stuck_behind (IsBelowGate gates) gate_name Stops (IsOperandAt gates events) (operand_text events) Stops rest
         (sign_text s) named n cut.joined (sign_begun s some)
         (λ a is. record {
           b = GateIs a s;
           more = [];
           sought = record { earlier = is; named = tt };
-          is = ap (λ (z : List ℕ). sign_text s ++ z) (sym (append-nil (name_text a)));
+          is = ap (λ (z : List ℕ). sign_text s ++ z) (sym (append-nil (gate_name a)));
         })
         (λ o back other is stop alike e. by o back other stop alike (behind o back other is alike e)) k
       where
         by : (o : Operand) (back other : List ℕ) → Stops back → BeginAlike named other
             → Behind gates events s other back o
-            → Inside (IsBelowGate gates) name_text Stops (IsOperandAt gates events) (operand_text events) Stops other
+            → Inside (IsBelowGate gates) gate_name Stops (IsOperandAt gates events) (operand_text events) Stops other
         by o back other stop alike (event k is p f) =
             let here : begins_with 103 other ≡ true = alike_first 103 named other alike ∙ a_gate in
             absurd (true≢false (sym here ∙ ap (begins_with 103) f))

@@ -5,7 +5,7 @@ use Rattle.ar_base.specs.Lists.{Stands, IsOneOf, AreDifferent}
 use Rattle.eq_core.specs.Gates.{Operand, Gate, Table}
 use Rattle.eq_core.specs.Ordered.{IsEarlier, AreOrdered}
 use Rattle.eq_core.specs.Values.{IsBelow}
-use Rattle.aralia_text.specs.Texts.{operand_text, joint_text, name_text, operands_text, gate_lines, last_lines, equations_text}
+use Rattle.aralia_text.specs.Texts.{operand_text, joint_text, gate_name, operands_text, gate_lines, last_lines, equations_text}
 use Rattle.aralia_text.specs.Readings as r
 
 -- What may stand behind what is sought
@@ -149,7 +149,7 @@ pub record IsGateAt (gates : ℕ) (events : List (List ℕ)) (gate : Gate) : Typ
 
 -- the name of a gate, and `:=`
 abbrev pub header_text : ℕ → List ℕ
-header_text n = name_text n ++ codes " := "
+header_text n = gate_name n ++ codes " := "
 
 -- the operands of a gate up to the end of its line
 abbrev pub operands_line : List (List ℕ) → Gate → List ℕ

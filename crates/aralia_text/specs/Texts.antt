@@ -9,15 +9,15 @@ sign_text true = []
 sign_text false = codes "-"
 
 -- a gate is named by its number, from 1
-abbrev pub name_text : ℕ → List ℕ
-name_text n = codes "g" ++ decimal (n + 1)
+abbrev pub gate_name : ℕ → List ℕ
+gate_name n = codes "g" ++ decimal (n + 1)
 
 -- an event is named by its text behind `e.`
 abbrev pub operand_text : List (List ℕ) → Operand → List ℕ
 operand_text events Always = codes "true"
 operand_text events Never = codes "false"
 operand_text events (EventIs e sign) = sign_text sign ++ (codes "e." ++ text_at events e)
-operand_text events (GateIs g sign) = sign_text sign ++ name_text g
+operand_text events (GateIs g sign) = sign_text sign ++ gate_name g
 
 -- what stands between two operands: ` & ` where all are needed, and ` | ` where one is
 abbrev pub joint_text : Bool → List ℕ
@@ -36,7 +36,7 @@ operands_text events both (o ∷ os) = operand_text events o ++ more_text events
 
 -- the line of a gate: `NAME := OPERAND & OPERAND;`
 abbrev pub gate_line : List (List ℕ) → ℕ → Gate → List ℕ
-gate_line events n gate = name_text n ++ (codes " := " ++ (operands_text events gate.both gate.operands ++ codes ";\n"))
+gate_line events n gate = gate_name n ++ (codes " := " ++ (operands_text events gate.both gate.operands ++ codes ";\n"))
 
 -- the lines of gates, the first of which has this number
 abbrev pub gate_lines : List (List ℕ) → ℕ → List Gate → List ℕ

@@ -3,7 +3,7 @@
 ghost use Rattle.std.specs.Prelude.{◌≡◌, ◌≤◌, ◌<◌, ◌++◌, codes, ℕ, true, false, length, IfOk, IfErr, IfSome, IfNone};
 ghost use Rattle.std.specs.List.{prefix_len};
 ghost use Rattle.eq_core.specs.Views.{operand_of};
-ghost use Rattle.aralia_text.specs.Texts.{sign_text, operand_text, name_text};
+ghost use Rattle.aralia_text.specs.Texts.{sign_text, operand_text, gate_name};
 ghost use Rattle.aralia_text.specs.Readings.{is_path_byte, IsPath};
 ghost use Rattle.aralia_text.specs.Fronts.{AreEvents, IsRead, IsStuck, IsStuckIn, AreCommon, IsPathOf, event_text, HasNoEvent, IsEventPart, IsBelowGate, IsNumberWith, AreDigits, IsOperandAt, HasOperand, HasNoMinus, Stops, begins_with};
 
@@ -182,9 +182,9 @@ fn goes_on(rest: &[u8]) -> bool
 // One of so many gates: `g` and its number, from 1.
 fn gate<'a>(rest: &'a [u8], gates: u32) -> Result<(GateId, &'a [u8]), Stuck>
     ensures found { IfOk result (λ r.
-        IsRead (IsBelowGate gates) name_text Stops rest.now r.0.n r.1.now) }
+        IsRead (IsBelowGate gates) gate_name Stops rest.now r.0.n r.1.now) }
     ensures stuck { IfErr result (λ stuck.
-        IsStuck (IsBelowGate gates) name_text Stops rest.now stuck.left) }
+        IsStuck (IsBelowGate gates) gate_name Stops rest.now stuck.left) }
 {
     if gates == 0 {
         return Err(Stuck { left: rest.len() });

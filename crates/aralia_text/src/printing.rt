@@ -4,7 +4,7 @@ ghost use Rattle.std.specs.Prelude.{◌≡◌, ◌<◌, ◌^◌, ◌++◌, codes
 ghost use Rattle.ar_io.specs.Writing.{Writes};
 ghost use Rattle.eq_core.specs.Gates as gates;
 ghost use Rattle.eq_core.specs.Views.{all_needed, operand_of, gate_of, table_of};
-ghost use Rattle.aralia_text.specs.Texts.{sign_text, operand_text, joint_text, operands_text, more_text, gate_line, gate_lines, name_text, last_lines, equations_text};
+ghost use Rattle.aralia_text.specs.Texts.{sign_text, operand_text, joint_text, operands_text, more_text, gate_line, gate_lines, gate_name, last_lines, equations_text};
 
 use ar_base::Text;
 use ar_io::{Sink, SinkFailed, text_at, write_count, write_text};
@@ -139,7 +139,7 @@ fn named<K: Sink>(out: &mut K, sign: bool, text: &str) -> Result<(), SinkFailed>
 
 // A gate with its sign.
 fn numbered<K: Sink>(out: &mut K, sign: bool, gate: u32) -> Result<(), SinkFailed>
-    ensures { Writes (K.state out.old) (K.state out.new) (sign_text sign ++ name_text gate) result }
+    ensures { Writes (K.state out.old) (K.state out.new) (sign_text sign ++ gate_name gate) result }
 {
     write_text(out, minus(sign))?;
     name(out, gate as usize)
@@ -155,7 +155,7 @@ fn minus(sign: bool) -> &'static str
 // The name of the gate of this number: numbers are written from 1.
 fn name<K: Sink>(out: &mut K, n: usize) -> Result<(), SinkFailed>
     requires { n < 2 ^ 63 }
-    ensures { Writes (K.state out.old) (K.state out.new) (name_text n) result }
+    ensures { Writes (K.state out.old) (K.state out.new) (gate_name n) result }
 {
     write_text(out, "g")?;
     write_count(out, n + 1)

@@ -23,9 +23,9 @@ use Rattle.class_table.specs.Declaring.{TextBody, NamedType, DomainType, ClassTy
 use Rattle.class_table.specs.Declaring.Lays_items.{none, domain, class, block}
 use Rattle.class_table.specs.Members.{type_in, type_named, domain_body, domain_named}
 use Rattle.class_table.specs.Rules.{IsNoDomain, twice, many, wide, no_domain, l1}
-use Rattle.class_table.specs.Tables.{IsDomainOf, symbols, range, Holds as HoldsDeclared}
-use Rattle.hierarchy.specs.Models.{RootedModel, IsKept}
-use Rattle.hierarchy.specs.Tie.{HasDomain, boolean, named}
+use Rattle.class_table.specs.Tables.{IsDomainOf, symbols, range, HoldsDeclared}
+use Rattle.hierarchy.specs.Models.{RootedModel, KeepsTextRules}
+use Rattle.hierarchy.specs.TypeDomains.{HasDomain, boolean, named}
 use Rattle.hierarchy.specs.declared.tree.Tree.{Tree}
 use Rattle.bind_values.specs.Typed.{IsSymbolIn}
 
@@ -68,7 +68,7 @@ domain_type (Some (DomainType c)) b e = let q : c ≡ b = cc in ap (λ (z : Doma
 domain_type (Some (ClassType n)) b e = cc
 
 -- the body of a domain keeps the rule of items
-module _ {m : RootedModel} (kept : IsKept m) where
+module _ {m : RootedModel} (kept : KeepsTextRules m) where
   body_kept : (x : ℕ) (b : DomainBody) → domain_named m.declared x ≡ Some b → IsNoDomain b → ⊥
   body_kept x b e n =
       let w = declared_by kept.rooted.declared.items x b (domain_type (type_named m.declared x) b e) in
@@ -134,7 +134,7 @@ body_right all b d (range {low = low} {high = high}) right (value.Whole n) is =
 body_right all b d range right (value.Symbol s) is = absurd is
 
 -- a domain that has a value is one, in a model that keeps the rule of items
-pub domain_kept : {m : RootedModel} → IsKept m → {type : TypeForm} {d : Domain} → HasDomain m.declared type d
+pub domain_kept : {m : RootedModel} → KeepsTextRules m → {type : TypeForm} {d : Domain} → HasDomain m.declared type d
     → (v : Value) → Holds d v → IsDomain d
 domain_kept kept boolean v is = tt
 domain_kept {m = m} kept {d = d} (named {x = x} {declared = b} e h) v is =

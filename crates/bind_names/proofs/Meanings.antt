@@ -3,7 +3,7 @@ use Rattle.std.proofs.Common.{◌≡◌, ℕ, suc, ◌+◌, List, [], ◌∷◌,
 use Rattle.ar_base.specs.Lists.{Stands, Along, none, one_and}
 use Rattle.typed_expr.specs.declared.expr.Expr.{Expr}
 use Rattle.ar_meaning.specs.Systems as s
-use Rattle.ar_meaning.specs.Expand.{Declared}
+use Rattle.ar_meaning.specs.Expand.{EventDeclaration}
 use Rattle.ar_meaning.specs.ExpandImage.{Declared_renames}
 use Rattle.ar_meaning.specs.Image.{Variable_renames, Expr_renames}
 use Rattle.gts_core.specs.Bound.{declared_from}
@@ -91,7 +91,7 @@ module _ (m : RootedModel) (units : List UnitPath) where
 
     -- what events mean, where they are numbered from n on
     pub record MeantEvents (n : ℕ) (ts : List Thing) (es : List DeclaredEvent) : Type 0 where
-      pub meanings : List (Declared (s.Transition Thing) Thing)
+      pub meanings : List (EventDeclaration (s.Transition Thing) Thing)
       pub are : Along (IsEvent m units) ts meanings
       pub numbers : Along (Declared_renames variable_number event_number) meanings (declared_from n es)
 

@@ -8,7 +8,7 @@ use Rattle.ar_base.proofs.Standing.{along_back, along_length, stands_map, stands
 use Rattle.class_table.proofs.Taken.{item_stands, map_next}
 use Rattle.hierarchy.specs.Models.{RootedModel}
 use Rattle.hierarchy.specs.Paths.{prefix, thing_path}
-use Rattle.hierarchy.specs.Tie.{IsOwner, of_unit, IsName}
+use Rattle.hierarchy.specs.Tie.{IsOwner, of_unit, IsNameOfUnit}
 use Rattle.hierarchy.specs.Units.{UnitPath}
 use Rattle.bind_names.specs.Fronts.{IsFrontOf}
 
@@ -64,7 +64,7 @@ module _ (m : RootedModel) (units : List UnitPath) where
   -- what stands before a name in a unit: the unit's path, which is that of its name in the unit above, and a dot
   pub prefix_below : (u : UnitPath) (id : UnitId) (x : NameId) (ts : List (List ℕ))
       → ((n : ℕ) (v : UnitPath) → Stands units n v → IsFrontOf m ts n v)
-      → IsOwner units u (Some id) → IsName u x → (before after t : List ℕ)
+      → IsOwner units u (Some id) → IsNameOfUnit u x → (before after t : List ℕ)
       → ((v : UnitPath) → IsFrontOf m ts id.n v → before ≡ thing_path m (record { unit = v; name = x.n }))
       → after ≡ before ++ codes "." → t ≡ after → t ≡ prefix m u
   prefix_below u id x ts fronts (of_unit {l = l} {above = above} s) name before after t path e i =

@@ -6,13 +6,13 @@ use Rattle.ar_syntax.specs.declared.members.TypeForm.{TypeForm}
 use Rattle.gts_core.specs.declared.system.Observer as flat
 use Rattle.gts_core.proofs.Numbering.{source_numbered}
 use Rattle.class_table.specs.Members.{Observer}
-use Rattle.hierarchy.specs.Models.{RootedModel, IsKept}
+use Rattle.hierarchy.specs.Models.{RootedModel, KeepsTextRules}
 use Rattle.hierarchy.specs.Units.{UnitPath, Thing, kind_at}
-use Rattle.hierarchy.specs.Walks.{Has, is_observer}
+use Rattle.hierarchy.specs.Walks.{PassesTest, is_observer}
 use Rattle.hierarchy.specs.Listing.{observers, variables}
 use Rattle.hierarchy.specs.Paths.{thing_path}
 use Rattle.hierarchy.specs.declared.tree.Tree.{Tree}
-use Rattle.source_meaning.specs.Binding as has
+use Rattle.source_meaning.specs.Numbering as has
 use Rattle.source_meaning.specs.BoundExpressions.{IsBoundExpression}
 use Rattle.source_meaning.specs.Kinds.{kind_of_type}
 use Rattle.bind_values.specs.Typed.{IsTypedIn}
@@ -20,8 +20,8 @@ use Rattle.bind_rules.proofs.Valued.{observer_has}
 use Rattle.bind_names.specs.ListBound.{IsBoundObserver}
 
 -- what is listed among the observers is one
-pub listed_observer : (m : RootedModel) (units : List UnitPath) (t : Thing) → IsKept m → IsOneOf (observers m units) t
-    → Has m is_observer t
+pub listed_observer : (m : RootedModel) (units : List UnitPath) (t : Thing) → KeepsTextRules m → IsOneOf (observers m
+    units) t → PassesTest m is_observer t
 listed_observer m units t kept o = observer_has m units kept o.place t o.stands
 
 -- the observer, by its parts

@@ -13,7 +13,7 @@ use Rattle.class_table.proofs.Answering.{kept_ok, kept_err}
 use Rattle.class_table.proofs.FirstPlaces.{earliest_same}
 use Rattle.hierarchy.specs.Models.{RootedModel}
 use Rattle.hierarchy.specs.Units.{UnitPath}
-use Rattle.source_meaning.specs.Rules.{BreaksNaming, BreaksKinds, BreaksValue, BreaksTargets, Breaks, l10, l11, l12, l13, name_rules}
+use Rattle.source_meaning.specs.Rules.{BreaksNaming, BreaksKinds, BreaksValue, BreaksTargets, BreaksNameRule, l10, l11, l12, l13, name_rules}
 use Rattle.bind_scopes.specs.Scopes.{AreScopes}
 use Rattle.bind_scopes.specs.declared.scopes.Scopes.{Scopes}
 use Rattle.bind_values.specs.Values.{AreNamesKept, AreValues, IsValued, values, outside}
@@ -35,56 +35,56 @@ rule13 = one_rest 10 _ 13 (one_rest 11 _ 13 (one_rest 12 _ 13 (one_first 13 _)))
 module _ (m : RootedModel) (units : List UnitPath) where
   -- the rules below this number are kept
   pub record KeptBelow (n : ℕ) : Type 0 where
-    pub kept : (r : ℕ) (p : Place) → r < n → Breaks m units r p → ⊥
+    pub kept : (r : ℕ) (p : Place) → r < n → BreaksNameRule m units r p → ⊥
 
   -- the tests, by their rules
-  pub naming : (f : Option Place) → IsEarliest (BreaksNaming m units) f → IsEarliest (Breaks m units 10) f
+  pub naming : (f : Option Place) → IsEarliest (BreaksNaming m units) f → IsEarliest (BreaksNameRule m units 10) f
   naming f h = earliest_same f (λ p w. l10 w) (λ p b. back p b) h
     where
-      back : (p : Place) → Breaks m units 10 p → BreaksNaming m units p
+      back : (p : Place) → BreaksNameRule m units 10 p → BreaksNaming m units p
       back p (l10 w) = w
 
-  pub kinds : (f : Option Place) → IsEarliest (BreaksKinds m units) f → IsEarliest (Breaks m units 11) f
+  pub kinds : (f : Option Place) → IsEarliest (BreaksKinds m units) f → IsEarliest (BreaksNameRule m units 11) f
   kinds f h = earliest_same f (λ p w. l11 w) (λ p b. back p b) h
     where
-      back : (p : Place) → Breaks m units 11 p → BreaksKinds m units p
+      back : (p : Place) → BreaksNameRule m units 11 p → BreaksKinds m units p
       back p (l11 w) = w
 
-  pub valuing : (f : Option Place) → IsEarliest (BreaksValue m units) f → IsEarliest (Breaks m units 12) f
+  pub valuing : (f : Option Place) → IsEarliest (BreaksValue m units) f → IsEarliest (BreaksNameRule m units 12) f
   valuing f h = earliest_same f (λ p w. l12 w) (λ p b. back p b) h
     where
-      back : (p : Place) → Breaks m units 12 p → BreaksValue m units p
+      back : (p : Place) → BreaksNameRule m units 12 p → BreaksValue m units p
       back p (l12 w) = w
 
-  pub targets : (f : Option Place) → IsEarliest (BreaksTargets m units) f → IsEarliest (Breaks m units 13) f
+  pub targets : (f : Option Place) → IsEarliest (BreaksTargets m units) f → IsEarliest (BreaksNameRule m units 13) f
   targets f h = earliest_same f (λ p w. l13 w) (λ p b. back p b) h
     where
-      back : (p : Place) → Breaks m units 13 p → BreaksTargets m units p
+      back : (p : Place) → BreaksNameRule m units 13 p → BreaksTargets m units p
       back p (l13 w) = w
 
   pub below_first : KeptBelow 10
   below_first = record { kept = λ r p l b. go r p l b }
     where
-      go : (r : ℕ) (p : Place) → r < 10 → Breaks m units r p → ⊥
+      go : (r : ℕ) (p : Place) → r < 10 → BreaksNameRule m units r p → ⊥
       go r p l (l10 w) = omega (arith, l)
       go r p l (l11 w) = omega (arith, l)
       go r p l (l12 w) = omega (arith, l)
       go r p l (l13 w) = omega (arith, l)
 
   -- a test that finds nothing
-  none_here : (n : ℕ) → IsEarliest (Breaks m units n) None → (p : Place) → Breaks m units n p → ⊥
+  none_here : (n : ℕ) → IsEarliest (BreaksNameRule m units n) None → (p : Place) → BreaksNameRule m units n p → ⊥
   none_here n (nowhere w) p b = w p b
 
-  next_below : (n : ℕ) → KeptBelow n → IsEarliest (Breaks m units n) None → KeptBelow (n + 1)
+  next_below : (n : ℕ) → KeptBelow n → IsEarliest (BreaksNameRule m units n) None → KeptBelow (n + 1)
   next_below n k h = record { kept = λ r p l b. go r p l b (cases_eq r n) }
     where
-      go : (r : ℕ) (p : Place) → r < n + 1 → Breaks m units r p → (r ≡ n) ⊎ (r ≡ n → ⊥) → ⊥
-      go r p l b (inl q) = none_here n h p (subst (λ (s : ℕ). Breaks m units s p) q b)
+      go : (r : ℕ) (p : Place) → r < n + 1 → BreaksNameRule m units r p → (r ≡ n) ⊎ (r ≡ n → ⊥) → ⊥
+      go r p l b (inl q) = none_here n h p (subst (λ (s : ℕ). BreaksNameRule m units s p) q b)
       go r p l b (inr q) = k.kept r p (omega (arith, l, q)) b
 
   passes_test : (n : ℕ) (f : Option Place) (x : Unit {0}) → Ok x ≡ kept_rule n f → KeptBelow n
-      → IsEarliest (Breaks m units n) f → KeptBelow (n + 1)
-  passes_test n f x e k h = next_below n k (subst (IsEarliest (Breaks m units n)) (kept_ok n f x e) h)
+      → IsEarliest (BreaksNameRule m units n) f → KeptBelow (n + 1)
+  passes_test n f x e k h = next_below n k (subst (IsEarliest (BreaksNameRule m units n)) (kept_ok n f x e) h)
 
   pub passes10 : (f : Option Place) (x : Unit {0}) → Ok x ≡ kept_rule 10 f → IsEarliest (BreaksNaming m units) f
       → KeptBelow 11
@@ -99,8 +99,8 @@ module _ (m : RootedModel) (units : List UnitPath) where
   passes13 f x e k h = passes_test 13 f x e k (targets f h)
 
   -- a test that finds a place
-  broken_there : (n : ℕ) (p : Place) → IsOneOf name_rules n → KeptBelow n → IsEarliest (Breaks m units n) (Some p)
-      → IsBroken name_rules (Breaks m units) n p
+  broken_there : (n : ℕ) (p : Place) → IsOneOf name_rules n → KeptBelow n → IsEarliest (BreaksNameRule m units n) (Some
+      p) → IsBroken name_rules (BreaksNameRule m units) n p
   broken_there n p o k (there b none) = record {
     is_one = o;
     breaks_there = b;
@@ -109,12 +109,12 @@ module _ (m : RootedModel) (units : List UnitPath) where
   }
 
   pub refuses_test : (scopes : Scopes) (n : ℕ) (f : Option Place) (x : RuleFault) (r : Result Values RuleFault)
-      → IsOneOf name_rules n → KeptBelow n → IsEarliest (Breaks m units n) f → Err x ≡ kept_rule n f → r ≡ Err x
+      → IsOneOf name_rules n → KeptBelow n → IsEarliest (BreaksNameRule m units n) f → Err x ≡ kept_rule n f → r ≡ Err x
       → AnswersRules m units scopes r
   refuses_test scopes n f x r o k h e i =
       let w = kept_err n f x e in
       subst (λ (z : Result Values RuleFault). AnswersRules m units scopes z) (sym (i ∙ ap Err w.2))
-      (broken_there n w.0 o k (subst (IsEarliest (Breaks m units n)) w.1 h))
+      (broken_there n w.0 o k (subst (IsEarliest (BreaksNameRule m units n)) w.1 h))
 
   -- names and kinds are right where the first two rules are kept
   pub names_kept : (n : ℕ) → 11 < n → KeptBelow n → AreNamesKept m units
@@ -124,10 +124,10 @@ module _ (m : RootedModel) (units : List UnitPath) where
   }
 
   -- all of them are kept
-  pub all_kept : KeptBelow 14 → AreKept name_rules (Breaks m units)
+  pub all_kept : KeptBelow 14 → AreKept name_rules (BreaksNameRule m units)
   all_kept k = record { kept = λ r p o b. go r p b }
     where
-      go : (r : ℕ) (p : Place) → Breaks m units r p → ⊥
+      go : (r : ℕ) (p : Place) → BreaksNameRule m units r p → ⊥
       go r p (l10 w) = k.kept 10 p (omega arith) (l10 w)
       go r p (l11 w) = k.kept 11 p (omega arith) (l11 w)
       go r p (l12 w) = k.kept 12 p (omega arith) (l12 w)

@@ -9,7 +9,7 @@ use Rattle.typed_expr.specs.Kinds.{HasKind}
 use Rattle.typed_expr.specs.declared.expr.Expr.{Expr, out-Expr}
 use Rattle.typed_expr.specs.declared.expr.ValueKind.{ValueKind}
 use Rattle.typed_expr.specs.declared.expr.ValueKind.TheVariants as kind
-use Rattle.gts_core.specs.Sound.{kind_of_domain, kind_of_found, kind_at, IsNamed, IsTyped, IsVariable}
+use Rattle.gts_core.specs.Sound.{kind_of_domain, kind_of_found, variable_kind_at, IsNamedValue, IsTyped, IsVariableOf}
 use Rattle.gts_core.specs.declared.bound.Act.{Act}
 use Rattle.gts_core.specs.declared.bound.Act.TheOpen.{Act-F}
 use Rattle.gts_core.specs.declared.system.GtsParts.{GtsParts}
@@ -37,13 +37,13 @@ pub record HasParts (tree : Tree) (p : GtsParts) : Type 0 where
   pub variables : Along (IsSoundVariable tree) tree.variables.items p.variables.items
 
 module _ (tree : Tree) (p : GtsParts) (has : HasParts tree p) where
-  named : (v : Value) → IsSymbolIn tree v → IsNamed p v
+  named : (v : Value) → IsSymbolIn tree v → IsNamedValue p v
   named (value.Truth b) h = tt
   named (value.Whole n) h = tt
   named (value.Symbol k) h = let e = has.symbols in omega (arith, h, e)
 
   -- each variable has the kind of its node
-  same_kinds : kind_in tree ≡ kind_at p
+  same_kinds : kind_in tree ≡ variable_kind_at p
   same_kinds = λ i x. found_kind has.variables x.n i
 
   pub typed_there : (e : Expr VarId) (k : ValueKind) → IsTypedIn tree e k → IsTyped p e k
@@ -68,7 +68,7 @@ module _ (tree : Tree) (p : GtsParts) (has : HasParts tree p) where
   sound_there (typed.all each) = sound.all (λ a o. sound_there (each a o))
 
   -- a variable of the bound forms
-  pub variable_sound : (d : VarNode) (x : Variable) → IsSoundVariable tree d x → IsVariable p x
+  pub variable_sound : (d : VarNode) (x : Variable) → IsSoundVariable tree d x → IsVariableOf p x
   variable_sound d x h = record {
     unit = (let u = h.unit in let e = has.units in omega (arith, u, e));
     domain = h.is_domain;

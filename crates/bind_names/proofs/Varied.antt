@@ -13,7 +13,7 @@ use Rattle.hierarchy.specs.Models.{RootedModel}
 use Rattle.hierarchy.specs.Units.{UnitPath, Thing}
 use Rattle.hierarchy.specs.Listing.{variables}
 use Rattle.hierarchy.specs.Paths.{thing_path}
-use Rattle.hierarchy.specs.Tie.{IsTreeOf, IsVariable}
+use Rattle.hierarchy.specs.Tie.{IsTreeOf, IsVariableNode}
 use Rattle.hierarchy.specs.declared.tree.Tree.{Tree}
 use Rattle.hierarchy.specs.declared.tree.VarNode.{VarNode}
 use Rattle.bind_values.specs.Values.{IsValue}
@@ -27,7 +27,7 @@ pub record IsOfNode (d : VarNode) (x : Variable) : Type 0 where
   pub domain : IsSameDomain d.domain x.domain
   pub state : x.is_state ≡ d.is_state
 
-module _ (m : RootedModel) (units : List UnitPath) (t : Thing) (d : VarNode) (is : IsVariable m units t d) (x : Variable) (of : IsOfNode d x) where
+module _ (m : RootedModel) (units : List UnitPath) (t : Thing) (d : VarNode) (is : IsVariableNode m units t d) (x : Variable) (of : IsOfNode d x) where
   -- it is the variable of the thing
   pub bound_variable : IsValue m t x.value → x.path ≡ thing_path m t → IsBoundVariable m units t x
   bound_variable value path = record {

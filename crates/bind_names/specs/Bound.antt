@@ -7,7 +7,7 @@ use Rattle.ar_base.specs.declared.places.Place.{Place}
 use Rattle.typed_expr.specs.declared.expr.Expr.{Expr}
 use Rattle.typed_expr.specs.declared.expr.ValueKind.TheVariants.{Truth}
 use Rattle.ar_meaning.specs.Systems.{Transition}
-use Rattle.ar_meaning.specs.Expand.{Declared}
+use Rattle.ar_meaning.specs.Expand.{EventDeclaration}
 use Rattle.ar_meaning.specs.ExpandImage.{Member_renames}
 use Rattle.gts_core.specs.Bound.{member_of}
 use Rattle.gts_core.specs.declared.bound.Act.{Act, out-Act}
@@ -37,7 +37,7 @@ pub record IsSoundEvent (tree : Tree) (e : DeclaredEvent) : Type 0 where
 -- the declared event is that of the tree, with numbers for things
 pub record IsBoundEvent (m : RootedModel) (units : List UnitPath) (tree : Tree) (t : Thing) (e : DeclaredEvent) : Type
     0 where
-  pub meaning : Declared (Transition Thing) Thing
+  pub meaning : EventDeclaration (Transition Thing) Thing
   pub is : IsEvent m units t meaning
   pub unit : meaning.unit ≡ e.unit.n
   pub hidden : meaning.hidden ≡ e.hidden

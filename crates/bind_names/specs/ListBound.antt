@@ -21,7 +21,7 @@ use Rattle.hierarchy.specs.Paths.{thing_path}
 use Rattle.hierarchy.specs.declared.tree.Tree.{Tree}
 use Rattle.hierarchy.specs.declared.tree.VarNode.{VarNode}
 use Rattle.source_meaning.specs.Acts.{Placed, assigns_of, places_of}
-use Rattle.source_meaning.specs.Binding.{HasKind}
+use Rattle.source_meaning.specs.Numbering.{HasObserverKind}
 use Rattle.source_meaning.specs.Systems.{IsVariable, AreAsserted, IsObserver}
 use Rattle.bind_values.specs.Typed.{IsTypedIn, IsSoundIn, IsSymbolIn}
 
@@ -68,6 +68,6 @@ pub record IsBoundObserver (m : RootedModel) (units : List UnitPath) (tree : Tre
   pub meaning : Expr Thing
   pub is : IsObserver m t meaning
   pub numbers : Expr_renames (IsNumber m units) meaning (numbered o.value)
-  pub kind : HasKind m t o
+  pub kind : HasObserverKind m t o
   pub path : o.path ≡ thing_path m t
   pub typed : IsTypedIn tree o.value o.kind

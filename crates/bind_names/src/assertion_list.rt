@@ -8,7 +8,7 @@ ghost use Rattle.class_table.specs.Members.{owned_at as declared_at};
 ghost use Rattle.class_table.specs.Tables.{IsBodyOf, site_of};
 ghost use Rattle.hierarchy.specs.Listing.{all_in, asserted as asserted_by, form_of, forms_at};
 ghost use Rattle.hierarchy.specs.Models.{RootedModel};
-ghost use Rattle.hierarchy.specs.Tie.{IsUnit};
+ghost use Rattle.hierarchy.specs.Tie.{IsUnitNode};
 ghost use Rattle.hierarchy.specs.Units.{UnitPath, members_at};
 ghost use Rattle.bind_scopes.specs.Scopes.{HasScopes};
 ghost use Rattle.bind_values.specs.Settled.{AreSettled};
@@ -111,7 +111,7 @@ fn add_unit(
     requires in_range { unit.n < length scopes.now.tree.now.units.items }
     ensures { (m : RootedModel) (units : List UnitPath) (u : UnitPath)
         → AreSettled m units scopes.now values.now → Stands units unit.n u
-        → IsUnit m units u node.now
+        → IsUnitNode m units u node.now
         → OnOk result (AddsAssertions m units scopes.now.tree.now
         (all_in u (flat_map asserted_by (forms_at m u))) acts.old.items acts.new.items) }
 {

@@ -8,7 +8,7 @@ ghost use Rattle.class_table.specs.Members.{NamedMember};
 ghost use Rattle.hierarchy.specs.Listing.{events};
 ghost use Rattle.hierarchy.specs.Models.{RootedModel};
 ghost use Rattle.hierarchy.specs.Paths.{prefix, unit_path, thing_path};
-ghost use Rattle.hierarchy.specs.Tie.{IsTreeOf, IsNode, IsOwner, IsName};
+ghost use Rattle.hierarchy.specs.Tie.{IsTreeOf, IsNode, IsOwner, IsNameOfUnit};
 ghost use Rattle.hierarchy.specs.Units.{UnitPath, Thing};
 ghost use Rattle.bind_names.specs.Fronts.{IsFrontOf};
 
@@ -51,7 +51,7 @@ fn path_in(
 fn prefix_of(alloc: Global, names: &Names, above: &[Text], node: &UnitNode) -> Result<Text, Memory>
     ensures { (m : RootedModel) (units : List UnitPath) (u : UnitPath) → names.now ≡ m.names
         → ((n : ℕ) (v : UnitPath) → Stands units n v → IsFrontOf m above.now n v)
-        → IsOwner units u node.now.owner → IsName u node.now.name
+        → IsOwner units u node.now.owner → IsNameOfUnit u node.now.name
         → IfOk result (λ text. text ≡ prefix m u) }
 {
     let Some(owner) = node.owner else {
@@ -85,7 +85,7 @@ fn unit_path_of(
 ) -> Result<Text, Memory>
     ensures { (m : RootedModel) (units : List UnitPath) (u : UnitPath) → names.now ≡ m.names
         → ((n : ℕ) (v : UnitPath) → Stands units n v → IsFrontOf m prefixes.now n v)
-        → IsOwner units u node.now.owner → IsName u node.now.name
+        → IsOwner units u node.now.owner → IsNameOfUnit u node.now.name
         → IfOk result (λ text. text ≡ unit_path m u) }
 {
     let path = match node.owner {

@@ -4,7 +4,7 @@ ghost use Rattle.std.specs.Prelude.{◌≡◌, List, map, IfOk};
 ghost use Rattle.domains.specs.Domains.{Holds};
 ghost use Rattle.hierarchy.specs.Models.{RootedModel};
 ghost use Rattle.hierarchy.specs.Paths.{prefix};
-ghost use Rattle.hierarchy.specs.Tie.{IsTreeOf, IsVariable};
+ghost use Rattle.hierarchy.specs.Tie.{IsTreeOf, IsVariableNode};
 ghost use Rattle.hierarchy.specs.Units.{UnitPath, Thing};
 ghost use Rattle.bind_values.specs.Values.{AreValues, IsValue};
 ghost use Rattle.bind_names.specs.ListBound.{AreBoundVariables, IsBoundVariable, IsSoundVariable};
@@ -27,10 +27,10 @@ fn variable_of(
 ) -> Result<Variable, Memory>
     ensures bound { (m : RootedModel) (units : List UnitPath) (t : Thing)
         → IsTreeOf m units tree.now → prefixes.now ≡ map (prefix m) units
-        → IsVariable m units t node.now → IsValue m t value
+        → IsVariableNode m units t node.now → IsValue m t value
         → IfOk result (IsBoundVariable m units t) }
     ensures sound { (m : RootedModel) (units : List UnitPath) (t : Thing)
-        → IsTreeOf m units tree.now → IsVariable m units t node.now → Holds node.now.domain value
+        → IsTreeOf m units tree.now → IsVariableNode m units t node.now → Holds node.now.domain value
         → IfOk result (IsSoundVariable tree.now node.now) }
 {
     let path = thing_path(alloc, tree, prefixes, &node.node)?;

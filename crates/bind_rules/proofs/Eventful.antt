@@ -20,7 +20,7 @@ use Rattle.class_table.proofs.FirstPlaces.{earliest_same, earliest_both}
 use Rattle.class_table.proofs.Looping.{AtItem}
 use Rattle.hierarchy.specs.Models.{RootedModel}
 use Rattle.hierarchy.specs.Units.{UnitPath, Thing, numbers}
-use Rattle.hierarchy.specs.Walks.{Has, thing, is_event}
+use Rattle.hierarchy.specs.Walks.{PassesTest, thing, is_event}
 use Rattle.hierarchy.specs.Listing.{events}
 use Rattle.hierarchy.specs.Tie.{AnswersThing}
 use Rattle.bind_scopes.proofs.NamedPaths.{name_leads, name_only}
@@ -39,7 +39,7 @@ module _ {m : RootedModel} (units : List UnitPath) {u : UnitPath} where
   pub own_there : (x : NameId) (here : Place) (n : ℕ)
       → AnswersThing m (events m units) is_event u Here (x.n ∷ []) (Some n) → IsEarliest (IsNoOwnEvent m u x here) None
   own_there x here n a = nowhere (λ at h. h.not
-      (subst (λ (t : Thing). Has m is_event t) (name_only x.n refl refl a.0 a.2.leads) a.2.has))
+      (subst (λ (t : Thing). PassesTest m is_event t) (name_only x.n refl refl a.0 a.2.leads) a.2.has))
 
   pub own_none : (x : NameId) (here : Place) → AnswersThing m (events m units) is_event u Here (x.n ∷ []) None
       → IsEarliest (IsNoOwnEvent m u x here) (Some here)

@@ -20,7 +20,7 @@ use Rattle.class_table.specs.declared.tables.Body.{Body}
 use Rattle.class_table.specs.declared.tables.Classes.{Classes}
 use Rattle.class_table.proofs.FirstPlaces.{earliest_same, earliest_both}
 use Rattle.class_table.proofs.Looping.{AtItem}
-use Rattle.hierarchy.specs.Models.{RootedModel, IsTableFor}
+use Rattle.hierarchy.specs.Models.{RootedModel, IsRootedTable}
 use Rattle.hierarchy.specs.Units.{UnitPath, body_of}
 use Rattle.hierarchy.specs.Listing.{form_of, forms_at}
 use Rattle.hierarchy.specs.Tie.{IsTreeOf}
@@ -146,7 +146,7 @@ module _ (m : RootedModel) (rule : Rule) (u : UnitPath) where
       )
 
   -- the members of the unit are those of its body
-  pub body_members : (c : Classes) → IsTableFor m c → (d : UnitNode) → d.body.n ≡ body_of m u → (body : Body)
+  pub body_members : (c : Classes) → IsRootedTable m c → (d : UnitNode) → d.body.n ≡ body_of m u → (body : Body)
       → Stands c.bodies.items d.body.n body → (r : Option Place)
       → IsEarliest (BreaksOneMember m rule u
       (flat_map (λ (s : Site). form_of (owned_at m.declared s)) (map site_of body.all.items))) r
@@ -156,7 +156,7 @@ module _ (m : RootedModel) (rule : Rule) (u : UnitPath) where
       subst (λ (sites : List Site). IsEarliest
       (BreaksOneMember m rule u (flat_map (λ (s : Site). form_of (owned_at m.declared s)) sites)) r) q h
 
-  pub no_body_members : (c : Classes) → IsTableFor m c → (d : UnitNode) → d.body.n ≡ body_of m u
+  pub no_body_members : (c : Classes) → IsRootedTable m c → (d : UnitNode) → d.body.n ≡ body_of m u
       → length c.bodies.items ≤ d.body.n → IsEarliest (BreaksOneMember m rule u (forms_at m u)) None
   no_body_members c t d e l =
       let q = sym (members_past m c t d.body.n l) ∙ ap (λ (n : ℕ). unwrap_or (slice_get m.members n) []) e in

@@ -6,7 +6,7 @@ use Rattle.ar_syntax.specs.declared.paths.Path.{Path}
 use Rattle.typed_expr.specs.declared.expr.ValueKind.{ValueKind}
 use Rattle.written_forms.specs.Operands.{RawLevel, level_of, Demand, OfKind}
 use Rattle.written_forms.specs.Forms.{HasForm, own, path, choice}
-use Rattle.written_forms.specs.Wrong.{IsMisnamed, IsMistyped, itself, real, inside, IsWanted, this, that_of, Names, IsNamed}
+use Rattle.written_forms.specs.Wrong.{IsMisnamed, IsMistyped, itself, real, inside, IsWantedKind, this, that_of, NamesKind, IsNamedPath}
 use Rattle.written_forms.proofs.MisnamedForms.{misnamed_move}
 use Rattle.written_forms.specs.Parts.{InstrForm, BreaksInside}
 use Rattle.written_forms.specs.Breaches.{MisnamesItself, MistypesItself, MisplacedInAction, MisplacedInAssertion, IsSort, IsTarget}
@@ -30,7 +30,7 @@ module _ {names other : Path → ValueKind → Type 0} (to : (p : Path) (k : Val
   form_move (path {p = p} {k = k} h) = path (to p k h)
   form_move (choice h) = choice (form_move h)
 
-  wanted_move : {d : Demand} {k : ValueKind} → IsWanted names d k → IsWanted other d k
+  wanted_move : {d : Demand} {k : ValueKind} → IsWantedKind names d k → IsWantedKind other d k
   wanted_move this = this
   wanted_move (that_of h) = that_of (form_move h)
 
@@ -69,27 +69,27 @@ inside_move f h = record { part = h.part; is_part = h.is_part; broken = f h.part
 
 module _ {m : RootedModel} {units : List UnitPath} {u : UnitPath} {names : UnitNames} where
   pub expression_named : {meant : s.Scope} → AreNamesOf m units u meant names → (e : RawExpr) (r : Option Place)
-      → IsEarliest (IsMisnamed (IsNamed (kind_in names)) (level_of e)) r
+      → IsEarliest (IsMisnamed (IsNamedPath (kind_in names)) (level_of e)) r
       → IsEarliest (IsMisnamed (s.MayName m u meant) (level_of e)) r
   expression_named h e r k = earliest_same r (λ p x. misnamed_move (λ q may. may_named h q may) x)
       (λ p x. misnamed_move (λ q n. named_may h q n) x) k
 
   module _ (h : AreNamesOf m units u s.Everything names) where
     pub expression_typed : (kind : ValueKind) (e : RawExpr) (r : Option Place)
-        → IsEarliest (IsMistyped (Names (kind_in names)) (OfKind kind) e) r
+        → IsEarliest (IsMistyped (NamesKind (kind_in names)) (OfKind kind) e) r
         → IsEarliest (IsMistyped (HasKindAt m u) (OfKind kind) e) r
     expression_typed kind e r k = earliest_same r (λ p x. mistyped_move (λ q j n. kind_names h q j n) x)
         (λ p x. mistyped_move (λ q j n. names_kind h q refl j n) x) k
 
     pub inside_named : (i : InstrForm) (r : Option Place)
-        → IsEarliest (BreaksInside (MisnamesItself (IsNamed (kind_in names)) (IsTarget (sort_in names))) i) r
+        → IsEarliest (BreaksInside (MisnamesItself (IsNamedPath (kind_in names)) (IsTarget (sort_in names))) i) r
         → IsEarliest (BreaksInside (MisnamesItself (s.MayName m u s.Everything) (s.NamesVariable m u)) i) r
     inside_named i r k = earliest_same r
         (λ p x. inside_move (λ j y. misnames_move (λ q may. may_named h q may) (λ q v. names_target h q v) y) x)
         (λ p x. inside_move (λ j y. misnames_move (λ q n. named_may h q n) (λ q v. target_names h q v) y) x) k
 
     pub inside_typed : (i : InstrForm) (r : Option Place)
-        → IsEarliest (BreaksInside (MistypesItself (Names (kind_in names))) i) r
+        → IsEarliest (BreaksInside (MistypesItself (NamesKind (kind_in names))) i) r
         → IsEarliest (BreaksInside (MistypesItself (HasKindAt m u)) i) r
     inside_typed i r k = earliest_same r
         (λ p x. inside_move (λ j y. mistypes_move (λ q l n. kind_names h q l n) y) x)

@@ -14,21 +14,21 @@ use Rattle.typed_expr.specs.declared.expr.ValueKind.{ValueKind}
 use Rattle.gts_core.specs.Sound.{kind_of_domain}
 use Rattle.class_table.specs.Declaring.{MemberForm, Declared, NamedType, DomainType, ClassType}
 use Rattle.class_table.specs.Earliest.{IsEarliest, nowhere}
-use Rattle.class_table.specs.Members.{Site, NamedMember, MemberKind, Variable, Observer, names_of, names_of_form, owned_at, declared_kind, kind_of, type_named, one_named}
+use Rattle.class_table.specs.Members.{Site, NamedMember, MemberKind, Variable, Observer, names_of, names_of_form, owned_at, declared_kind, member_kind_of, type_named, one_named}
 use Rattle.class_table.specs.declared.tables.Owned.{Owned}
 use Rattle.class_table.specs.declared.tables.Owned.TheVariants.{Plain, Nested}
 use Rattle.class_table.proofs.FirstPlaces.{earliest_same}
 use Rattle.class_table.proofs.Looping.{AtItem}
-use Rattle.hierarchy.specs.Models.{RootedModel, IsKept}
+use Rattle.hierarchy.specs.Models.{RootedModel, KeepsTextRules}
 use Rattle.hierarchy.specs.Tie.{IsSource, IsPlainNode}
 use Rattle.hierarchy.specs.declared.tree.Source.{Source}
 use Rattle.hierarchy.specs.declared.tree.MemNode.{MemNode}
 use Rattle.class_table.specs.Tables.{site_of}
 use Rattle.hierarchy.specs.Units.{UnitPath, Thing, name_at, kind_at}
-use Rattle.hierarchy.specs.Walks.{Has, thing, is_observer}
+use Rattle.hierarchy.specs.Walks.{PassesTest, thing, is_observer}
 use Rattle.hierarchy.specs.Listing.{parameters, observers, things_in}
 use Rattle.hierarchy.specs.Settings.{Attribute, in_force}
-use Rattle.hierarchy.specs.Tie.{IsVariable, IsParameter, HasAttribute}
+use Rattle.hierarchy.specs.Tie.{IsVariableNode, IsParameterNode, HasAttribute}
 use Rattle.hierarchy.specs.declared.tree.ParNode.{ParNode}
 use Rattle.hierarchy.specs.declared.tree.VarNode.{VarNode}
 use Rattle.hierarchy.proofs.Things.{flat_origin, listed_has}
@@ -116,7 +116,7 @@ scope_is m units t own a setting h f e = by setting e
 no_value : (f : TypeForm) (ss : List Setting) → is_valued (Variable f ss) ≡ true → ⊥
 no_value f ss e = cc
 
-pub variable_scope : (m : RootedModel) (units : List UnitPath) (t : Thing) (d : VarNode) → IsVariable m units t d
+pub variable_scope : (m : RootedModel) (units : List UnitPath) (t : Thing) (d : VarNode) → IsVariableNode m units t d
     → (own : Scope) → IsOwnScope m units t own
 variable_scope m units t d h own = record { scope = λ a f e. absurd (never a f e) }
   where
@@ -130,7 +130,7 @@ pub parameter_scope : (m : RootedModel) (units : List UnitPath) (t : Thing) (pla
     → Stands (parameters m units) place t → IsOwnScope m units t (scope.Before place)
 parameter_scope m units t place st = record { scope = λ a f e. let w = force_own m t a f e in before t.name (subst (λ (u : UnitPath). Stands (parameters m units) place (thing u t.name)) (sym w.2) st) }
 
-pub variable_of_kind : (m : RootedModel) (units : List UnitPath) (t : Thing) (d : VarNode) → IsVariable m units t d
+pub variable_of_kind : (m : RootedModel) (units : List UnitPath) (t : Thing) (d : VarNode) → IsVariableNode m units t d
     → (k : ValueKind) → k ≡ kind_of_domain d.domain → IsOfKind m t k
 variable_of_kind m units t d h k e = record {
   member = h.given.kind;
@@ -138,8 +138,8 @@ variable_of_kind m units t d h k e = record {
   kind = ap (kind_of_member m) h.is ∙ (domain_kind m h.type d.domain h.domain ∙ ap (λ (z : ValueKind). Some z) (sym e));
 }
 
-module _ (m : RootedModel) (units : List UnitPath) (t : Thing) (d : ParNode) (h : IsParameter m units t d)
-    (v : Has m is_valued t) where
+module _ (m : RootedModel) (units : List UnitPath) (t : Thing) (d : ParNode) (h : IsParameterNode m units t d)
+    (v : PassesTest m is_valued t) where
   given_valued : is_valued h.given.kind ≡ true
   given_valued =
       let e : kind_at m t.unit t.name ≡ Some h.given.kind =
@@ -160,7 +160,7 @@ module _ (m : RootedModel) (units : List UnitPath) (t : Thing) (d : ParNode) (h 
       → IsEarliest (BreaksParameter m rule t) r
   parameter_earliest rule r k = earliest_same r (λ at b. record { valued = v; breaks = b }) (λ at b. b.breaks) k
 
-pub not_valued : (m : RootedModel) (rule : Rule) (t : Thing) → (Has m is_valued t → ⊥)
+pub not_valued : (m : RootedModel) (rule : Rule) (t : Thing) → (PassesTest m is_valued t → ⊥)
     → IsEarliest (BreaksParameter m rule t) None
 not_valued m rule t n = nowhere (λ at b. n b.valued)
 
@@ -172,7 +172,7 @@ no_declared d z form.Boolean ss k v e = let q = ap (λ (o : Option MemberKind). 
 no_declared d z form.Integer ss k v e = cc
 no_declared d z (form.Named x) ss k v e = by (type_named d x.n) e
   where
-    by : (t : Option NamedType) → option_map (λ (u : NamedType). kind_of z (form.Named x) u ss) t ≡ Some k → ⊥
+    by : (t : Option NamedType) → option_map (λ (u : NamedType). member_kind_of z (form.Named x) u ss) t ≡ Some k → ⊥
     by None f = cc
     by (Some (DomainType b)) f = let q = ap (λ (o : Option MemberKind). option_map is_observer o) f in cc
     by (Some (ClassType b)) f = let q = ap (λ (o : Option MemberKind). option_map is_observer o) f in cc
@@ -240,7 +240,7 @@ site_same site o source h = ap (λ (n : ℕ). record { body = n; place = source.
 
 -- an observer is declared where its node says
 module _ (m : RootedModel) (units : List UnitPath) (t : Thing) (d : MemNode) (h : IsPlainNode m units t d)
-    (v : Has m is_observer t) where
+    (v : PassesTest m is_observer t) where
   given_at_node : (f : TypeForm) × (e : RawExpr) × (kind_at m t.unit t.name ≡ Some (Observer f e))
       × (observed_in (owned_at m.declared (site_of (d.source.body, d.source.member))) ≡ Some (f, e))
   given_at_node =
@@ -266,6 +266,6 @@ module _ (m : RootedModel) (units : List UnitPath) (t : Thing) (d : MemNode) (h 
       let i = kind_one w.3 (sym q) in
       w.2 ∙ ap (λ (z : TypeForm × RawExpr). Some (Observer z.0 z.1)) i
 
-pub observer_has : (m : RootedModel) (units : List UnitPath) → IsKept m → (n : ℕ) (t : Thing)
-    → Stands (observers m units) n t → Has m is_observer t
+pub observer_has : (m : RootedModel) (units : List UnitPath) → KeepsTextRules m → (n : ℕ) (t : Thing)
+    → Stands (observers m units) n t → PassesTest m is_observer t
 observer_has m units k n t s = let o = flat_origin (things_in is_observer m) units n t s in listed_has m is_observer k o.item t o.is_one

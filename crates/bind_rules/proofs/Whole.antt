@@ -20,14 +20,14 @@ use Rattle.source_meaning.specs.Kinds.{IsOfKind}
 use Rattle.source_meaning.specs.Tested as s
 use Rattle.source_meaning.specs.Rules as r
 use Rattle.source_meaning.specs.Rules.{BreaksNaming, BreaksKinds, BreaksTargets, IsWayOf}
-use Rattle.hierarchy.specs.Walks.{Has, thing, is_event}
+use Rattle.hierarchy.specs.Walks.{PassesTest, thing, is_event}
 use Rattle.bind_rules.specs.Breaking.{BreaksExpression, BreaksAction, BreaksAssertion, BreaksValue, BreaksParameter, BreaksObserver, BreaksOne, BreaksUnit, BreaksMember, event, guard, action, assertion, BreaksTree, variable, parameter, observer, unit, MisnamesEvent, hides, part, sync, local}
 use Rattle.bind_rules.specs.declared.rules.Rule.{Rule}
 use Rattle.bind_rules.specs.declared.rules.Rule.TheVariants.{Names, Kinds, Targets}
 
 module _ (m : RootedModel) (units : List UnitPath) where
   -- what is tested breaks a rule, then the tree does
-  from_value : (rule : Rule) (t : Thing) (a : Attribute) (k : ValueKind) {at : Place} → s.HasValue m units t
+  from_value : (rule : Rule) (t : Thing) (a : Attribute) (k : ValueKind) {at : Place} → s.IsReadable m units t
       → in_force m t ≡ Some a → IsOfKind m t k
       → BreaksExpression m rule a.unit (s.scope_of t.name a.setting) k a.value at
       → BreaksTree m units rule at
@@ -115,7 +115,7 @@ module _ (m : RootedModel) (units : List UnitPath) where
   names_to at (unit h) = member_names h.unit h.breaks.form h.is_unit h.breaks.is_one h.breaks.breaks
 
   way_back : (u : UnitPath) (f : MemberForm) (x : NameId) {at : Place} → IsOneOf units u → IsOneOf (forms_at m u) f
-      → IsWayOf f x at → (Has m is_event (thing u x.n) → ⊥) → BreaksTree m units Names at
+      → IsWayOf f x at → (PassesTest m is_event (thing u x.n) → ⊥) → BreaksTree m units Names at
   way_back u f x o i r.local n = in_member Names u f o i (event (local (record { not = n; place = refl })))
   way_back u f x o i r.sync n = in_member Names u f o i (event (sync (record { not = n; place = refl })))
 

@@ -20,7 +20,7 @@ use Rattle.class_table.specs.Declaring.{MemberForm}
 use Rattle.class_table.specs.Members.{Observer}
 use Rattle.hierarchy.specs.Models.{RootedModel}
 use Rattle.hierarchy.specs.Units.{UnitPath, Thing, kind_at}
-use Rattle.hierarchy.specs.Walks.{Has, thing, is_event}
+use Rattle.hierarchy.specs.Walks.{PassesTest, thing, is_event}
 use Rattle.hierarchy.specs.Listing.{forms_at, variables, parameters, observers}
 use Rattle.hierarchy.specs.Settings.{Attribute, in_force, is_state_variable, is_flow_variable}
 use Rattle.source_meaning.specs.Means.{is_valued}
@@ -62,7 +62,7 @@ pub record HasNoEvent (m : RootedModel) (u : UnitPath) (parts : List Part) (at :
 
 -- the name, which stands here, is no event of the unit
 pub record IsNoOwnEvent (m : RootedModel) (u : UnitPath) (x : NameId) (here at : Place) : Type 0 where
-  pub not : Has m is_event (thing u x.n) → ⊥
+  pub not : PassesTest m is_event (thing u x.n) → ⊥
   pub place : at ≡ here
 
 -- the member names no event where an event is needed
@@ -116,7 +116,7 @@ pub record BreaksValue (m : RootedModel) (rule : Rule) (t : Thing) (at : Place) 
 
 -- the same of a parameter, where its value is read
 pub record BreaksParameter (m : RootedModel) (rule : Rule) (t : Thing) (at : Place) : Type 0 where
-  pub valued : Has m is_valued t
+  pub valued : PassesTest m is_valued t
   pub breaks : BreaksValue m rule t at
 
 -- the expression of the observer breaks the rule at the place

@@ -3,7 +3,7 @@
 ghost use Rattle.std.specs.Prelude.{◌<◌, List, length};
 ghost use Rattle.ar_base.specs.Lists.{Stands};
 ghost use Rattle.ar_syntax.specs.declared.instructions.Instr.{out-Instr};
-ghost use Rattle.written_forms.specs.Wrong.{IsNamed, Names};
+ghost use Rattle.written_forms.specs.Wrong.{IsNamedPath, NamesKind};
 ghost use Rattle.written_forms.specs.Breaches.{IsTarget, MisnamesItself, MistypesItself};
 ghost use Rattle.written_forms.specs.Parts.{BreaksInside};
 ghost use Rattle.class_table.specs.Earliest.{IsEarliest};
@@ -68,7 +68,7 @@ pub(crate) fn in_expression<'a>(
 // The earliest place at which the instruction breaks the rule of names, by these names.
 fn misnamed_inside<'a>(instr: &Instr, names: &UnitNames<'a>) -> Option<Place>
     requires { IsInTree names.now }
-    ensures { IsEarliest (BreaksInside (MisnamesItself (IsNamed (kind_in names.now))
+    ensures { IsEarliest (BreaksInside (MisnamesItself (IsNamedPath (kind_in names.now))
         (IsTarget (sort_in names.now))) (out-Instr instr.now)) result }
 {
     let rule = NameRule { targets: names };
@@ -80,7 +80,7 @@ fn misnamed_inside<'a>(instr: &Instr, names: &UnitNames<'a>) -> Option<Place>
 // The earliest place at which the instruction breaks the rule of kinds, by these names.
 fn mistyped_inside<'a>(instr: &Instr, names: &UnitNames<'a>) -> Option<Place>
     requires { IsInTree names.now }
-    ensures { IsEarliest (BreaksInside (MistypesItself (Names (kind_in names.now)))
+    ensures { IsEarliest (BreaksInside (MistypesItself (NamesKind (kind_in names.now)))
         (out-Instr instr.now)) result }
 {
     let rule = KindRule { targets: names };

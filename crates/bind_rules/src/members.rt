@@ -10,7 +10,7 @@ ghost use Rattle.class_table.specs.Tables.{site_of};
 ghost use Rattle.hierarchy.specs.Models.{RootedModel};
 ghost use Rattle.hierarchy.specs.Units.{UnitPath};
 ghost use Rattle.hierarchy.specs.Listing.{form_of, forms_at};
-ghost use Rattle.hierarchy.specs.Tie.{IsUnit};
+ghost use Rattle.hierarchy.specs.Tie.{IsUnitNode};
 ghost use Rattle.bind_scopes.specs.Scopes.{AreScopes, HasScopes};
 ghost use Rattle.bind_rules.specs.Breaking.{BreaksMember, BreaksOneMember, BreaksUnit};
 
@@ -106,7 +106,7 @@ fn in_unit<'a>(scopes: &'a Scopes<'a>, rule: Rule, unit: UnitId, node: &UnitNode
     requires scopes { HasScopes scopes.now }
     requires in_range { unit.n < length scopes.now.tree.now.units.items }
     ensures { (m : RootedModel) (units : List UnitPath) (u : UnitPath)
-        → AreScopes m units scopes.now → Stands units unit.n u → IsUnit m units u node.now
+        → AreScopes m units scopes.now → Stands units unit.n u → IsUnitNode m units u node.now
         → IsEarliest (BreaksOneMember m rule u (forms_at m u)) result }
 {
     match scopes.tree.classes.bodies.get(node.body.n as usize) {

@@ -9,9 +9,9 @@ ghost use Rattle.class_table.specs.Tables.{IsBodyOf, site_of};
 ghost use Rattle.class_table.specs.Earliest.{IsEarliest};
 ghost use Rattle.hierarchy.specs.Models.{RootedModel};
 ghost use Rattle.hierarchy.specs.Units.{UnitPath, Thing};
-ghost use Rattle.hierarchy.specs.Walks.{Has, is_observer};
+ghost use Rattle.hierarchy.specs.Walks.{PassesTest, is_observer};
 ghost use Rattle.hierarchy.specs.Listing.{variables, parameters, observers};
-ghost use Rattle.hierarchy.specs.Tie.{IsParameter, IsPlainNode, HasAttribute};
+ghost use Rattle.hierarchy.specs.Tie.{IsParameterNode, IsPlainNode, HasAttribute};
 ghost use Rattle.gts_core.specs.Sound.{kind_of_domain as kind_of_values};
 ghost use Rattle.source_meaning.specs.Kinds.{IsOfKind};
 ghost use Rattle.bind_scopes.specs.Scopes.{AreScopes, HasScopes};
@@ -123,7 +123,7 @@ fn kind_of(node: &ParNode) -> ValueKind
 fn in_parameter<'a>(scopes: &'a Scopes<'a>, rule: Rule, place: u32, node: &ParNode) -> Option<Place>
     requires { HasScopes scopes.now }
     ensures { (m : RootedModel) (units : List UnitPath) (t : Thing) → AreScopes m units scopes.now
-        → Stands (parameters m units) place t → IsParameter m units t node.now
+        → Stands (parameters m units) place t → IsParameterNode m units t node.now
         → IsEarliest (BreaksParameter m rule t) result }
 {
     if !scopes.is_read(place) {
@@ -164,7 +164,7 @@ pub fn observed_at(classes: &Classes, source: Source) -> Option<(TypeForm, &RawE
 fn in_observer<'a>(scopes: &'a Scopes<'a>, rule: Rule, node: &MemNode) -> Option<Place>
     requires { HasScopes scopes.now }
     ensures { (m : RootedModel) (units : List UnitPath) (t : Thing) → AreScopes m units scopes.now
-        → IsPlainNode m units t node.now → Has m is_observer t
+        → IsPlainNode m units t node.now → PassesTest m is_observer t
         → IsEarliest (BreaksObserver m rule t) result }
 {
     let (form, expr) = observed_at(&scopes.tree.classes, node.source)?;

@@ -19,10 +19,11 @@ use Rattle.class_table.specs.declared.tables.TypeBody.TheVariants as types
 use Rattle.unit_rules.specs.Typing.{IsFound, none, some}
 use Rattle.hierarchy.specs.Models.{RootedModel}
 use Rattle.hierarchy.specs.Units.{UnitPath, Thing, kind_at, numbers}
-use Rattle.hierarchy.specs.Walks.{Finds, Has, is_variable}
+use Rattle.hierarchy.specs.Walks.{Finds, PassesTest, is_variable}
 use Rattle.hierarchy.specs.Listing.{variables, parameters}
 use Rattle.hierarchy.specs.Settings.{is_flow, is_state_variable, is_flow_variable}
-use Rattle.hierarchy.specs.Tie.{IsTreeOf, IsVariable, HasDomain, boolean, named, HasParameterDomain, domain, integer, kept, AnswersThing}
+use Rattle.hierarchy.specs.Tie.{IsTreeOf, IsVariableNode, HasParameterDomain, domain, integer, kept, AnswersThing}
+use Rattle.hierarchy.specs.TypeDomains.{HasDomain, boolean, named}
 use Rattle.hierarchy.specs.declared.tree.ParNode.{ParNode}
 use Rattle.hierarchy.specs.declared.tree.VarNode.{VarNode}
 use Rattle.hierarchy.specs.declared.tree.Tree.{Tree}
@@ -32,7 +33,7 @@ use Rattle.source_meaning.specs.Kinds.{kind_of_body, kind_of_type, kind_of_membe
 use Rattle.source_meaning.specs.Rules.{IsNot, Is}
 use Rattle.source_meaning.specs.Tested as s
 use Rattle.source_meaning.proofs.OneMeaning.{leads_same}
-use Rattle.written_forms.specs.Wrong.{Names, IsNamed}
+use Rattle.written_forms.specs.Wrong.{NamesKind, IsNamedPath}
 use Rattle.written_forms.specs.Breaches.{IsSort, IsTarget}
 use Rattle.bind_scopes.specs.Searching.{variable_in}
 use Rattle.bind_scopes.specs.Sites.{declares_flows}
@@ -82,7 +83,7 @@ module _ {m : RootedModel} {units : List UnitPath} {tree : Tree} (is : IsTreeOf 
         },
       )
 
-  pub valued_kind : (n : ℕ) (t : Thing) → Stands (parameters m units) n t → Has m is_valued t
+  pub valued_kind : (n : ℕ) (t : Thing) → Stands (parameters m units) n t → PassesTest m is_valued t
       → (j : ValueKind) × (option_map (λ (d : ParNode). kind_of_parameter d.domain) (slice_get tree.parameters.items n)
       ≡ Some j) × IsOfKind m t j
   valued_kind n t st h =
@@ -147,7 +148,7 @@ sort_kind States g = is_state_variable g
 sort_kind Flows g = not (is_flow_variable g)
 
 module _ {m : RootedModel} {units : List UnitPath} {tree : Tree} (is : IsTreeOf m units tree) where
-  node_sort : (sort : Sort) (t : Thing) (d : VarNode) (h : IsVariable m units t d)
+  node_sort : (sort : Sort) (t : Thing) (d : VarNode) (h : IsVariableNode m units t d)
       → sort_of tree sort d ≡ sort_kind sort h.given.kind
   node_sort States t d h = h.state ∙ sym (ap is_state_variable h.is)
   node_sort Flows t d h = ap not (
@@ -206,17 +207,17 @@ module _ {m : RootedModel} {units : List UnitPath} {u : UnitPath} {scope : s.Sco
   in_names = scoped_names h.are names.unit.n u h.at names.scope scope h.in_scope p
 
   -- what is named in the scope is what may be named there
-  pub named_may : IsNamed (kind_in names) p → s.MayName m u scope p
+  pub named_may : IsNamedPath (kind_in names) p → s.MayName m u scope p
   named_may n = may_by (scoped_in names.scopes.now names.unit.n names.scope p) in_names n.0 n.1
 
-  pub may_named : s.MayName m u scope p → IsNamed (kind_in names) p
+  pub may_named : s.MayName m u scope p → IsNamedPath (kind_in names) p
   may_named may = named_by (scoped_in names.scopes.now names.unit.n names.scope p) in_names may
 
   -- the kind of what is named is its kind
-  pub kind_names : (j : ValueKind) → Names (kind_in names) p j → HasKindAt m u p j
+  pub kind_names : (j : ValueKind) → NamesKind (kind_in names) p j → HasKindAt m u p j
   kind_names j e = kind_by (scoped_in names.scopes.now names.unit.n names.scope p) in_names j e
 
-  pub names_kind : scope ≡ s.Everything → (j : ValueKind) → HasKindAt m u p j → Names (kind_in names) p j
+  pub names_kind : scope ≡ s.Everything → (j : ValueKind) → HasKindAt m u p j → NamesKind (kind_in names) p j
   names_kind e j k =
       let w = may_named (subst (λ (z : s.Scope). s.MayName m u z p) (sym e) (kind_may k)) in
       w.1 ∙ ap (λ (z : ValueKind). Some z) (kind_same (kind_names w.0 w.1) k)

@@ -13,11 +13,11 @@ use Rattle.ar_syntax.specs.declared.members.Setting.{Setting}
 use Rattle.ar_syntax.specs.declared.members.TypeForm.{TypeForm}
 use Rattle.ar_syntax.specs.declared.members.TypeForm.TheVariants as form
 use Rattle.class_table.specs.Declaring.{Declared, NamedType}
-use Rattle.class_table.specs.Members.{Site, NamedMember, MemberKind, declared_kind, all_named, names_of, named_at, owned_at, kind_of, type_named}
+use Rattle.class_table.specs.Members.{Site, NamedMember, MemberKind, declared_kind, all_named, names_of, named_at, owned_at, member_kind_of, type_named}
 use Rattle.class_table.specs.Shown.{IsDeclaredBy}
 use Rattle.class_table.specs.declared.tables.Body.{Body}
 use Rattle.class_table.specs.declared.tables.Classes.{Classes}
-use Rattle.hierarchy.specs.Models.{RootedModel, IsTableFor, sites_kept}
+use Rattle.hierarchy.specs.Models.{RootedModel, IsRootedTable, sites_kept}
 use Rattle.hierarchy.specs.Units.{UnitPath, names_in}
 use Rattle.hierarchy.specs.Tie.{IsTreeOf}
 use Rattle.instantiate.proofs.OneName.{members_there, members_past}
@@ -102,7 +102,8 @@ module _ {S : Type 0} (b : ℕ) where
   adds_declared d s (form.Named x) settings names old new e h = by (type_named d x.n) e
     where
       by : (t : Option NamedType) → true ≡ is_some t
-          → AddsNames b (all_named s (option_map (λ (u : NamedType). kind_of s (form.Named x) u settings) t) names) old
+          → AddsNames b (all_named s (option_map (λ (u : NamedType). member_kind_of s (form.Named x) u settings) t)
+          names) old
           new
       by None i = cc
       by (Some t) i = h _
@@ -115,7 +116,8 @@ module _ {S : Type 0} (b : ℕ) where
   adds_nothing d s (form.Named x) settings names old e = by (type_named d x.n) e
     where
       by : (t : Option NamedType) → false ≡ is_some t
-          → AddsNames b (all_named s (option_map (λ (u : NamedType). kind_of s (form.Named x) u settings) t) names) old
+          → AddsNames b (all_named s (option_map (λ (u : NamedType). member_kind_of s (form.Named x) u settings) t)
+          names) old
           old
       by None i = adds_none old
       by (Some t) i = cc
@@ -147,7 +149,7 @@ module _ {S : Type 0} (m : RootedModel) where
       none : (b x : ℕ) → HasName s b x → ⊥
       none b x h = let g = rw e at h in cc
 
-  pub first_more : (c : Classes) → IsTableFor m c → (n : ℕ) (body : Body) → Stands c.bodies.items n body
+  pub first_more : (c : Classes) → IsRootedTable m c → (n : ℕ) (body : Body) → Stands c.bodies.items n body
       → (old new : HashSet (ℕ × ℕ) S) → AddsNames n (named_at m.declared (sites_kept body)) old new
       → HasFirst m n old → HasFirst m (n + 1) new
   first_more c t n body s old new a h = record { there = there; only = only }

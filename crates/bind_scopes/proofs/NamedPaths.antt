@@ -12,9 +12,9 @@ use Rattle.ar_syntax.specs.declared.paths.PathStart.TheVariants.{Here, Owner, Ma
 use Rattle.class_table.specs.Members.{NamedMember, MemberKind, Variable, Parameter, Kept, Event, Observer, Inner, Clone, Alias, member_named}
 use Rattle.hierarchy.specs.Models.{RootedModel}
 use Rattle.hierarchy.specs.Units.{UnitPath, Thing, names_at, name_at, kind_at, numbers, body_of, start_of, names_in}
-use Rattle.hierarchy.specs.Walks.{Finds, Has, LeadsTo, thing, is_variable, is_parameter, arrives, NamesLead, Reaches}
+use Rattle.hierarchy.specs.Walks.{Finds, PassesTest, LeadsTo, thing, is_variable, is_parameter, arrives, NamesLead, Reaches}
 use Rattle.hierarchy.specs.Listing.{variables, parameters, things_in}
-use Rattle.hierarchy.specs.Tie.{IsTreeOf, IsVariable, IsParameter, AnswersThing}
+use Rattle.hierarchy.specs.Tie.{IsTreeOf, IsVariableNode, IsParameterNode, AnswersThing}
 use Rattle.hierarchy.specs.declared.tree.ParNode.{ParNode}
 use Rattle.hierarchy.specs.declared.tree.UnitNode.{UnitNode}
 use Rattle.hierarchy.specs.declared.tree.VarNode.{VarNode}
@@ -156,13 +156,13 @@ module _ {m : RootedModel} {units : List UnitPath} {table : Scopes} (are : AreSc
 
   pub variable_answers : (p : Path) → AnswersThing m (variables m units) is_variable u p.start (numbers p.names.items)
       (variable_in table.tree.now n p)
-  variable_answers p = answers are.is_tree is_variable (λ (d : VarNode). d.node) (IsVariable m units)
+  variable_answers p = answers are.is_tree is_variable (λ (d : VarNode). d.node) (IsVariableNode m units)
       (λ t d i. (i.given, i.node)) table.tree.now.variables.items are.is_tree.variables_are n u at p.start
       (numbers p.names.items)
 
   pub parameter_answers : (p : Path) → AnswersThing m (parameters m units) is_parameter u p.start
       (numbers p.names.items) (parameter_in table.tree.now n p)
-  parameter_answers p = answers are.is_tree is_parameter (λ (d : ParNode). d.node) (IsParameter m units)
+  parameter_answers p = answers are.is_tree is_parameter (λ (d : ParNode). d.node) (IsParameterNode m units)
       (λ t d i. (i.given, i.node)) table.tree.now.parameters.items are.is_tree.parameters_are n u at p.start
       (numbers p.names.items)
 
@@ -336,8 +336,8 @@ may_more {u = u} scope (s.earlier x n h e) =
     s.parameter (thing u x) (record { leads = name_leads x n.here n.single; has = h })
 
 -- one name, what it names, and what another word says of that
-module _ {m : RootedModel} {u : UnitPath} {p : Path} (x : ℕ) (n : s.IsName p x) where
-  not_variable : Has m is_valued (thing u x) → (t : Thing) → Finds m is_variable u p t → ⊥
+module _ {m : RootedModel} {u : UnitPath} {p : Path} (x : ℕ) (n : s.IsOneName p x) where
+  not_variable : PassesTest m is_valued (thing u x) → (t : Thing) → Finds m is_variable u p t → ⊥
   not_variable h t f =
       let q = name_only x n.here n.single t f.leads in
       let e = kind_one (ap (λ (z : Thing). kind_at m z.unit z.name) (sym q) ∙ f.has.is) h.is in
@@ -362,8 +362,8 @@ module _ {m : RootedModel} {units : List UnitPath} {tree : Tree} (is : IsTreeOf 
   constant_other t f e (s.own x n h) = let q = true_name p.start (numbers p.names.items) x n.here n.single in cc
 
   has_name : (x : ℕ) (t : Thing) → p.start ≡ Here → numbers p.names.items ≡ x ∷ [] → Finds m is_valued u p t
-      → Has m is_valued (thing u x)
-  has_name x t here single f = subst (λ (z : Thing). Has m is_valued z) (name_only x here single t f.leads) f.has
+      → PassesTest m is_valued (thing u x)
+  has_name x t here single f = subst (λ (z : Thing). PassesTest m is_valued z) (name_only x here single t f.leads) f.has
 
   constant_parameter : (k : ℕ) (t : Thing) → Finds m is_valued u p t → Stands (parameters m units) k t → (single : Bool)
       → is_name p.start (numbers p.names.items) ≡ single
@@ -389,7 +389,7 @@ module _ {m : RootedModel} {units : List UnitPath} {tree : Tree} (is : IsTreeOf 
 
     -- a parameter that stands no earlier is named by no earlier name
     not_before : (k : ℕ) (t : Thing) → Finds m is_valued u p t → Stands (parameters m units) k t → j ≤ k → (x : ℕ)
-        → s.IsName p x → s.IsEarlier m u x y → ⊥
+        → s.IsOneName p x → s.IsEarlierMember m u x y → ⊥
     not_before k t f st l x n e = by (side k j)
       where
         q : t ≡ thing u x
@@ -401,7 +401,7 @@ module _ {m : RootedModel} {units : List UnitPath} {tree : Tree} (is : IsTreeOf 
             let r = stands_one (parameters m units) k (thing u y) t
             (subst (λ (z : ℕ). Stands (parameters m units) z (thing u y)) i at) st ∙ q in
             not_earlier m is_parameter is.table.kept u y
-            (subst (λ (z : ℕ). s.IsEarlier m u z y) (sym (ap (λ (z : Thing). z.name) r)) e)
+            (subst (λ (z : ℕ). s.IsEarlierMember m u z y) (sym (ap (λ (z : Thing). z.name) r)) e)
         by (inr a) =
             let o = listed_order m is_parameter is.table.kept is.are_units j k (thing u y) (thing u x) a
             at (subst (λ (z : Thing). Stands (parameters m units) k z) q st) refl in
@@ -453,17 +453,17 @@ scoped_names {table = table} are n u at scope meant i p =
 -- a parameter that is read has a value
 pub read_valued : {m : RootedModel} {units : List UnitPath} {table : Scopes} (are : AreScopes m units table) (k : ℕ)
     (t : Thing) → Stands (parameters m units) k t → (r : Bool) → r ≡ is_read_in table.tree.now k
-    → IsTrue r ↔ Has m is_valued t
+    → IsTrue r ↔ PassesTest m is_valued t
 read_valued {m = m} {units = units} {table = table} are k t st r e =
     by r (e ∙ read_is are 0 [] (main_first are.is_tree.are_units) k t st has.kind has.is has.passes)
   where
     from : ComesFrom (things_in is_parameter m) units t
     from = flat_origin (things_in is_parameter m) units k t st
 
-    has : Has m is_parameter t
+    has : PassesTest m is_parameter t
     has = listed_has m is_parameter are.is_tree.table.kept from.item t from.is_one
 
-    by : (r : Bool) → r ≡ is_valued has.kind → IsTrue r ↔ Has m is_valued t
+    by : (r : Bool) → r ≡ is_valued has.kind → IsTrue r ↔ PassesTest m is_valued t
     by true f = (λ h. record { kind = has.kind; is = has.is; passes = sym f }, λ v. (let g : true ≡ true = cc in g))
     by false f = (λ h. cc, λ v. (let q = kind_one has.is v.is in let g = v.passes in let i : is_valued v.kind ≡ false = ap is_valued (sym q) ∙ sym f in cc))
 

@@ -5,13 +5,13 @@ use Rattle.ar_base.specs.Lists.{Stands, IsOneOf, AreDifferent}
 use Rattle.ar_base.proofs.Standing.{stands_none, stands_split, stands_within, stands_map_back, one_here}
 use Rattle.ar_base.proofs.Comparing.{side}
 use Rattle.class_table.specs.Members.{NamedMember, MemberKind}
-use Rattle.hierarchy.specs.Models.{RootedModel, IsKept}
+use Rattle.hierarchy.specs.Models.{RootedModel, KeepsTextRules}
 use Rattle.hierarchy.specs.Units.{UnitPath, Thing, names_at}
 use Rattle.hierarchy.specs.Walks.{thing}
 use Rattle.hierarchy.specs.Listing.{AreUnits, things_in}
 use Rattle.hierarchy.proofs.Apart.{members_apart, units_different}
 use Rattle.hierarchy.proofs.Things.{filter_back, flat_origin, thing_unit}
-use Rattle.source_meaning.specs.Tested.{IsEarlier}
+use Rattle.source_meaning.specs.Tested.{IsEarlierMember}
 
 -- two items that stand in this order
 pub record InOrder {A : Type 0} (xs : List A) (a b : A) : Type 0 where
@@ -74,7 +74,7 @@ module _ {A B : Type 0} (f : A → List B) where
 module _ (m : RootedModel) (test : MemberKind → Bool) where
   -- two things of a unit that stand in this order come from members in this order
   things_order : (u : UnitPath) (i j : ℕ) (t s : Thing) → i < j → Stands (things_in test m u) i t
-      → Stands (things_in test m u) j s → IsEarlier m u t.name s.name
+      → Stands (things_in test m u) j s → IsEarlierMember m u t.name s.name
   things_order u i j t s l p q =
       let a = stands_map_back (λ (g : NamedMember). thing u g.name)
       (filter (λ (g : NamedMember). test g.kind) (names_at m u)) i t p in
@@ -94,11 +94,11 @@ module _ (m : RootedModel) (test : MemberKind → Bool) where
       }
 
   -- of one name there is no earlier one
-  pub not_earlier : IsKept m → (u : UnitPath) (x : ℕ) → IsEarlier m u x x → ⊥
+  pub not_earlier : KeepsTextRules m → (u : UnitPath) (x : ℕ) → IsEarlierMember m u x x → ⊥
   not_earlier k u x e = let h = (members_apart k u).apart e.j e.k e.first e.later e.is_first e.is_later (e.first_name ∙ sym e.later_name) in let l = e.before in omega (arith, h, l)
 
   -- of two names one alone is the earlier
-  pub one_earlier : IsKept m → (u : UnitPath) (x y : ℕ) → IsEarlier m u x y → IsEarlier m u y x → ⊥
+  pub one_earlier : KeepsTextRules m → (u : UnitPath) (x y : ℕ) → IsEarlierMember m u x y → IsEarlierMember m u y x → ⊥
   one_earlier k u x y e f =
       let g = (members_apart k u).apart e.j f.k e.first f.later e.is_first f.is_later
       (e.first_name ∙ sym f.later_name) in
@@ -106,7 +106,7 @@ module _ (m : RootedModel) (test : MemberKind → Bool) where
       (e.later_name ∙ sym f.first_name) in
       let l = e.before in let n = f.before in omega (arith, g, h, l, n)
 
-  things_different : IsKept m → (u : UnitPath) → AreDifferent (things_in test m u)
+  things_different : KeepsTextRules m → (u : UnitPath) → AreDifferent (things_in test m u)
   things_different k u = record { one = λ i j t p q. by i j t p q (side i j) (side j i) }
     where
       by : (i j : ℕ) (t : Thing) → Stands (things_in test m u) i t → Stands (things_in test m u) j t → (i ≤ j) ⊎ (j < i)
@@ -116,7 +116,7 @@ module _ (m : RootedModel) (test : MemberKind → Bool) where
       by i j t p q (inl a) (inr b) = absurd (not_earlier k u t.name (things_order u i j t t b p q))
 
   -- no thing is listed twice
-  pub all_different : {units : List UnitPath} → IsKept m → AreUnits m units
+  pub all_different : {units : List UnitPath} → KeepsTextRules m → AreUnits m units
       → AreDifferent (flat_map (things_in test m) units)
   all_different {units = units} k are =
       flat_different (things_in test m) units (units_different k are) (things_different k)
@@ -125,7 +125,7 @@ module _ (m : RootedModel) (test : MemberKind → Bool) where
   -- two things of one unit that are listed in this order come from members in this order
   ordered : (us : List UnitPath) → AreDifferent us → (i j : ℕ) (t s : Thing) → i < j
       → Stands (flat_map (things_in test m) us) i t → Stands (flat_map (things_in test m) us) j s → t.unit ≡ s.unit
-      → IsEarlier m t.unit t.name s.name
+      → IsEarlierMember m t.unit t.name s.name
   ordered [] d i j t s l p q e = absurd (stands_none i t p)
   ordered (u ∷ us) d i j t s l p q e =
       by (λ a b h f g. ordered us (rest_different (things_in test m) u us d) a b t s h f g e)
@@ -133,13 +133,13 @@ module _ (m : RootedModel) (test : MemberKind → Bool) where
       (stands_split (things_in test m u) (flat_map (things_in test m) us) j s q)
     where
       by : ((a b : ℕ) → a < b → Stands (flat_map (things_in test m) us) a t
-          → Stands (flat_map (things_in test m) us) b s → IsEarlier m t.unit t.name s.name)
+          → Stands (flat_map (things_in test m) us) b s → IsEarlierMember m t.unit t.name s.name)
           → Stands (things_in test m u) i t
           ⊎ ((k : ℕ) × (i ≡ length (things_in test m u) + k) × Stands (flat_map (things_in test m) us) k t)
           → Stands (things_in test m u) j s
           ⊎ ((k : ℕ) × (j ≡ length (things_in test m u) + k) × Stands (flat_map (things_in test m) us) k s)
-          → IsEarlier m t.unit t.name s.name
-      by more (inl f) (inl g) = subst (λ (z : UnitPath). IsEarlier m z t.name s.name)
+          → IsEarlierMember m t.unit t.name s.name
+      by more (inl f) (inl g) = subst (λ (z : UnitPath). IsEarlierMember m z t.name s.name)
           (sym (thing_unit m test u t (one_here (things_in test m u) i t f))) (things_order u i j t s l f g)
       by more (inl f) (inr g) =
           let w = flat_origin (things_in test m) us g.0 s g.2 in
@@ -149,7 +149,7 @@ module _ (m : RootedModel) (test : MemberKind → Bool) where
       by more (inr f) (inl g) = absurd (let h = stands_within (things_in test m u) j s g in let a = f.1 in omega (arith, h, a, l))
       by more (inr f) (inr g) = more f.0 g.0 (let a = f.1 in let b = g.1 in omega (arith, a, b, l)) f.2 g.2
 
-  pub listed_order : {units : List UnitPath} → IsKept m → AreUnits m units → (i j : ℕ) (t s : Thing) → i < j
+  pub listed_order : {units : List UnitPath} → KeepsTextRules m → AreUnits m units → (i j : ℕ) (t s : Thing) → i < j
       → Stands (flat_map (things_in test m) units) i t → Stands (flat_map (things_in test m) units) j s
-      → t.unit ≡ s.unit → IsEarlier m t.unit t.name s.name
+      → t.unit ≡ s.unit → IsEarlierMember m t.unit t.name s.name
   listed_order {units = units} k are i j t s l p q e = ordered units (units_different k are) i j t s l p q e

@@ -17,7 +17,7 @@ use Rattle.class_table.specs.declared.tables.Classes.{Classes}
 use Rattle.class_table.specs.declared.tables.Owned.{Owned}
 use Rattle.class_table.specs.declared.tables.Owned.TheVariants.{Plain, Nested}
 use Rattle.class_table.proofs.MemberNames.{site_there, site_past}
-use Rattle.hierarchy.specs.Models.{RootedModel, IsTableFor}
+use Rattle.hierarchy.specs.Models.{RootedModel, IsRootedTable}
 use Rattle.hierarchy.specs.Units.{UnitPath, Thing, name_at}
 use Rattle.hierarchy.specs.Walks.{is_variable, is_parameter}
 use Rattle.hierarchy.specs.Settings.{Attribute, TargetWord, Named, settings_of, settings_at, setting_for, set_by, outermost, target_in, target_of, declared_in, in_force, in_force_by, in_force_given, same_target}
@@ -279,7 +279,7 @@ module _ (m : RootedModel) where
 
 -- what the table says of the value of a thing
 pub attribute_written : (m : RootedModel) (c : Classes) (units : List UnitPath) (t : Thing) (b : tree.Attribute)
-    (source : Source) → IsTableFor m c → b.source ≡ source → HasAttribute m units t b
+    (source : Source) → IsRootedTable m c → b.source ≡ source → HasAttribute m units t b
     → (a : Attribute) × (in_force m t ≡ Some a) × IsAttribute units a b
     × (written_of source.setting (owned_in c source) ≡ Some a.value)
 attribute_written m c units t b source table e h =

@@ -11,7 +11,7 @@ use Rattle.hierarchy.specs.Models.{RootedModel}
 use Rattle.hierarchy.specs.Units.{UnitPath, Thing, kind_at, name_at, start_of}
 use Rattle.hierarchy.specs.Walks.{Reaches, NamesLead, LeadsFrom, IsUnitAt, on, arrives}
 use Rattle.hierarchy.specs.Listing.{things_in, is_inner}
-use Rattle.hierarchy.specs.Tie.{IsUnit, IsTreeOf, IsNode, AnswersThing, entry_in, is_alias}
+use Rattle.hierarchy.specs.Tie.{IsUnitNode, IsTreeOf, IsNode, AnswersThing, entry_in, is_alias}
 use Rattle.hierarchy.specs.Finding.{StartsAt, FindsNode, HasOwner, unit_number}
 use Rattle.hierarchy.specs.declared.tree.MemNode.{MemNode}
 use Rattle.hierarchy.specs.declared.tree.UnitNode.{UnitNode}
@@ -57,8 +57,8 @@ module _ (m : RootedModel) (units : List UnitPath) where
   LeadsIn u start names (Some o) = HasOwner m units u start names o.0 o.1
 
   -- one name, by the entries of its unit
-  step_by : (u : UnitPath) (d : UnitNode) → IsUnit m units u d → (x : ℕ) (a b : Option ℕ) → entry_in d.inner.items x ≡ a
-      → entry_in d.aliases.items x ≡ b → Leads u x (option_or a b)
+  step_by : (u : UnitPath) (d : UnitNode) → IsUnitNode m units u d → (x : ℕ) (a b : Option ℕ) → entry_in d.inner.items x
+      ≡ a → entry_in d.aliases.items x ≡ b → Leads u x (option_or a b)
   step_by u d is x (Some k) b e f = let r = is.inner.found x k e in (r.0, r.1, r.2.leads)
   step_by u d is x None (Some k) e f = let r = is.aliases.found x k f in (r.0, r.1, r.2.leads)
   step_by u d is x None None e f = λ w l.

@@ -5,8 +5,8 @@ ghost use Rattle.ar_base.specs.Lists.{Along, Stands};
 ghost use Rattle.class_table.specs.Declaring.{Declared};
 ghost use Rattle.class_table.specs.Members.{Site, MemberKind, NamedMember, names_of, named_at, all_named, owned_at as declared_at};
 ghost use Rattle.class_table.specs.Shown.{IsDeclaredBy};
-ghost use Rattle.class_table.specs.Tables.{Holds, IsNamedType, site_of};
-ghost use Rattle.hierarchy.specs.Models.{RootedModel, IsTableFor};
+ghost use Rattle.class_table.specs.Tables.{HoldsDeclared, IsNamedType, site_of};
+ghost use Rattle.hierarchy.specs.Models.{RootedModel, IsRootedTable};
 ghost use Rattle.unit_rules.specs.Typing.{KnowsPlaces};
 ghost use Rattle.bind_scopes.specs.Members.{AddsNames, HasFirst};
 
@@ -99,7 +99,7 @@ fn add_site(
     places: &TypePlaces,
     site: (BodyId, u32),
 ) -> Result<(), Memory>
-    ensures { (d : Declared) → Holds d classes.now → KnowsPlaces classes.now.types.items places.now
+    ensures { (d : Declared) → HoldsDeclared d classes.now → KnowsPlaces classes.now.types.items places.now
         → OnOk result (AddsNames body.n
         (names_of d (site_of site) (declared_at d (site_of site))) names.old names.new) }
 {
@@ -117,7 +117,7 @@ fn add_sites(
     places: &TypePlaces,
     sites: &[(BodyId, u32)],
 ) -> Result<(), Memory>
-    ensures { (d : Declared) → Holds d classes.now → KnowsPlaces classes.now.types.items places.now
+    ensures { (d : Declared) → HoldsDeclared d classes.now → KnowsPlaces classes.now.types.items places.now
         → OnOk result (AddsNames body.n (named_at d (map site_of sites.now)) names.old names.new) }
 {
     for site in sites {
@@ -134,7 +134,7 @@ fn add_body(
     place: usize,
     body: &Body,
 ) -> Result<(), Memory>
-    ensures { (m : RootedModel) → IsTableFor m classes.now
+    ensures { (m : RootedModel) → IsRootedTable m classes.now
         → KnowsPlaces classes.now.types.items places.now
         → Stands classes.now.bodies.items place body.now → HasFirst m place names.old
         → OnOk result (HasFirst m (place + 1) names.new) }
@@ -147,7 +147,7 @@ fn add_body(
 
 /// The names of the members of all bodies, inherited ones included.
 pub(crate) fn names_of_members(alloc: Global, classes: &Classes) -> Result<Names, Memory>
-    ensures { (m : RootedModel) → IsTableFor m classes.now
+    ensures { (m : RootedModel) → IsRootedTable m classes.now
         → IfOk result (HasFirst m (length classes.now.bodies.items)) }
 {
     let places = TypePlaces::new(alloc, &classes.types)?;

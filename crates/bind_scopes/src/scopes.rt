@@ -6,7 +6,7 @@ ghost use Rattle.ar_base.specs.Lists.{Stands};
 ghost use Rattle.ar_base.specs.Numbers.{EventId as EventNumber};
 ghost use Rattle.hierarchy.specs.Models.{RootedModel};
 ghost use Rattle.hierarchy.specs.Units.{UnitPath, Thing, numbers};
-ghost use Rattle.hierarchy.specs.Walks.{Has, is_event};
+ghost use Rattle.hierarchy.specs.Walks.{PassesTest, is_event};
 ghost use Rattle.hierarchy.specs.Listing.{parameters, events};
 ghost use Rattle.source_meaning.specs.Means.{is_valued};
 ghost use Rattle.source_meaning.specs.Kinds.{kind_of_type};
@@ -117,7 +117,7 @@ impl<'a> Scopes<'a> {
         ensures value { result ≡ is_read_in self.now.tree.now place }
         ensures valued { (m : RootedModel) (units : List UnitPath) (t : Thing)
             → AreScopes m units self.now → Stands (parameters m units) place t
-            → IsTrue result ↔ Has m is_valued t }
+            → IsTrue result ↔ PassesTest m is_valued t }
     {
         self.is_read_at(place)
     }

@@ -2,8 +2,8 @@
 
 ghost use Rattle.std.specs.Prelude.{◌≡◌, ℕ, List, Some, option_copied};
 ghost use Rattle.class_table.specs.Declaring.{Declared};
-ghost use Rattle.class_table.specs.Tables.{Holds};
-ghost use Rattle.hierarchy.specs.Models.{RootedModel, IsTableFor};
+ghost use Rattle.class_table.specs.Tables.{HoldsDeclared};
+ghost use Rattle.hierarchy.specs.Models.{RootedModel, IsRootedTable};
 ghost use Rattle.hierarchy.specs.Units.{UnitPath, Thing};
 ghost use Rattle.hierarchy.specs.Settings.{Attribute as Value, in_force};
 ghost use Rattle.hierarchy.specs.Tie.{HasAttribute, IsAttribute};
@@ -72,7 +72,7 @@ fn written_in(owned: &Owned, setting: Option<u32>) -> Option<&RawExpr>
 pub fn written<'a>(classes: &'a Classes, source: Source) -> Option<&'a RawExpr>
     ensures value { option_copied result ≡ written_of source.setting (owned_in classes.now source) }
     ensures in_force { (m : RootedModel) (units : List UnitPath) (t : Thing) (b : Attribute)
-        → IsTableFor m classes.now → b.source ≡ source → HasAttribute m units t b
+        → IsRootedTable m classes.now → b.source ≡ source → HasAttribute m units t b
         → (a : Value) × (in_force m t ≡ Some a) × IsAttribute units a b
         × (option_copied result ≡ Some a.value) }
 {

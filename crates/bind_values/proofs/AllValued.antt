@@ -11,11 +11,11 @@ use Rattle.hierarchy.specs.Models.{RootedModel}
 use Rattle.hierarchy.specs.Units.{UnitPath, Thing}
 use Rattle.hierarchy.specs.Listing.{variables, parameters}
 use Rattle.hierarchy.specs.Settings.{Attribute, in_force}
-use Rattle.hierarchy.specs.Tie.{IsTreeOf, IsVariable, IsParameter}
+use Rattle.hierarchy.specs.Tie.{IsTreeOf, IsVariableNode, IsParameterNode}
 use Rattle.hierarchy.specs.declared.tree.ParNode.{ParNode}
 use Rattle.hierarchy.specs.declared.tree.Tree.{Tree}
 use Rattle.hierarchy.specs.declared.tree.VarNode.{VarNode}
-use Rattle.source_meaning.specs.Tested.{HasValue, of_variable, of_parameter}
+use Rattle.source_meaning.specs.Tested.{IsReadable, of_variable, of_parameter}
 use Rattle.source_meaning.specs.Rules.{BreaksValue}
 use Rattle.bind_values.specs.Values.{IsValue, IsParameterValue, IsDomainAt, HoldsIn, AreValues, BreaksOne}
 use Rattle.bind_values.specs.declared.whole.Values.{Values}
@@ -34,7 +34,7 @@ module _ (m : RootedModel) (units : List UnitPath) where
       to at (inl b) = b.breaks.breaks
       to at (inr b) = b.breaks.breaks
 
-      by : (at : Place) (b : BreaksValue m units at) → HasValue m units b.thing
+      by : (at : Place) (b : BreaksValue m units at) → IsReadable m units b.thing
           → BreaksOne m units (parameters m units) at ⊎ BreaksOne m units (variables m units) at
       by at b (of_variable o) = inr (record
           { thing = b.thing; is_one = o; breaks = record { breaks = b; thing = refl } })
@@ -47,7 +47,7 @@ module _ (m : RootedModel) (units : List UnitPath) where
 
   -- where nothing breaks the rule, each value is in its domain
   module _ (none : (at : Place) → BreaksValue m units at → ⊥) where
-    holds_in : (t : Thing) (v : Value) → HasValue m units t → IsValue m t v → (d : Domain) → IsDomainAt m t d
+    holds_in : (t : Thing) (v : Value) → IsReadable m units t → IsValue m t v → (d : Domain) → IsDomainAt m t d
         → (b : (a : Attribute) × (in_force m t ≡ Some a)) → Holds d v
     holds_in t v has is d type b = holds_by d v (λ n. none b.0.value.at (record {
       thing = t;
@@ -69,13 +69,13 @@ module _ (m : RootedModel) (units : List UnitPath) where
     module _ (tree : Tree) (is_tree : IsTreeOf m units tree) (values : Values)
         (ps : Along (IsParameterValue m) (parameters m units) values.parameters.items)
         (vs : Along (IsValue m) (variables m units) values.variables.items) where
-      variable_held : (t : Thing) (d : VarNode) (v : Value) → IsOneOf (variables m units) t → IsVariable m units t d
+      variable_held : (t : Thing) (d : VarNode) (v : Value) → IsOneOf (variables m units) t → IsVariableNode m units t d
           → IsValue m t v → Holds d.domain v
       variable_held t d v one h is = holds_in t v (of_variable one) is d.domain (variable_domain m units t d h)
           (h.value.attribute, h.value.in_force)
 
-      parameter_held : (t : Thing) (d : ParNode) (v : Value) → IsOneOf (parameters m units) t → IsParameter m units t d
-          → IsParameterValue m t v → HoldsIn d.domain v
+      parameter_held : (t : Thing) (d : ParNode) (v : Value) → IsOneOf (parameters m units) t → IsParameterNode m units
+          t d → IsParameterValue m t v → HoldsIn d.domain v
       parameter_held t d v one h is = by d.domain refl
         where
           by : (o : Option Domain) → d.domain ≡ o → HoldsIn o v

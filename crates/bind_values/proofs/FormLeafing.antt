@@ -21,9 +21,10 @@ use Rattle.class_table.specs.Members.{MemberKind}
 use Rattle.class_table.specs.Tables.{symbols, range}
 use Rattle.hierarchy.specs.Models.{RootedModel, IsKeptTable}
 use Rattle.hierarchy.specs.Units.{UnitPath, Thing}
-use Rattle.hierarchy.specs.Walks.{Finds, Has, is_variable}
+use Rattle.hierarchy.specs.Walks.{Finds, PassesTest, is_variable}
 use Rattle.hierarchy.specs.Listing.{variables, parameters}
-use Rattle.hierarchy.specs.Tie.{HasDomain, boolean, named, HasParameterDomain, domain}
+use Rattle.hierarchy.specs.Tie.{HasParameterDomain, domain}
+use Rattle.hierarchy.specs.TypeDomains.{HasDomain, boolean, named}
 use Rattle.hierarchy.specs.declared.tree.ParNode.{ParNode}
 use Rattle.hierarchy.specs.declared.tree.VarNode.{VarNode}
 use Rattle.hierarchy.specs.declared.tree.Tree.{Tree}
@@ -106,13 +107,13 @@ module _ {m : RootedModel} {units : List UnitPath} {u : UnitPath} {leaves : Unit
   vs = leaves.parameters.now
 
   -- the value of a parameter
-  parameter_value : (n : ℕ) (t : Thing) → Stands (parameters m units) n t → Has m is_valued t
+  parameter_value : (n : ℕ) (t : Thing) → Stands (parameters m units) n t → PassesTest m is_valued t
       → IsValue m t (value_at vs n)
   parameter_value n t st has =
       let b = along_on (parameters m units) vs h.along n t st in
       subst (λ (z : Value). IsValue m t z) (sym (read_value vs n b.0 b.1)) (b.2.value has)
 
-  parameter_symbol : (n : ℕ) (t : Thing) → Stands (parameters m units) n t → Has m is_valued t
+  parameter_symbol : (n : ℕ) (t : Thing) → Stands (parameters m units) n t → PassesTest m is_valued t
       → IsSymbolIn tree (value_at vs n)
   parameter_symbol n t st has =
       let a = along_on (parameters m units) tree.parameters.items h.are.is_tree.parameters_are n t st in

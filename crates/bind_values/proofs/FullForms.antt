@@ -9,7 +9,7 @@ use Rattle.ar_syntax.specs.declared.instructions.Instr.{Instr, out-Instr}
 use Rattle.ar_syntax.specs.declared.instructions.Instr.TheOpen as instr
 use Rattle.typed_expr.specs.declared.expr.ValueKind.TheVariants.{Truth, Whole}
 use Rattle.ar_syntax.specs.declared.paths.Path.{Path}
-use Rattle.written_forms.specs.Operands.{RawLevel, level_of, Demand, AnyKind, OfKind, Like, Operand, wanting, tests, branches, first_branch, is_equality, sides_by, choices, operands_of}
+use Rattle.written_forms.specs.Operands.{RawLevel, level_of, Demand, AnyKind, OfKind, Like, OperandOfKind, wanting, tests, branches, first_branch, is_equality, sides_by, choice_operands, operands_of}
 use Rattle.written_forms.specs.Full.{HasOperands, IsFull, full}
 use Rattle.written_forms.specs.Parts.{InstrForm, IsPartOf}
 use Rattle.written_forms.specs.Parts as part
@@ -18,29 +18,29 @@ use Rattle.source_meaning.specs.BoundActs as of
 use Rattle.bind_values.specs.Full.{AreFull, ArePartsFull, AreCasesFull, HasFull, HaveFull}
 
 -- each operand has no empty list
-abbrev Each : List Operand → Type 0
-Each os = (o : Operand) → IsOneOf os o → IsFull (level_of o.written)
+abbrev Each : List OperandOfKind → Type 0
+Each os = (o : OperandOfKind) → IsOneOf os o → IsFull (level_of o.written)
 
-each_mapped : {A : Type 0} (f : A → Operand) (xs : List A) → ((a : A) → IsOneOf xs a → IsFull (level_of (f a).written))
-    → Each (map f xs)
+each_mapped : {A : Type 0} (f : A → OperandOfKind) (xs : List A) → ((a : A) → IsOneOf xs a → IsFull (level_of (f
+    a).written)) → Each (map f xs)
 each_mapped f xs h o i =
     let b = stands_map_back f xs i.place o i.stands in
-    subst (λ (z : Operand). IsFull (level_of z.written)) b.2 (h b.0 (one_here xs i.place b.0 b.1))
+    subst (λ (z : OperandOfKind). IsFull (level_of z.written)) b.2 (h b.0 (one_here xs i.place b.0 b.1))
 
 each_one : (d : Demand) (e : RawExpr) → IsFull (level_of e) → Each (wanting d e ∷ [])
 each_one d e h o i = elim (one_cases (wanting d e) [] o i) [
-  | inl q ↦ subst (λ (z : Operand). IsFull (level_of z.written)) q h
+  | inl q ↦ subst (λ (z : OperandOfKind). IsFull (level_of z.written)) q h
   | inr j ↦ absurd (one_none o j)
 ]
 
 each_two : (c d : Demand) (a b : RawExpr) → IsFull (level_of a) → IsFull (level_of b)
     → Each (wanting c a ∷ wanting d b ∷ [])
 each_two c d a b h k o i = elim (one_cases (wanting c a) (wanting d b ∷ []) o i) [
-  | inl q ↦ subst (λ (z : Operand). IsFull (level_of z.written)) q h
+  | inl q ↦ subst (λ (z : OperandOfKind). IsFull (level_of z.written)) q h
   | inr j ↦ each_one d b k o j
 ]
 
-each_joined : (os ps : List Operand) → Each os → Each ps → Each (os ++ ps)
+each_joined : (os ps : List OperandOfKind) → Each os → Each ps → Each (os ++ ps)
 each_joined os ps h k o i = elim (one_split os ps o i) [ inl j ↦ h o j | inr j ↦ k o j ]
 
 each_side : (equal : Bool) (a b : RawExpr) → IsFull (level_of a) → IsFull (level_of b) → Each (sides_by equal a b)
@@ -48,7 +48,7 @@ each_side true a b h k = each_two AnyKind (Like a) a b h k
 each_side false a b h k = each_two (OfKind Whole) (OfKind Whole) a b h k
 
 each_choice : (cases : List (RawExpr × RawExpr)) (other : RawExpr) → AreCasesFull cases → IsFull (level_of other)
-    → Each (choices cases other)
+    → Each (choice_operands cases other)
 each_choice cases other h k =
     let first = first_branch cases other in
     each_joined (tests cases ++ branches first cases) (wanting (Like first) other ∷ [])
@@ -64,7 +64,7 @@ module _ (e : RawExpr) where
   -- a form without operands
   pub leaf_full : (l : RawLevel) → level_of e ≡ l → operands_of l ≡ [] → HasOperands l → IsFull (level_of e)
   leaf_full l q none h = as_form l q (full h
-      (λ o i. absurd (one_none o (subst (λ (z : List Operand). IsOneOf z o) none i))))
+      (λ o i. absurd (one_none o (subst (λ (z : List OperandOfKind). IsOneOf z o) none i))))
 
   pub opposite_full : (a : Box RawExpr Global) → level_of e ≡ raw.Not a → IsFull (level_of a.value)
       → IsFull (level_of e)

@@ -8,7 +8,7 @@ use Rattle.domains.specs.declared.Value.TheVariants as value
 use Rattle.typed_expr.specs.Kinds.{kind_of}
 use Rattle.hierarchy.specs.Models.{RootedModel}
 use Rattle.hierarchy.specs.Units.{UnitPath, Thing, kind_at}
-use Rattle.hierarchy.specs.Walks.{Finds, Has, thing, is_variable}
+use Rattle.hierarchy.specs.Walks.{Finds, PassesTest, thing, is_variable}
 use Rattle.hierarchy.specs.Listing.{parameters}
 use Rattle.source_meaning.specs.Means.{is_valued}
 use Rattle.source_meaning.specs.Kinds.{HasKindAt}
@@ -29,7 +29,7 @@ use Rattle.gts_core.proofs.Reading.{read_value}
 use Rattle.gts_core.specs.Readings.{value_at}
 
 module _ {m : RootedModel} {u : UnitPath} {p : Path} (t : Thing) (f : Finds m is_variable u p t) where
-  no_own : (x : ℕ) → s.IsName p x → Has m is_valued (thing u x) → ⊥
+  no_own : (x : ℕ) → s.IsOneName p x → PassesTest m is_valued (thing u x) → ⊥
   no_own x n h =
       let q = name_only x n.here n.single t f.leads in
       let e = kind_one (ap (λ (z : Thing). kind_at m z.unit z.name) (sym q) ∙ f.has.is) h.is in

@@ -8,10 +8,10 @@ use Rattle.ar_base.proofs.Comparing.{side}
 use Rattle.ar_syntax.specs.declared.members.Setting.{Setting}
 use Rattle.ar_syntax.specs.declared.paths.Path.{Path}
 use Rattle.class_table.specs.Members.{Site, NamedMember, MemberKind, Variable, Parameter, Kept, Inner, Clone, Alias, Event, Observer}
-use Rattle.hierarchy.specs.Models.{RootedModel, IsKept}
-use Rattle.hierarchy.specs.Units.{Level, UnitPath, Thing, name_at, kind_at}
-use Rattle.hierarchy.specs.Walks.{Finds, Has, thing, is_parameter}
-use Rattle.hierarchy.specs.Listing.{AreUnits, Lists, Insides, unit, none, makes, passes, parameters, things_in}
+use Rattle.hierarchy.specs.Models.{RootedModel, KeepsTextRules}
+use Rattle.hierarchy.specs.Units.{UnitLevel, UnitPath, Thing, name_at, kind_at}
+use Rattle.hierarchy.specs.Walks.{Finds, PassesTest, thing, is_parameter}
+use Rattle.hierarchy.specs.Listing.{AreUnits, ListsUnits, Insides, unit, none, makes, passes, parameters, things_in}
 use Rattle.hierarchy.specs.Settings.{Attribute, TargetWord, Named, settings_at, setting_for, set_by, outermost, target_in, target_of, declared_in, in_force, in_force_by, in_force_given, same_target}
 use Rattle.hierarchy.proofs.Apart.{units_different}
 use Rattle.hierarchy.proofs.Places.{made_named}
@@ -27,8 +27,8 @@ use Rattle.bind_values.specs.Values.{NamesBefore}
 
 -- the unit v stands somewhere above the unit w
 data IsAbove : UnitPath → UnitPath → Type 0 where
-  next : {l : Level} {above : UnitPath} → IsAbove above (l ∷ above)
-  further : {l : Level} {v above : UnitPath} → IsAbove v above → IsAbove v (l ∷ above)
+  next : {l : UnitLevel} {above : UnitPath} → IsAbove above (l ∷ above)
+  further : {l : UnitLevel} {v above : UnitPath} → IsAbove v above → IsAbove v (l ∷ above)
 
 -- a unit that stands before place j
 abbrev Before : List UnitPath → ℕ → UnitPath → Type 0
@@ -36,8 +36,8 @@ Before us j v = (i : ℕ) × (i < j) × Stands us i v
 
 mutual
   -- each unit but the first stands behind the one above it
-  lists_owner : {m : RootedModel} {u : UnitPath} {us : List UnitPath} → Lists m true u us
-      → (j : ℕ) (l : Level) (above : UnitPath) → Stands us j (l ∷ above) → (l ∷ above ≡ u) ⊎ Before us j above
+  lists_owner : {m : RootedModel} {u : UnitPath} {us : List UnitPath} → ListsUnits m true u us
+      → (j : ℕ) (l : UnitLevel) (above : UnitPath) → Stands us j (l ∷ above) → (l ∷ above ≡ u) ⊎ Before us j above
   lists_owner {u = u} (unit {us = us} d) zero l above s = inl (sym (stands_one (u ∷ us) 0 u (l ∷ above) refl s))
   lists_owner {u = u} (unit {us = us} d) (suc j) l above s = elim (insides_owner d j l above s) [
     | inl e ↦ inr (0, omega arith, subst (λ (z : UnitPath). Stands (u ∷ us) 0 z) (sym e) refl)
@@ -45,7 +45,7 @@ mutual
   ]
 
   insides_owner : {m : RootedModel} {u : UnitPath} {gs : List NamedMember} {us : List UnitPath} → Insides m true u gs us
-      → (j : ℕ) (l : Level) (above : UnitPath) → Stands us j (l ∷ above)
+      → (j : ℕ) (l : UnitLevel) (above : UnitPath) → Stands us j (l ∷ above)
       → (above ≡ u) ⊎ Before us j above
   insides_owner none j l above s = absurd (stands_none j (l ∷ above) s)
   insides_owner {m = m} {u = u} (makes {v = v} {g = g} {us = us} {vs = vs} k d ds) j l above s =
@@ -71,7 +71,7 @@ above_before {units = units} are (further {l = l} {v = v} {above = above} h) j s
 ]
 
 -- things of a unit that stands before another stand before those of the other
-module _ {m : RootedModel} {units : List UnitPath} (kept : IsKept m) (are : AreUnits m units)
+module _ {m : RootedModel} {units : List UnitPath} (kept : KeepsTextRules m) (are : AreUnits m units)
     (test : MemberKind → Bool) where
   comes_before : (k n i j : ℕ) (t r : Thing) → Stands (flat_map (things_in test m) units) n t
       → Stands (flat_map (things_in test m) units) k r → Stands units j t.unit → Stands units i r.unit → i < j → k < n
@@ -140,8 +140,8 @@ module _ (m : RootedModel) where
   own_none u site (Alias p) a h e = cc
 
   -- the value of a parameter that stands in a setting stands in a unit above
-  force_above : (t : Thing) (a : Attribute) (j : ℕ) → in_force m t ≡ Some a → a.setting ≡ Some j → Has m is_valued t
-      → IsAbove a.unit t.unit
+  force_above : (t : Thing) (a : Attribute) (j : ℕ) → in_force m t ≡ Some a → a.setting ≡ Some j → PassesTest m
+      is_valued t → IsAbove a.unit t.unit
   force_above t a j e set h = by (name_at m t.unit t.name) refl e
     where
       last : (g : NamedMember) → is_valued g.kind ≡ true → (words : Option (List TargetWord))
@@ -163,10 +163,10 @@ module _ (m : RootedModel) where
 
 -- Names in values
 
-module _ {m : RootedModel} {units : List UnitPath} (kept : IsKept m) (are : AreUnits m units) where
+module _ {m : RootedModel} {units : List UnitPath} (kept : KeepsTextRules m) (are : AreUnits m units) where
   -- the parameters that the value of a parameter may name stand before it
   pub parameter_before : (t : Thing) (n j : ℕ) → Stands (parameters m units) n t → Stands units j t.unit
-      → Has m is_valued t → NamesBefore m units t n
+      → PassesTest m is_valued t → NamesBefore m units t n
   parameter_before t n j at unit_at valued =
       record { before = λ a p r k force may f st. by a p r k force f st a.setting refl may }
     where
@@ -185,8 +185,8 @@ module _ {m : RootedModel} {units : List UnitPath} (kept : IsKept m) (are : AreU
           there : Stands (parameters m units) k (thing t.unit x)
           there = subst (λ (z : Thing). Stands (parameters m units) k z) (is ∙ ap (λ (z : UnitPath). thing z x) own) st
 
-          first : s.IsEarlier m t.unit x t.name
-          first = subst (λ (z : UnitPath). s.IsEarlier m z x t.name) own o
+          first : s.IsEarlierMember m t.unit x t.name
+          first = subst (λ (z : UnitPath). s.IsEarlierMember m z x t.name) own o
 
           no : n ≤ k → ⊥
           no l = elim (side k n) [
@@ -195,7 +195,7 @@ module _ {m : RootedModel} {units : List UnitPath} (kept : IsKept m) (are : AreU
                 let w = stands_one (parameters m units) n (thing t.unit x) t
                 (subst (λ (z : ℕ). Stands (parameters m units) z (thing t.unit x)) i there) at in
                 not_earlier m is_parameter kept t.unit t.name
-                (subst (λ (z : ℕ). s.IsEarlier m t.unit z t.name) (ap (λ (z : Thing). z.name) w) first)
+                (subst (λ (z : ℕ). s.IsEarlierMember m t.unit z t.name) (ap (λ (z : Thing). z.name) w) first)
             | inr g ↦ one_earlier m is_parameter kept t.unit x t.name first
                 (listed_order m is_parameter kept are n k t (thing t.unit x) g at there refl)
           ]

@@ -22,16 +22,17 @@ use Rattle.class_table.specs.Members.{NamedMember, MemberKind}
 use Rattle.class_table.specs.Tables.{IsDomainOf, symbols, range}
 use Rattle.class_table.proofs.FirstPlaces.{earliest_same}
 use Rattle.class_table.proofs.Looping.{AtItem}
-use Rattle.hierarchy.specs.Models.{RootedModel, IsKept}
+use Rattle.hierarchy.specs.Models.{RootedModel, KeepsTextRules}
 use Rattle.hierarchy.specs.Units.{UnitPath, Thing, name_at, kind_at}
 use Rattle.hierarchy.specs.Settings.{Attribute, in_force}
-use Rattle.hierarchy.specs.Tie.{HasDomain, boolean, named, HasParameterDomain, domain, integer, kept, IsVariable, IsParameter}
+use Rattle.hierarchy.specs.Tie.{HasParameterDomain, domain, integer, kept, IsVariableNode, IsParameterNode}
+use Rattle.hierarchy.specs.TypeDomains.{HasDomain, boolean, named}
 use Rattle.hierarchy.specs.declared.tree.ParNode.{ParNode}
 use Rattle.hierarchy.specs.declared.tree.VarNode.{VarNode}
 use Rattle.hierarchy.proofs.Finding.{same_or_not}
 use Rattle.source_meaning.specs.Means.{is_valued, ValueOf}
-use Rattle.hierarchy.specs.Walks.{Has}
-use Rattle.source_meaning.specs.Tested.{HasValue}
+use Rattle.hierarchy.specs.Walks.{PassesTest}
+use Rattle.source_meaning.specs.Tested.{IsReadable}
 use Rattle.source_meaning.specs.Rules.{BreaksValue, type_of}
 use Rattle.source_meaning.proofs.OneMeaning.{value_same}
 use Rattle.source_meaning.proofs.OneDomain.{values_same}
@@ -49,7 +50,7 @@ uses_different old xs new none d = d
 uses_different old xs new (known {xs = ys} o h) d = uses_different old ys new h d
 uses_different old xs new (first {xs = ys} {x = x} n h) d = uses_different _ ys new h (different_more old x d n)
 
-pub symbols_different : {m : RootedModel} → IsKept m → AreDifferent m.declared.symbols
+pub symbols_different : {m : RootedModel} → KeepsTextRules m → AreDifferent m.declared.symbols
 symbols_different k = uses_different [] _ _ k.rooted.declared.symbols
     (record { one = λ i j a p q. absurd (stands_none i a p) })
 
@@ -117,8 +118,8 @@ holds_by d v n = elim (holds_or_not d v) [ inl h ↦ h | inr h ↦ absurd (n h) 
 
 -- One thing
 
-module _ {m : RootedModel} {units : List UnitPath} (kept : IsKept m) (t : Thing) (v : Value) (is : IsValue m t v)
-    (d : Domain) (at_type : IsDomainAt m t d) where
+module _ {m : RootedModel} {units : List UnitPath} (kept : KeepsTextRules m) (t : Thing) (v : Value) (is : IsValue m t
+    v) (d : Domain) (at_type : IsDomainAt m t d) where
   -- where the domain has the value, nothing is broken
   pub inside_none : Holds d v → IsEarliest (BreaksAs m units t) None
   inside_none h = nowhere (λ p b. never b.breaks b.thing)
@@ -134,7 +135,7 @@ module _ {m : RootedModel} {units : List UnitPath} (kept : IsKept m) (t : Thing)
           (holds_same (symbols_different kept) at_type.domain there v h))
 
   -- where it has not, the value breaks the rule where it stands
-  pub outside_there : HasValue m units t → (a : Attribute) → in_force m t ≡ Some a → (Holds d v → ⊥) → (w : RawExpr)
+  pub outside_there : IsReadable m units t → (a : Attribute) → in_force m t ≡ Some a → (Holds d v → ⊥) → (w : RawExpr)
       → a.value ≡ w → IsEarliest (BreaksAs m units t) (Some w.at)
   outside_there has a force n w e = there (record { breaks = one; thing = refl }) (λ q l b. never q l b.breaks b.thing)
     where
@@ -185,7 +186,7 @@ module _ (m : RootedModel) (units : List UnitPath) (t : Thing) where
   given_is : (g : NamedMember) → name_at m t.unit t.name ≡ Some g → kind_at m t.unit t.name ≡ Some g.kind
   given_is g e = ap (λ (o : Option NamedMember). option_map (λ (z : NamedMember). z.kind) o) e
 
-  pub variable_domain : (d : VarNode) → IsVariable m units t d → IsDomainAt m t d.domain
+  pub variable_domain : (d : VarNode) → IsVariableNode m units t d → IsDomainAt m t d.domain
   variable_domain d h = record {
     member = h.given.kind;
     is = given_is h.given h.node.is;
@@ -194,14 +195,14 @@ module _ (m : RootedModel) (units : List UnitPath) (t : Thing) where
     domain = h.domain;
   }
 
-  module _ (d : ParNode) (h : IsParameter m units t d) where
+  module _ (d : ParNode) (h : IsParameterNode m units t d) where
     pub parameter_domain : (v : Domain) → d.domain ≡ Some v → IsDomainAt m t v
     parameter_domain v e =
         let w = parameter_type h.given.kind d.domain v h.domain e in
         record { member = h.given.kind; is = given_is h.given h.node.is; type = w.0; is_type = w.1; domain = w.2 }
 
     -- a parameter with a domain has a value
-    pub domain_valued : (v : Domain) → d.domain ≡ Some v → Has m is_valued t
+    pub domain_valued : (v : Domain) → d.domain ≡ Some v → PassesTest m is_valued t
     domain_valued v e = record {
       kind = h.given.kind;
       is = given_is h.given h.node.is;

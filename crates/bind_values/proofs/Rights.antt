@@ -7,7 +7,7 @@ use Rattle.ar_syntax.specs.declared.paths.Path.{Path}
 use Rattle.domains.specs.declared.Value.{Value}
 use Rattle.typed_expr.specs.Kinds.{HasKind}
 use Rattle.typed_expr.specs.Mentions.{Mentions}
-use Rattle.typed_expr.specs.Possible.{IsPart}
+use Rattle.typed_expr.specs.Possible.{IsSubexpression}
 use Rattle.typed_expr.specs.Yields.{Level}
 use Rattle.typed_expr.specs.declared.expr.Expr.{Expr, out-Expr}
 use Rattle.typed_expr.specs.declared.expr.Expr.TheOpen.{Constant}
@@ -21,7 +21,7 @@ use Rattle.source_meaning.proofs.BoundMeaning.{bound_meaning}
 use Rattle.written_forms.specs.Operands.{RawLevel, level_of, Demand, AnyKind, OfKind, PathIn}
 use Rattle.written_forms.specs.Forms.{HasForm, own, path, choice}
 use Rattle.written_forms.specs.Full.{IsFull}
-use Rattle.written_forms.specs.Wrong.{IsMisnamed, IsMistyped, itself, real, inside, IsWanted, this, that_of}
+use Rattle.written_forms.specs.Wrong.{IsMisnamed, IsMistyped, itself, real, inside, IsWantedKind, this, that_of}
 use Rattle.written_forms.specs.Translating.{StandsFor, Becomes, BecomesBy}
 use Rattle.written_forms.proofs.RightForms.{typed_whole}
 use Rattle.written_forms.proofs.MisnamedForms.{misnamed_move}
@@ -41,7 +41,7 @@ module _ {names other : Path → ValueKind → Type 0} (to : (p : Path) (k : Val
   form_move (path {p = p} {k = k} h) = path (to p k h)
   form_move (choice h) = choice (form_move h)
 
-  wanted_move : {d : Demand} {k : ValueKind} → IsWanted names d k → IsWanted other d k
+  wanted_move : {d : Demand} {k : ValueKind} → IsWantedKind names d k → IsWantedKind other d k
   wanted_move this = this
   wanted_move (that_of h) = that_of (form_move h)
 
@@ -52,7 +52,7 @@ module _ {names other : Path → ValueKind → Type 0} (to : (p : Path) (k : Val
 
 -- what is wrong where any kind is wanted is wrong where one is
 module _ {names : Path → ValueKind → Type 0} where
-  wanted_some : {d : Demand} {k : ValueKind} → IsWanted names d k → d ≡ AnyKind → ⊥
+  wanted_some : {d : Demand} {k : ValueKind} → IsWantedKind names d k → d ≡ AnyKind → ⊥
   wanted_some this e = cc
   wanted_some (that_of h) e = cc
 
@@ -75,7 +75,7 @@ module _ {m : RootedModel} {units : List UnitPath} {u : UnitPath} {leaves : Unit
       (λ p e. leaf_number h p x e) b k
 
   pub symbols_in : {l : RawLevel} {y : Level VarId} → Becomes (StandsFor (leaf_in leaves)) l y → (v : Value)
-      → IsPart (Constant v) y → IsSymbolIn (tree_for leaves) v
+      → IsSubexpression (Constant v) y → IsSymbolIn (tree_for leaves) v
   symbols_in b v k = constant (leaf_in leaves) (IsSymbolIn (tree_for leaves)) (λ c. record {}) (λ n. record {})
       (λ p w e. leaf_symbol h p w e) b v k
 

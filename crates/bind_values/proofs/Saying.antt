@@ -10,7 +10,7 @@ use Rattle.domains.specs.declared.Value.TheVariants as value
 use Rattle.typed_expr.specs.Yields.{Level}
 use Rattle.typed_expr.specs.Mentions.{Mentions, Some_mentions, Parts_mention, Cases_mention}
 use Rattle.typed_expr.specs.Mentions as m
-use Rattle.typed_expr.specs.Possible.{IsPart}
+use Rattle.typed_expr.specs.Possible.{IsSubexpression}
 use Rattle.typed_expr.specs.Possible as part
 use Rattle.typed_expr.specs.declared.expr.Expr.{Expr, out-Expr}
 use Rattle.typed_expr.specs.declared.expr.Expr.TheOpen.{Constant}
@@ -86,7 +86,7 @@ module _ (leaves : Path → Leaf) (good : Value → Type 0) (truths : (b : Bool)
     (wholes : (n : ℤ) → good (value.Whole n))
     (fits : (p : Path) (v : Value) → leaves p ≡ leaf.Constant v → good v) where
   abbrev In : Value → Level VarId → Type 0
-  In v y = IsPart (Constant v) y
+  In v y = IsSubexpression (Constant v) y
 
   leaf_constant : (p : Path) (l : Leaf) → leaves p ≡ l → (v : Value) → In v (leaf_level l) → good v
   leaf_constant p (leaf.Constant w) e v part.itself = fits p w e

@@ -20,10 +20,10 @@ use Rattle.typed_expr.specs.declared.expr.ValueKind.{ValueKind}
 use Rattle.typed_expr.proofs.Renaming.{carries, renames_turned}
 use Rattle.hierarchy.specs.Models.{RootedModel}
 use Rattle.hierarchy.specs.Units.{UnitPath, Thing, kind_at}
-use Rattle.hierarchy.specs.Walks.{Has}
+use Rattle.hierarchy.specs.Walks.{PassesTest}
 use Rattle.hierarchy.specs.Listing.{parameters}
 use Rattle.hierarchy.specs.Settings.{Attribute, in_force}
-use Rattle.hierarchy.specs.Tie.{IsParameter, HasAttribute}
+use Rattle.hierarchy.specs.Tie.{IsParameterNode, HasAttribute}
 use Rattle.hierarchy.specs.declared.tree.ParNode.{ParNode}
 use Rattle.bind_scopes.proofs.NamedPaths.{kind_one}
 use Rattle.written_forms.specs.Operands.{level_of, OfKind, AnyKind, PathIn}
@@ -38,7 +38,7 @@ use Rattle.source_meaning.specs.Means.{is_valued, no_facts}
 use Rattle.source_meaning.specs.Means as means
 use Rattle.source_meaning.specs.Kinds.{HasKindAt, IsOfKind}
 use Rattle.source_meaning.specs.Tested as s
-use Rattle.source_meaning.specs.Tested.{HasValue, of_variable, of_parameter, Tested, MayName, scope_of}
+use Rattle.source_meaning.specs.Tested.{IsReadable, of_variable, of_parameter, Tested, MayName, scope_of}
 use Rattle.source_meaning.specs.Rules as rules
 use Rattle.source_meaning.specs.BoundExpressions.{IsLeafFor, IsBoundExpression, IsNumberOf}
 use Rattle.source_meaning.proofs.BoundMeaning.{bound_meaning}
@@ -87,11 +87,11 @@ any_wrong k (inside o i h) = inside o i h
 
 module _ {m : RootedModel} {units : List UnitPath} {table : Scopes} (are : AreScopes m units table) where
   -- the kind of a thing that has a value
-  pub value_kind : (t : Thing) → HasValue m units t → (k : ValueKind) × IsOfKind m t k
+  pub value_kind : (t : Thing) → IsReadable m units t → (k : ValueKind) × IsOfKind m t k
   value_kind t (of_variable o) = let w = variable_kind are.is_tree o.place t o.stands in (w.0, w.2)
   value_kind t (of_parameter o h) = let w = valued_kind are.is_tree o.place t o.stands h in (w.0, w.2)
 
-  module _ (kept : AreNamesKept m units) (t : Thing) (has : HasValue m units t) (n : ℕ) (vs : List Value)
+  module _ (kept : AreNamesKept m units) (t : Thing) (has : IsReadable m units t) (n : ℕ) (vs : List Value)
       (first : AreFirst m units n vs) (names : NamesBefore m units t n)
       (a : Attribute) (force : in_force m t ≡ Some a) (number : ℕ) (at : Stands units number a.unit) where
     abbrev stand : Path → Leaf
@@ -152,8 +152,8 @@ pub all_first : (m : RootedModel) (units : List UnitPath) (vs : List Value)
 all_first m units vs r = subst (λ (z : List Thing). Along (IsParameterValue m) z vs)
     (sym (take_all (length (parameters m units)) (parameters m units) (omega arith))) r
 
-pub parameter_attribute : (m : RootedModel) (units : List UnitPath) (t : Thing) (d : ParNode) → IsParameter m units t d
-    → Has m is_valued t → HasAttribute m units t d.value
+pub parameter_attribute : (m : RootedModel) (units : List UnitPath) (t : Thing) (d : ParNode) → IsParameterNode m units
+    t d → PassesTest m is_valued t → HasAttribute m units t d.value
 parameter_attribute m units t d h v =
     let e : kind_at m t.unit t.name ≡ Some h.given.kind =
     ap (λ (o : Option NamedMember). option_map (λ (z : NamedMember). z.kind) o) h.node.is in

@@ -20,11 +20,11 @@ use Rattle.typed_expr.specs.declared.expr.Expr.TheOpen as form
 use Rattle.typed_expr.specs.declared.expr.ValueKind.{ValueKind}
 use Rattle.typed_expr.specs.declared.expr.ValueKind.TheVariants.{Truth, Whole}
 use Rattle.typed_expr.proofs.Valued.{Valued, level_value, value_of-level, truth-form}
-use Rattle.written_forms.specs.Operands.{RawLevel, level_of, OfKind, Like, Operand, wanting, first_branch, is_equality, operands_of, PathIn}
+use Rattle.written_forms.specs.Operands.{RawLevel, level_of, OfKind, Like, OperandOfKind, wanting, first_branch, is_equality, operands_of, PathIn}
 use Rattle.written_forms.specs.Operands as in_form
 use Rattle.written_forms.specs.Forms.{HasForm}
 use Rattle.written_forms.specs.Forms as of_form
-use Rattle.written_forms.specs.Wrong.{IsWanted, this, that_of, IsMistyped}
+use Rattle.written_forms.specs.Wrong.{IsWantedKind, this, that_of, IsMistyped}
 use Rattle.written_forms.specs.Wrong as wrong
 use Rattle.written_forms.specs.Translating.{leaf_level, StandsFor, Becomes, All_become, Parts_become, Cases_become, BecomesBy}
 use Rattle.written_forms.specs.Translating as t
@@ -172,10 +172,11 @@ module _ (names : Path → ValueKind → Type 0) (leaves : Path → Leaf) (facts
   -- each path stands for such a value, no operand has a wrong kind, and the form is no real
   record Right (l : RawLevel) : Type 0 where
     fits : (p : Path) → PathIn p l → Fits p
-    right : (o : Operand) → IsOneOf (operands_of l) o → (at : Place) → IsMistyped names o.demand o.written at → ⊥
+    right : (o : OperandOfKind) → IsOneOf (operands_of l) o → (at : Place) → IsMistyped names o.demand o.written at → ⊥
     no_real : l ≡ raw.Real → ⊥
 
-  operand_right : {l : RawLevel} → Right l → (o : Operand) → IsOneOf (operands_of l) o → Right (level_of o.written)
+  operand_right : {l : RawLevel} → Right l → (o : OperandOfKind) → IsOneOf (operands_of l) o
+      → Right (level_of o.written)
   operand_right g o i = record {
     fits = λ p h. g.fits p (in_form.inside o i h);
     right = λ q j at k. g.right o i at (wrong.inside q j k);
@@ -189,8 +190,8 @@ module _ (names : Path → ValueKind → Type 0) (leaves : Path → Leaf) (facts
     valued : Valued facts values x kind
 
   -- an operand comes to a value of the kind that is wanted of it
-  wanted : {l : RawLevel} {x : Level VarId} → Right l → (o : Operand) → IsOneOf (operands_of l) o → (k : ValueKind)
-      → IsWanted names o.demand k → Comes (level_of o.written) x → Valued facts values x k
+  wanted : {l : RawLevel} {x : Level VarId} → Right l → (o : OperandOfKind) → IsOneOf (operands_of l) o
+      → (k : ValueKind) → IsWantedKind names o.demand k → Comes (level_of o.written) x → Valued facts values x k
   wanted {x = x} g o i k w c = elim (same_kind c.kind k) [
     | inl e ↦ subst (λ (z : ValueKind). Valued facts values x z) e c.valued
     | inr n ↦ absurd (g.right o i o.written.at (wrong.itself c.kind k c.has w n))

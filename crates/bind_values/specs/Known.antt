@@ -6,7 +6,7 @@ use Rattle.hierarchy.specs.Models.{RootedModel}
 use Rattle.hierarchy.specs.Units.{UnitPath, Thing}
 use Rattle.hierarchy.specs.Tie.{HasAttribute}
 use Rattle.hierarchy.specs.declared.tree.Attribute.{Attribute}
-use Rattle.source_meaning.specs.Tested.{HasValue}
+use Rattle.source_meaning.specs.Tested.{IsReadable}
 use Rattle.bind_scopes.specs.Indexed.{same_pair}
 use Rattle.bind_scopes.specs.Scopes.{AreScopes}
 use Rattle.bind_scopes.specs.declared.scopes.Scopes.{Scopes}
@@ -16,7 +16,7 @@ use Rattle.bind_values.specs.Values.{AreNamesKept, AreFirst, NamesBefore, IsValu
 -- which are all that it may name
 pub record IsKnown (s : Scopes) (parameters : List Value) (a : Attribute) (v : Value) : Type 0 where
   pub value : (m : RootedModel) (units : List UnitPath) (t : Thing) (n : ℕ) → AreScopes m units s → AreNamesKept m units
-      → HasValue m units t → HasAttribute m units t a → AreFirst m units n parameters → NamesBefore m units t n
+      → IsReadable m units t → HasAttribute m units t a → AreFirst m units n parameters → NamesBefore m units t n
       → IsValue m t v
 
 -- each value that is remembered is that of what it is remembered with

@@ -8,7 +8,7 @@ use Rattle.domains.specs.declared.Value.{Value}
 use Rattle.domains.specs.declared.Value.TheVariants as value
 use Rattle.typed_expr.specs.Kinds.{HasKind}
 use Rattle.typed_expr.specs.Mentions.{Mentions}
-use Rattle.typed_expr.specs.Possible.{IsPart}
+use Rattle.typed_expr.specs.Possible.{IsSubexpression}
 use Rattle.typed_expr.specs.declared.expr.Expr.{Expr, out-Expr}
 use Rattle.typed_expr.specs.declared.expr.Expr.TheOpen.{Constant}
 use Rattle.typed_expr.specs.declared.expr.ValueKind.{ValueKind}
@@ -39,7 +39,7 @@ IsSymbolIn t (value.Symbol k) = k < length t.classes.symbols.items
 pub record IsTypedIn (t : Tree) (e : Expr VarId) (k : ValueKind) : Type 0 where
   pub typed : HasKind (kind_in t) (out-Expr VarId e) k
   pub variables : (x : VarId) → Mentions x (out-Expr VarId e) → x.n < length t.variables.items
-  pub symbols : (v : Value) → IsPart (Constant v) (out-Expr VarId e) → IsSymbolIn t v
+  pub symbols : (v : Value) → IsSubexpression (Constant v) (out-Expr VarId e) → IsSymbolIn t v
 
 -- the instruction assigns state variables, or flows, values of their kinds, under tests that are truth values
 pub data IsSoundIn (t : Tree) (to_state : Bool) : Act-F Act → Type 0 where

@@ -12,10 +12,10 @@ use Rattle.class_table.specs.Earliest.{IsEarliest}
 use Rattle.class_table.specs.Members.{MemberKind}
 use Rattle.hierarchy.specs.Models.{RootedModel}
 use Rattle.hierarchy.specs.Units.{UnitPath, Thing, kind_at}
-use Rattle.hierarchy.specs.Walks.{Finds, Has}
+use Rattle.hierarchy.specs.Walks.{Finds, PassesTest}
 use Rattle.hierarchy.specs.Listing.{variables, parameters}
 use Rattle.hierarchy.specs.Settings.{Attribute, in_force}
-use Rattle.hierarchy.specs.Tie.{HasDomain}
+use Rattle.hierarchy.specs.TypeDomains.{HasDomain}
 use Rattle.hierarchy.specs.declared.tree.ParNode.{ParNode}
 use Rattle.hierarchy.specs.declared.tree.VarNode.{VarNode}
 use Rattle.hierarchy.specs.declared.tree.Tree.{Tree}
@@ -39,7 +39,7 @@ pub record IsValue (m : RootedModel) (t : Thing) (v : Value) : Type 0 where
 
 -- the value of the parameter, where it has one that is read
 pub record IsParameterValue (m : RootedModel) (t : Thing) (v : Value) : Type 0 where
-  pub value : Has m is_valued t → IsValue m t v
+  pub value : PassesTest m is_valued t → IsValue m t v
 
 -- the value is in the domain, where there is one
 abbrev pub HoldsIn : Option Domain → Value → Type 0

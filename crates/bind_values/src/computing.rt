@@ -13,7 +13,7 @@ ghost use Rattle.written_forms.specs.Translating.{BecomesBy};
 ghost use Rattle.hierarchy.specs.Models.{RootedModel};
 ghost use Rattle.hierarchy.specs.Units.{UnitPath, Thing};
 ghost use Rattle.hierarchy.specs.Listing.{variables, parameters as parameters_of};
-ghost use Rattle.hierarchy.specs.Tie.{IsParameter};
+ghost use Rattle.hierarchy.specs.Tie.{IsParameterNode};
 ghost use Rattle.bind_scopes.specs.Indexed.{same_pair};
 ghost use Rattle.bind_scopes.specs.Scopes.{AreScopes, HasScopes};
 ghost use Rattle.bind_scopes.specs.declared.scopes.Scopes.{Scopes as ScopesOf};
@@ -160,7 +160,7 @@ fn parameter_value(
     requires { HasScopes scopes.now }
     ensures { (m : RootedModel) (units : List UnitPath) (t : Thing) → AreScopes m units scopes.now
         → AreNamesKept m units → Stands (parameters_of m units) place t
-        → IsParameter m units t node.now → AreFirst m units place earlier.now
+        → IsParameterNode m units t node.now → AreFirst m units place earlier.now
         → IfOk result (IsParameterValue m t) }
 {
     if scopes.is_read(place) {

@@ -7,8 +7,8 @@ ghost use Rattle.class_table.specs.Earliest.{IsEarliest};
 ghost use Rattle.hierarchy.specs.Models.{RootedModel};
 ghost use Rattle.hierarchy.specs.Units.{UnitPath, Thing};
 ghost use Rattle.hierarchy.specs.Listing.{variables, parameters};
-ghost use Rattle.hierarchy.specs.Tie.{HasAttribute, IsParameter, IsVariable};
-ghost use Rattle.source_meaning.specs.Tested.{HasValue};
+ghost use Rattle.hierarchy.specs.Tie.{HasAttribute, IsParameterNode, IsVariableNode};
+ghost use Rattle.source_meaning.specs.Tested.{IsReadable};
 ghost use Rattle.bind_scopes.specs.Scopes.{AreScopes};
 ghost use Rattle.bind_values.specs.Values.{IsValue, IsParameterValue, IsDomainAt, BreaksAs, BreaksOne};
 
@@ -39,7 +39,7 @@ fn outside(
     attribute: Attribute,
 ) -> Option<Place>
     ensures { (m : RootedModel) (units : List UnitPath) (t : Thing) → AreScopes m units scopes.now
-        → HasValue m units t → HasAttribute m units t attribute → IsValue m t value
+        → IsReadable m units t → HasAttribute m units t attribute → IsValue m t value
         → IsDomainAt m t domain.now → IsEarliest (BreaksAs m units t) result }
 {
     if holds(domain, value) {
@@ -54,7 +54,7 @@ fn outside(
 // The same of a variable.
 fn outside_variable(scopes: &Scopes<'_>, node: &VarNode, value: Value) -> Option<Place>
     ensures { (m : RootedModel) (units : List UnitPath) (t : Thing) → AreScopes m units scopes.now
-        → IsOneOf (variables m units) t → IsVariable m units t node.now → IsValue m t value
+        → IsOneOf (variables m units) t → IsVariableNode m units t node.now → IsValue m t value
         → IsEarliest (BreaksAs m units t) result }
 {
     outside(scopes, &node.domain, value, node.value)
@@ -63,7 +63,7 @@ fn outside_variable(scopes: &Scopes<'_>, node: &VarNode, value: Value) -> Option
 // The same of a parameter.
 fn outside_parameter(scopes: &Scopes<'_>, node: &ParNode, value: Value) -> Option<Place>
     ensures { (m : RootedModel) (units : List UnitPath) (t : Thing) → AreScopes m units scopes.now
-        → IsOneOf (parameters m units) t → IsParameter m units t node.now
+        → IsOneOf (parameters m units) t → IsParameterNode m units t node.now
         → IsParameterValue m t value → IsEarliest (BreaksAs m units t) result }
 {
     match &node.domain {

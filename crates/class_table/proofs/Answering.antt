@@ -11,9 +11,9 @@ use Rattle.ar_base.proofs.Comparing.{not_before}
 use Rattle.ar_syntax.specs.declared.items.Item.{Item}
 use Rattle.ar_syntax.specs.declared.items.Model.{Model}
 use Rattle.class_table.specs.Declaring.{Declared, IsDeclared}
-use Rattle.class_table.specs.Tables.{IsBodyOf, IsNamedType, IsTableOf, IsMain}
+use Rattle.class_table.specs.Tables.{IsBodyOf, IsNamedType, IsTableOfModel, IsMain}
 use Rattle.class_table.specs.Tabling.{Tabulates, table, breach}
-use Rattle.class_table.specs.Rules.{BreaksItems, BreaksTypes, BreaksContainment, BreaksNames, Breaks, l1, l2, l3, l4, l5, text_rules}
+use Rattle.class_table.specs.Rules.{BreaksItems, BreaksTypes, BreaksContainment, BreaksNames, BreaksTextRule, l1, l2, l3, l4, l5, text_rules}
 use Rattle.class_table.specs.Earliest.{IsEarliest}
 use Rattle.class_table.specs.Laying.{AreParts}
 use Rattle.class_table.specs.Shown.{Shows, IsListed}
@@ -66,30 +66,31 @@ module _ (model : Model) (main : Option (List ℕ)) (d : Declared) where
   one5 = one_rest 1 _ 5 (one_rest 2 _ 5 (one_rest 3 _ 5 (one_rest 4 _ 5 (one_first 5 _))))
 
   -- the tests, by their rules
-  pub tests1 : (f : Option Place) → IsEarliest (BreaksItems model.items.items) f → IsEarliest (Breaks model main d 1) f
+  pub tests1 : (f : Option Place) → IsEarliest (BreaksItems model.items.items) f
+      → IsEarliest (BreaksTextRule model main d 1) f
   tests1 f h = earliest_same f (λ p b. l1 b) (is_l1 model main d) h
 
-  pub tests2 : (f : Option Place) → IsEarliest (BreaksTypes d) f → IsEarliest (Breaks model main d 2) f
+  pub tests2 : (f : Option Place) → IsEarliest (BreaksTypes d) f → IsEarliest (BreaksTextRule model main d 2) f
   tests2 f h = earliest_same f (λ p b. l2 b) (is_l2 model main d) h
 
-  pub tests3 : (f : Option Place) → IsEarliest (BreaksContainment d) f → IsEarliest (Breaks model main d 3) f
+  pub tests3 : (f : Option Place) → IsEarliest (BreaksContainment d) f → IsEarliest (BreaksTextRule model main d 3) f
   tests3 f h = earliest_same f (λ p b. l3 b) (is_l3 model main d) h
 
-  pub tests4 : (f : Option Place) → IsEarliest (BreaksNames d) f → IsEarliest (Breaks model main d 4) f
+  pub tests4 : (f : Option Place) → IsEarliest (BreaksNames d) f → IsEarliest (BreaksTextRule model main d 4) f
   tests4 f h = earliest_same f (λ p b. l4 b) (is_l4 model main d) h
 
   -- a test that passes
   pub passes_test : (n : ℕ) (f : Option Place) → f ≡ None → KeptBelow model main d n
-      → IsEarliest (Breaks model main d n) f → KeptBelow model main d (suc n)
-  passes_test n f e k h = kept_none model main d n k (subst (IsEarliest (Breaks model main d n)) e h)
+      → IsEarliest (BreaksTextRule model main d n) f → KeptBelow model main d (suc n)
+  passes_test n f e k h = kept_none model main d n k (subst (IsEarliest (BreaksTextRule model main d n)) e h)
 
   -- a test that refuses
   pub refuses_test : (n : ℕ) (f : Option Place) (x : RuleFault) → IsDeclared model d → IsOneOf text_rules n
-      → KeptBelow model main d n → IsEarliest (Breaks model main d n) f
+      → KeptBelow model main d n → IsEarliest (BreaksTextRule model main d n) f
       → (p : Place) × (f ≡ Some p) × (x ≡ Rule n p) → Tabulates main model (Err x)
   refuses_test n f x i o k h w =
       subst (λ (y : RuleFault). Tabulates main model (Err y)) (sym w.2)
-      (breach d i (broken_at model main d n w.0 o k (subst (IsEarliest (Breaks model main d n)) w.1 h)))
+      (breach d i (broken_at model main d n w.0 o k (subst (IsEarliest (BreaksTextRule model main d n)) w.1 h)))
 
   pub refuses1 : (f : Option Place) (x : RuleFault) → IsDeclared model d → IsEarliest (BreaksItems model.items.items) f
       → Err x ≡ kept_rule 1 f → Tabulates main model (Err x)
@@ -142,7 +143,7 @@ module _ (model : Model) (main : Option (List ℕ)) (d : Declared) where
   })
 
   -- with one
-  pub gives : (c : Classes) → KeptBelow model main d 5 → IsTableOf model main d c → Tabulates main model (Ok c)
+  pub gives : (c : Classes) → KeptBelow model main d 5 → IsTableOfModel model main d c → Tabulates main model (Ok c)
   gives c k t = table d t (all_kept model main d (next_below model main d 5 k (λ q b. let h = is_l5 model main d q b in h.no_main c.main.n t.is_main)))
 
 module _ (model : Model) (p : Parts) (h : AreParts model.items.items p) where
@@ -172,7 +173,7 @@ module _ (model : Model) (p : Parts) (h : AreParts model.items.items p) where
   pub table_of : (main : Option (List ℕ)) (c : Classes) → c.names ≡ model.names → c.types.items ≡ p.types.items
       → c.symbols.items ≡ p.symbols.items → IsListed (declared_of model.items.items p h) c.bodies.items
       → IsMain model.names (declared_of model.items.items p h) main c.main.n
-      → IsTableOf model main (declared_of model.items.items p h) c
+      → IsTableOfModel model main (declared_of model.items.items p h) c
   unfolding declared_of
   table_of main c n t s l m = record {
     declared = declares;

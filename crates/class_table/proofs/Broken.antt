@@ -7,25 +7,25 @@ use Rattle.ar_base.proofs.Standing.{one_cases, one_none}
 use Rattle.ar_base.proofs.Comparing.{lt_or_same}
 use Rattle.ar_syntax.specs.declared.items.Model.{Model}
 use Rattle.class_table.specs.Declaring.{Declared}
-use Rattle.class_table.specs.Rules.{BreaksItems, BreaksTypes, BreaksContainment, BreaksNames, LacksMain, Breaks, l1, l2, l3, l4, l5, text_rules}
+use Rattle.class_table.specs.Rules.{BreaksItems, BreaksTypes, BreaksContainment, BreaksNames, LacksMain, BreaksTextRule, l1, l2, l3, l4, l5, text_rules}
 use Rattle.class_table.specs.Earliest.{IsEarliest, nowhere, there}
 
 module _ (model : Model) (main : Option (List ℕ)) (d : Declared) where
   -- the tests of the rules, each with what it found
 
-  pub is_l1 : (p : Place) → Breaks model main d 1 p → BreaksItems model.items.items p
+  pub is_l1 : (p : Place) → BreaksTextRule model main d 1 p → BreaksItems model.items.items p
   is_l1 p (l1 h) = h
 
-  pub is_l2 : (p : Place) → Breaks model main d 2 p → BreaksTypes d p
+  pub is_l2 : (p : Place) → BreaksTextRule model main d 2 p → BreaksTypes d p
   is_l2 p (l2 h) = h
 
-  pub is_l3 : (p : Place) → Breaks model main d 3 p → BreaksContainment d p
+  pub is_l3 : (p : Place) → BreaksTextRule model main d 3 p → BreaksContainment d p
   is_l3 p (l3 h) = h
 
-  pub is_l4 : (p : Place) → Breaks model main d 4 p → BreaksNames d p
+  pub is_l4 : (p : Place) → BreaksTextRule model main d 4 p → BreaksNames d p
   is_l4 p (l4 h) = h
 
-  pub is_l5 : (p : Place) → Breaks model main d 5 p → LacksMain model main d p
+  pub is_l5 : (p : Place) → BreaksTextRule model main d 5 p → LacksMain model main d p
   is_l5 p (l5 h) = h
 
   rules : (r : ℕ) → IsOneOf text_rules r → (r ≡ 1) ⊎ ((r ≡ 2) ⊎ ((r ≡ 3) ⊎ ((r ≡ 4) ⊎ (r ≡ 5))))
@@ -53,12 +53,12 @@ module _ (model : Model) (main : Option (List ℕ)) (d : Declared) where
 
   -- each rule below n is kept
   pub record KeptBelow (n : ℕ) : Type 0 where
-    pub kept : (s : ℕ) (q : Place) → IsOneOf text_rules s → s < n → Breaks model main d s q → ⊥
+    pub kept : (s : ℕ) (q : Place) → IsOneOf text_rules s → s < n → BreaksTextRule model main d s q → ⊥
 
   pub none_below : KeptBelow 1
   none_below = record { kept = λ s q o l b. by s q o l b }
     where
-      by : (s : ℕ) (q : Place) → IsOneOf text_rules s → s < 1 → Breaks model main d s q → ⊥
+      by : (s : ℕ) (q : Place) → IsOneOf text_rules s → s < 1 → BreaksTextRule model main d s q → ⊥
       by s q o l b = elim (rules s o) [
         | inl e ↦ omega (arith, e, l)
         | inr f ↦ elim f [
@@ -70,17 +70,18 @@ module _ (model : Model) (main : Option (List ℕ)) (d : Declared) where
         ]
       ]
 
-  pub next_below : (n : ℕ) → KeptBelow n → ((q : Place) → Breaks model main d n q → ⊥) → KeptBelow (suc n)
+  pub next_below : (n : ℕ) → KeptBelow n → ((q : Place) → BreaksTextRule model main d n q → ⊥) → KeptBelow (suc n)
   next_below n h k = record { kept = λ s q o l b. by s q o l b (cases s l) }
     where
       cases : (s : ℕ) → s < suc n → (s < n) ⊎ (s ≡ n)
       cases s l = lt_or_same s n (omega (arith, l))
 
-      by : (s : ℕ) (q : Place) → IsOneOf text_rules s → s < suc n → Breaks model main d s q → (s < n) ⊎ (s ≡ n) → ⊥
+      by : (s : ℕ) (q : Place) → IsOneOf text_rules s → s < suc n → BreaksTextRule model main d s q → (s < n) ⊎ (s ≡ n)
+          → ⊥
       by s q o l b (inl m) = h.kept s q o m b
-      by s q o l b (inr e) = k q (subst (λ (r : ℕ). Breaks model main d r q) e b)
+      by s q o l b (inr e) = k q (subst (λ (r : ℕ). BreaksTextRule model main d r q) e b)
 
-  pub all_kept : KeptBelow 6 → AreKept text_rules (Breaks model main d)
+  pub all_kept : KeptBelow 6 → AreKept text_rules (BreaksTextRule model main d)
   all_kept h = record { kept = λ r p o b. h.kept r p o (below r o) b }
     where
       below : (r : ℕ) → IsOneOf text_rules r → r < 6
@@ -96,9 +97,9 @@ module _ (model : Model) (main : Option (List ℕ)) (d : Declared) where
       ]
 
   -- the rule is broken first at the place that is found
-  pub broken_at : (n : ℕ) (p : Place) → IsOneOf text_rules n → KeptBelow n → IsEarliest (Breaks model main d n) (Some p)
-      → IsBroken text_rules (Breaks model main d) n p
+  pub broken_at : (n : ℕ) (p : Place) → IsOneOf text_rules n → KeptBelow n → IsEarliest (BreaksTextRule model main d n)
+      (Some p) → IsBroken text_rules (BreaksTextRule model main d) n p
   broken_at n p o h (there b e) = record { is_one = o; breaks_there = b; no_lesser = h.kept; no_earlier = e }
 
-  pub kept_none : (n : ℕ) → KeptBelow n → IsEarliest (Breaks model main d n) None → KeptBelow (suc n)
+  pub kept_none : (n : ℕ) → KeptBelow n → IsEarliest (BreaksTextRule model main d n) None → KeptBelow (suc n)
   kept_none n h (nowhere e) = next_below n h e

@@ -12,7 +12,7 @@ use Rattle.ar_syntax.specs.declared.members.Setting.{Setting}
 use Rattle.ar_syntax.specs.declared.members.TypeForm.{TypeForm}
 use Rattle.ar_syntax.specs.declared.members.TypeForm.TheVariants as form
 use Rattle.class_table.specs.Declaring.{TextBody, NamedType, Declared}
-use Rattle.class_table.specs.Members.{Site, own_of, own_at, owned_at, type_named, kind_of, declared_kind, all_named, names_of, named_at, NamedMember, MemberKind}
+use Rattle.class_table.specs.Members.{Site, own_of, own_at, owned_at, type_named, member_kind_of, declared_kind, all_named, names_of, named_at, NamedMember, MemberKind}
 use Rattle.class_table.specs.Tables.{IsBodyOf}
 use Rattle.class_table.specs.Names.{name_and_place}
 use Rattle.class_table.specs.Shown.{IsDeclaredBy, member_place}
@@ -47,7 +47,7 @@ declared_names d s (form.Named x) settings names e = by (type_named d x.n) e
   where
     by : (t : Option NamedType) → true ≡ is_some t
         → map name_and_place names ≡ map member_place
-        (all_named s (option_map (λ (u : NamedType). kind_of s (form.Named x) u settings) t) names)
+        (all_named s (option_map (λ (u : NamedType). member_kind_of s (form.Named x) u settings) t) names)
     by None e = cc
     by (Some t) e = same_names s _ names
 

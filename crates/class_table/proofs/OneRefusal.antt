@@ -8,7 +8,7 @@ use Rattle.ar_base.specs.declared.places.Place.{Place}
 use Rattle.ar_base.proofs.Comparing.{lt_or_same}
 use Rattle.ar_syntax.specs.declared.items.Model.{Model}
 use Rattle.class_table.specs.Declaring.{Declared}
-use Rattle.class_table.specs.Rules.{Breaks, text_rules}
+use Rattle.class_table.specs.Rules.{BreaksTextRule, text_rules}
 use Rattle.class_table.specs.Tabling.{Tabulates, table, breach}
 use Rattle.class_table.specs.declared.tables.Classes.{Classes}
 use Rattle.class_table.proofs.OneDeclared.{declared_one}
@@ -57,11 +57,11 @@ module _ (main : Option (List ℕ)) (model : Model) where
       → Tabulates main model (Err (Rule s q)) → (r ≡ s) × (p ≡ q)
   refusal_one r s p q (breach d h b) (breach e k c) =
       let same = declared_one model d e h k in
-      breach_one text_rules (Breaks model main d) r s p q b
-      (subst (λ (z : Declared). IsBroken text_rules (Breaks model main z) s q) (sym same) c)
+      breach_one text_rules (BreaksTextRule model main d) r s p q b
+      (subst (λ (z : Declared). IsBroken text_rules (BreaksTextRule model main z) s q) (sym same) c)
 
   pub never_both : (c : Classes) (f : RuleFault) → Tabulates main model (Ok c) → Tabulates main model (Err f) → ⊥
   never_both c f (table d t kept) (breach {r = r} {p = p} e k b) =
       let same = declared_one model d e t.declared k in
-      let there = subst (λ (z : Declared). IsBroken text_rules (Breaks model main z) r p) (sym same) b in
+      let there = subst (λ (z : Declared). IsBroken text_rules (BreaksTextRule model main z) r p) (sym same) b in
       kept.kept r p there.is_one there.breaks_there

@@ -119,15 +119,16 @@ pub record NamedMember : Type 0 where
   pub site : Site
 
 -- what a declaration by this type declares
-abbrev pub kind_of : Site → TypeForm → NamedType → List Setting → MemberKind
-kind_of s f (DomainType domain) settings = Variable f settings
-kind_of s f (ClassType b) settings = Inner b (Some s)
+abbrev pub member_kind_of : Site → TypeForm → NamedType → List Setting → MemberKind
+member_kind_of s f (DomainType domain) settings = Variable f settings
+member_kind_of s f (ClassType b) settings = Inner b (Some s)
 
 -- what a declaration by a type declares, where the type is a domain or a class
 abbrev pub declared_kind : Declared → Site → TypeForm → List Setting → Option MemberKind
 declared_kind d s form.Boolean settings = Some (Variable form.Boolean settings)
 declared_kind d s form.Integer settings = None
-declared_kind d s (form.Named x) settings = option_map (λ t. kind_of s (form.Named x) t settings) (type_named d x.n)
+declared_kind d s (form.Named x) settings = option_map (λ t. member_kind_of s (form.Named x) t settings)
+    (type_named d x.n)
 
 -- each of these names is the same, or none is anything
 abbrev pub all_named : Site → Option MemberKind → List (NameId × Place) → List NamedMember

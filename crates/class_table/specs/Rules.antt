@@ -139,9 +139,9 @@ abbrev pub text_rules : List ℕ
 text_rules = 1 ∷ 2 ∷ 3 ∷ 4 ∷ 5 ∷ []
 
 -- rule n is broken at place p by the model, which declares d
-pub data Breaks (model : Model) (main : Option (List ℕ)) (d : Declared) : ℕ → Place → Type 0 where
-  l1 : {p : Place} → BreaksItems model.items.items p → Breaks model main d 1 p
-  l2 : {p : Place} → BreaksTypes d p → Breaks model main d 2 p
-  l3 : {p : Place} → BreaksContainment d p → Breaks model main d 3 p
-  l4 : {p : Place} → BreaksNames d p → Breaks model main d 4 p
-  l5 : {p : Place} → LacksMain model main d p → Breaks model main d 5 p
+pub data BreaksTextRule (model : Model) (main : Option (List ℕ)) (d : Declared) : ℕ → Place → Type 0 where
+  l1 : {p : Place} → BreaksItems model.items.items p → BreaksTextRule model main d 1 p
+  l2 : {p : Place} → BreaksTypes d p → BreaksTextRule model main d 2 p
+  l3 : {p : Place} → BreaksContainment d p → BreaksTextRule model main d 3 p
+  l4 : {p : Place} → BreaksNames d p → BreaksTextRule model main d 4 p
+  l5 : {p : Place} → LacksMain model main d p → BreaksTextRule model main d 5 p

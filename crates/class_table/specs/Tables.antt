@@ -41,7 +41,7 @@ pub record IsBodyOf (b : Body) (declared : TextBody) : Type 0 where
   pub own : b.own.items ≡ declared.own
 
 -- the table keeps what is declared
-pub record Holds (d : Declared) (c : Classes) : Type 0 where
+pub record HoldsDeclared (d : Declared) (c : Classes) : Type 0 where
   pub bodies : Along IsBodyOf c.bodies.items d.bodies
   pub types : Along (IsNamedType d.symbols) c.types.items d.types
   pub symbols : map (λ (x : NameId). x.n) c.symbols.items ≡ d.symbols
@@ -57,9 +57,9 @@ abbrev pub site_of : BodyId × ℕ → Site
 site_of m = record { body = m.0.n; place = m.1 }
 
 -- the table of the model, with all members of each body
-pub record IsTableOf (model : Model) (main : Option (List ℕ)) (d : Declared) (c : Classes) : Type 0 where
+pub record IsTableOfModel (model : Model) (main : Option (List ℕ)) (d : Declared) (c : Classes) : Type 0 where
   pub declared : IsDeclared model d
   pub names : c.names ≡ model.names
-  pub holds : Holds d c
+  pub holds : HoldsDeclared d c
   pub is_main : IsMain model.names d main c.main.n
   pub members : (b : ℕ) (body : Body) → Stands c.bodies.items b body → Members d b (map site_of body.all.items)

@@ -6,13 +6,13 @@ use Rattle.ar_base.specs.declared.faults.RuleFault.TheVariants.{Rule}
 use Rattle.ar_base.specs.declared.places.Place.{Place}
 use Rattle.ar_syntax.specs.declared.items.Model.{Model}
 use Rattle.class_table.specs.Declaring.{Declared, IsDeclared}
-use Rattle.class_table.specs.Tables.{IsTableOf}
-use Rattle.class_table.specs.Rules.{Breaks, text_rules}
+use Rattle.class_table.specs.Tables.{IsTableOfModel}
+use Rattle.class_table.specs.Rules.{BreaksTextRule, text_rules}
 use Rattle.class_table.specs.declared.tables.Classes.{Classes}
 
 -- the main block is asked for by its name, or not
 pub data Tabulates (main : Option (List ℕ)) (model : Model) : Result Classes RuleFault → Type 0 where
-  table : {c : Classes} (d : Declared) → IsTableOf model main d c → AreKept text_rules (Breaks model main d)
-      → Tabulates main model (Ok c)
-  breach : {r : ℕ} {p : Place} (d : Declared) → IsDeclared model d → IsBroken text_rules (Breaks model main d) r p
-      → Tabulates main model (Err (Rule r p))
+  table : {c : Classes} (d : Declared) → IsTableOfModel model main d c → AreKept text_rules (BreaksTextRule model main
+      d) → Tabulates main model (Ok c)
+  breach : {r : ℕ} {p : Place} (d : Declared) → IsDeclared model d → IsBroken text_rules (BreaksTextRule model main d) r
+      p → Tabulates main model (Err (Rule r p))

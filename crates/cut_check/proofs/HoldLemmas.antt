@@ -13,7 +13,7 @@ use Rattle.gts_core.specs.declared.bound.Chain.{Chain}
 use Rattle.cut_check.specs.Flat.{IsVerdict}
 use Rattle.cut_check.specs.Rows.{HaveBits}
 use Rattle.cut_check.specs.Truths.{AreTruths}
-use Rattle.cut_check.specs.Verdicts.{events_of, MayHold, HoldsLine, IsGood, Fails, Holds}
+use Rattle.cut_check.specs.Verdicts.{events_of, ContainsLine, HoldsLine, IsGood, Fails, Holds}
 use Rattle.cut_check.specs.Verdicts as v
 use Rattle.cut_check.specs.declared.checking.Verdict.{Verdict}
 use Rattle.cut_check.specs.declared.checking.Verdict.TheVariants as verdict
@@ -37,15 +37,15 @@ module _ (lines : List (List Label)) (rows : List Row) (have : HaveBits lines ro
 
   module _ (n k : ℕ) (r s : Row) (at_n : Stands rows n r) (at_k : Stands rows k s) where
     -- the events of line k, in line n
-    held_within : MayHold lines n k → (e : ℕ) → IsSet s.words.items e → IsSet r.words.items e
+    held_within : ContainsLine lines n k → (e : ℕ) → IsSet s.words.items e → IsSet r.words.items e
     held_within h = bits_from k n h.held h.line s r h.is_held h.is_line at_k at_n h.within
 
-    pub not_within : (((e : ℕ) → IsSet s.words.items e → IsSet r.words.items e) → ⊥) → MayHold lines n k → ⊥
+    pub not_within : (((e : ℕ) → IsSet s.words.items e → IsSet r.words.items e) → ⊥) → ContainsLine lines n k → ⊥
     not_within refuted h = refuted (held_within h)
 
     may : ((e : ℕ) → IsSet s.words.items e → IsSet r.words.items e)
         → ((ls ms : List Label) → Stands lines n ls → Stands lines k ms → Within (events_of ls) (events_of ms) → k < n)
-        → MayHold lines n k
+        → ContainsLine lines n k
     may h early =
         let l = line_at n r at_n in
         let m = line_at k s at_k in
@@ -58,18 +58,18 @@ module _ (lines : List (List Label)) (rows : List Row) (have : HaveBits lines ro
           earlier = early l.0 m.0 l.1 m.1;
         }
 
-    pub may_before : ((e : ℕ) → IsSet s.words.items e → IsSet r.words.items e) → k < n → MayHold lines n k
+    pub may_before : ((e : ℕ) → IsSet s.words.items e → IsSet r.words.items e) → k < n → ContainsLine lines n k
     may_before h lt = may h (λ ls ms a b w. lt)
 
     pub may_after : ((e : ℕ) → IsSet s.words.items e → IsSet r.words.items e) → n ≤ k → (b : Bool)
         → IsAnswer b ((e : ℕ) → IsSet r.words.items e → IsSet s.words.items e)
-        → IsAnswer (not b) (MayHold lines n k)
+        → IsAnswer (not b) (ContainsLine lines n k)
     may_after h le true all = λ m.
         let lt = m.earlier (within_from n k m.line m.held r s m.is_line m.is_held at_n at_k all) in omega (arith, lt, le)
     may_after h le false refuted = may h (λ ls ms a b w. absurd (refuted (bits_from n k ls ms r s a b at_n at_k w)))
 
-  pub none_held : (n count : ℕ) → length rows ≤ count → ((j : ℕ) → j < count → MayHold lines n j → ⊥) → (k : ℕ)
-      → MayHold lines n k → ⊥
+  pub none_held : (n count : ℕ) → length rows ≤ count → ((j : ℕ) → j < count → ContainsLine lines n j → ⊥) → (k : ℕ)
+      → ContainsLine lines n k → ⊥
   none_held n count le h k m = h k (let w = stands_within lines k m.held m.is_held in omega (arith, w, le, have.long)) m
 
 -- the verdict of a line
@@ -89,7 +89,7 @@ module _ (sys : System ℕ) (dropped : List ℕ) (observer : Expr ℕ) (wanted :
       let l = stands_some lines n (omega (arith, inside, have.long)) in
       (Holds k, (k, c, at, refl, refl), v.holds l.1 (truth.each n l.0 true l.1 s) h)
 
-  pub says_good : n < length rows → Stands truths n true → ((k : ℕ) → MayHold lines n k → ⊥)
+  pub says_good : n < length rows → Stands truths n true → ((k : ℕ) → ContainsLine lines n k → ⊥)
       → IsVerdict sys dropped observer wanted lines chains n verdict.Good
   says_good inside s h =
       let l = stands_some lines n (omega (arith, inside, have.long)) in

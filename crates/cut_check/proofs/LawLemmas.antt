@@ -19,7 +19,7 @@ use Rattle.ar_meaning.proofs.ImageTurned.{image_turned}
 use Rattle.ar_firing.specs.Cuts.{AreEvents, Makes, IsLeast, Cut}
 use Rattle.ar_firing.proofs.ImageCuts.{reaches_there, cut_there, cut_back}
 use Rattle.ar_firing.proofs.LeastSets.{decided, Left, least_refuted, within_then}
-use Rattle.cut_check.specs.Verdicts.{events_of, IsTrueLine, MayHold, HoldsLine, Said, IsGood, Fails, Holds, IsSaid, fails, holds, good, IsListed, IsMissing, IsRight, AreTheCuts}
+use Rattle.cut_check.specs.Verdicts.{events_of, IsTrueLine, ContainsLine, HoldsLine, Said, IsGood, Fails, Holds, IsSaid, fails, holds, good, IsListed, IsMissing, IsRight, AreTheCuts}
 
 -- Images
 
@@ -173,7 +173,7 @@ module _ {V : Type 0} (sys : System V) (dropped : List ℕ) (observer : Expr V) 
   good_true {n = n} {ls = ls} s (good {ls = ms} t h none) =
       subst (λ (z : List Label). IsTrueLine sys dropped observer wanted z) (stands_one lines n ms ls t s) h
 
-  good_free : {n : ℕ} → IsSaid sys dropped observer wanted lines n IsGood → (k : ℕ) → MayHold lines n k → ⊥
+  good_free : {n : ℕ} → IsSaid sys dropped observer wanted lines n IsGood → (k : ℕ) → ContainsLine lines n k → ⊥
   good_free (good t h none) = none
 
   module _ (right : IsRight sys dropped observer wanted lines) where
@@ -224,7 +224,7 @@ module _ {V : Type 0} (sys : System V) (dropped : List ℕ) (observer : Expr V) 
     whole = λ set m. m.unlisted (c.whole set m.is_cut);
   }
     where
-      free : (n k : ℕ) → MayHold lines n k → ⊥
+      free : (n k : ℕ) → ContainsLine lines n k → ⊥
       free n k m =
           let all = (c.sound n m.line m.is_line).least (events_of m.held) m.within (c.sound k m.held m.is_held).has in
           let lt = m.earlier all in

@@ -24,7 +24,7 @@ pub record IsTrueLine {V : Type 0} (sys : System V) (dropped : List ℕ) (observ
   pub shows : Yields (HasValue sys.net values) (out-Expr V observer) wanted
 
 -- the events of line k are all among those of line n, and line k stands earlier where the events are the same
-pub record MayHold (lines : List (List Label)) (n k : ℕ) : Type 0 where
+pub record ContainsLine (lines : List (List Label)) (n k : ℕ) : Type 0 where
   pub line : List Label
   pub is_line : Stands lines n line
   pub held : List Label
@@ -34,8 +34,8 @@ pub record MayHold (lines : List (List Label)) (n k : ℕ) : Type 0 where
 
 -- line n holds line k: the least such line
 pub record HoldsLine (lines : List (List Label)) (n k : ℕ) : Type 0 where
-  pub may : MayHold lines n k
-  pub least : (j : ℕ) → j < k → MayHold lines n j → ⊥
+  pub may : ContainsLine lines n k
+  pub least : (j : ℕ) → j < k → ContainsLine lines n j → ⊥
 
 -- what is said of a line: it is true and holds no line, it is not true, or it is true and holds this line
 pub data Said : Type 0 where
@@ -52,7 +52,7 @@ pub data IsSaid {V : Type 0} (sys : System V) (dropped : List ℕ) (observer : E
       → HoldsLine lines n k
       → IsSaid sys dropped observer wanted lines n (Holds k)
   good : {ls : List Label} → Stands lines n ls → IsTrueLine sys dropped observer wanted ls
-      → ((k : ℕ) → MayHold lines n k → ⊥)
+      → ((k : ℕ) → ContainsLine lines n k → ⊥)
       → IsSaid sys dropped observer wanted lines n IsGood
 
 -- the set has the events of one of the lines, and no others

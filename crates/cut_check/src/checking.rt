@@ -14,7 +14,7 @@ ghost use Rattle.job_inputs.specs.Naming.{AreEventsOf};
 ghost use Rattle.cut_check.specs.Flat.{chain_lines, numbers_of, AreVerdicts, IsVerdict};
 ghost use Rattle.cut_check.specs.Rows.{HaveBits, AreWide};
 ghost use Rattle.cut_check.specs.Truths.{AreTruths};
-ghost use Rattle.cut_check.specs.Verdicts.{MayHold, HoldsLine};
+ghost use Rattle.cut_check.specs.Verdicts.{ContainsLine, HoldsLine};
 
 use crate::firing::true_lines;
 use crate::rows::{Row, is_within, open_events, rows_of};
@@ -92,7 +92,7 @@ fn held(rows: &[Row], n: usize) -> Option<usize>
     requires inside { n < length rows.now }
     requires wide { AreWide rows.now }
     ensures held { (lines : List (List Label)) → HaveBits lines rows.now
-        → MatchOption result ((k : ℕ) → MayHold lines n k → ⊥) (λ k. HoldsLine lines n k) }
+        → MatchOption result ((k : ℕ) → ContainsLine lines n k → ⊥) (λ k. HoldsLine lines n k) }
     ensures inside { IfSome result (λ k. k < length rows.now) }
 {
     for k in 0..rows.len() {
@@ -109,7 +109,7 @@ fn may_hold(rows: &[Row], n: usize, k: usize) -> bool
     requires k { k < length rows.now }
     requires wide { AreWide rows.now }
     ensures { (lines : List (List Label)) → HaveBits lines rows.now
-        → IsAnswer result (MayHold lines n k) }
+        → IsAnswer result (ContainsLine lines n k) }
 {
     let line = &rows[n].words;
     let other = &rows[k].words;

@@ -12,7 +12,7 @@ use Rattle.ar_firing.specs.Static.{IsStatic}
 use Rattle.ar_firing.specs.Cuts.{IsFirable}
 use Rattle.ar_firing.specs.Forest.{ModeTree, IsModeTree, IsForest}
 use Rattle.ar_firing.proofs.TreeEdges.{row_is_live}
-use Rattle.firable_families.specs.Firable.{LeadsTo, root, edge, IsFirableOf}
+use Rattle.firable_families.specs.Firable.{LeadsToMode, root, edge, IsFirableOf}
 use Rattle.firable_families.proofs.InForests.{path_for, Found, at, nowhere, found, build}
 
 module _ {V : Type 0} (sys : System V) (dropped : List ℕ) (keyed : AreKeyed sys.net) (static : IsStatic sys dropped)
@@ -23,7 +23,7 @@ module _ {V : Type 0} (sys : System V) (dropped : List ℕ) (keyed : AreKeyed sy
       (λ l. let a = forest.ascends k j t s l h i in absurd (omega (arith, a, e))) o) (cases_order j k)
 
   -- paths of a tree are those of its variable
-  path_of : (tree : ModeTree) → IsModeTree sys dropped tree → {ls : List Label} {m : Value} → LeadsTo tree ls m
+  path_of : (tree : ModeTree) → IsModeTree sys dropped tree → {ls : List Label} {m : Value} → LeadsToMode tree ls m
       → Path sys dropped tree.variable ls m
   path_of tree h {m = m} (root e) = sys_.root h.is_mode.stands h.is_mode.is_state (sym h.first ∙ e)
   path_of tree h (edge {l = l} {m = m} {to = to} p r) = sys_.edge (path_of tree h p)

@@ -11,8 +11,8 @@ use Rattle.ar_firing.specs.Trees.{IsTree, AreTrees}
 use Rattle.mode_trees.specs.Views.{row_of, tree_of}
 use Rattle.mode_trees.specs.declared.forests.Edge.{Edge}
 use Rattle.mode_trees.specs.declared.forests.ModeTree.{ModeTree}
-use Rattle.firable_families.specs.Firable.{LeadsTo, IsFirableOf}
-use Rattle.firable_families.specs.Firable.LeadsTo.{root, edge}
+use Rattle.firable_families.specs.Firable.{LeadsToMode, IsFirableOf}
+use Rattle.firable_families.specs.Firable.LeadsToMode.{root, edge}
 use Rattle.min_cuts.specs.Lines.{line_from, IsInFiringOrder, AreInFiringOrder}
 use Rattle.cut_text.specs.Printed.{edges_of, HaveOneWay, AreOfEdges}
 use Rattle.cut_text.proofs.TableLemmas.{edge_in, tree_of_edge}
@@ -141,8 +141,8 @@ on_line k (t ∷ ts) path l o = ⊎_elim
     (one_split (reverse (path k)) (line_from (suc k) ts path) l o)
 
 -- the edge of a path's label
-pub path_row : {tree : firing.ModeTree} {ls : List Label} {m : Value} → LeadsTo tree ls m → (l : Label) → IsOneOf ls l
-    → (r : Row) × IsOneOf tree.edges r × (r.label ≡ l)
+pub path_row : {tree : firing.ModeTree} {ls : List Label} {m : Value} → LeadsToMode tree ls m → (l : Label) → IsOneOf ls
+    l → (r : Row) × IsOneOf tree.edges r × (r.label ≡ l)
 path_row (root e) l o = absurd (one_none l o)
 path_row (edge {l = x} {ls = xs} {m = m} {to = to} p s) l o = ⊎_elim
     (λ (e : x ≡ l). (record { from = m; label = x; to = to }, s, e))
@@ -194,8 +194,8 @@ abbrev pub renumber : (ℕ → ℕ) → Label → Label
 renumber number l = record { event = l.event; way = number l.way }
 
 module _ (number : ℕ → ℕ) where
-  leads_as : (t : ModeTree) {ls : List Label} {m : Value} → LeadsTo (tree_of (λ n. n) t) ls m
-      → LeadsTo (tree_of number t) (map (renumber number) ls) m
+  leads_as : (t : ModeTree) {ls : List Label} {m : Value} → LeadsToMode (tree_of (λ n. n) t) ls m
+      → LeadsToMode (tree_of number t) (map (renumber number) ls) m
   leads_as t (root e) = root e
   leads_as t (edge {l = l} {m = m} {to = to} p o) =
       let b = stands_map_back (row_of (λ n. n)) t.edges.items o.place
@@ -237,7 +237,7 @@ module _ (number : ℕ → ℕ) where
           let b = stands_map_back (tree_of number) ts k tree s in
           let w = f.walks k (tree_of (λ n. n) b.0) (stands_map (tree_of (λ n. n)) ts k b.0 b.1) in (
             w.0,
-            subst (λ (z : firing.ModeTree). LeadsTo z (map (renumber number) (f.path k)) w.0) b.2
+            subst (λ (z : firing.ModeTree). LeadsToMode z (map (renumber number) (f.path k)) w.0) b.2
                 (leads_as b.0 w.1),
           );
       sound = λ k tree s j l i.

@@ -2,7 +2,7 @@
 use Rattle.std.proofs.Common.{◌≡◌, ℕ, ℤ, ◌<◌, ◌≤◌, true, false, cond, nat_lt, int_lt, List, [], ◌∷◌, length, Contains, get_or, zero, suc, refl, sym, ap, ◌∙◌, subst, inl, inr, arith}
 use Rattle.std.proofs.lemmas.Int.{ints}
 use Rattle.std.proofs.lemmas.Bool.Decides.{nat_tests}
-use Rattle.domains.specs.Values.{rank_of, number_of, is_before, IsAscending}
+use Rattle.domains.specs.Values.{rank_of, number_in_rank, is_before, IsAscending}
 use Rattle.domains.specs.declared.Value.{Value}
 use Rattle.domains.specs.declared.Value.TheVariants.{Truth, Whole, Symbol}
 use Rattle.domains.proofs.Members.{contains-head, contains-cons, contains-cases, nothing-in, pairs-tail, pairs-head}
@@ -14,13 +14,13 @@ before_trans r s t a b c h k = grind (arith, ints, nat_tests)
 
 pub is_before-trans : (x y z : Value) → is_before x y ≡ true → is_before y z ≡ true → is_before x z ≡ true
 is_before-trans x y z h k =
-    before_trans (rank_of x) (rank_of y) (rank_of z) (number_of x) (number_of y) (number_of z) h k
+    before_trans (rank_of x) (rank_of y) (rank_of z) (number_in_rank x) (number_in_rank y) (number_in_rank z) h k
 
 before_self : (r : ℕ) (a : ℤ) → cond (nat_lt r r) true (cond (nat_lt r r) false (int_lt a a)) ≡ false
 before_self r a = grind (arith, ints, nat_tests)
 
 pub is_before-self : (x : Value) → is_before x x ≡ false
-is_before-self x = before_self (rank_of x) (number_of x)
+is_before-self x = before_self (rank_of x) (number_in_rank x)
 
 before_rank : (r s : ℕ) (a b : ℤ) → cond (nat_lt r s) true (cond (nat_lt s r) false (int_lt a b)) ≡ false
     → cond (nat_lt s r) true (cond (nat_lt r s) false (int_lt b a)) ≡ false → r ≡ s
@@ -30,7 +30,7 @@ before_number : (r s : ℕ) (a b : ℤ) → cond (nat_lt r s) true (cond (nat_lt
     → cond (nat_lt s r) true (cond (nat_lt r s) false (int_lt b a)) ≡ false → a ≡ b
 before_number r s a b h k = grind (arith, ints, nat_tests)
 
-same_value : (x y : Value) → rank_of x ≡ rank_of y → number_of x ≡ number_of y → x ≡ y
+same_value : (x y : Value) → rank_of x ≡ rank_of y → number_in_rank x ≡ number_in_rank y → x ≡ y
 same_value (Truth true) (Truth true) r n = refl
 same_value (Truth true) (Truth false) r n = cc
 same_value (Truth false) (Truth true) r n = cc
@@ -47,8 +47,8 @@ same_value (Symbol a) (Symbol b) r n = cc
 -- values of which neither comes before the other are one
 pub same-from_neither : (x y : Value) → is_before x y ≡ false → is_before y x ≡ false → x ≡ y
 same-from_neither x y h k =
-    same_value x y (before_rank (rank_of x) (rank_of y) (number_of x) (number_of y) h k)
-    (before_number (rank_of x) (rank_of y) (number_of x) (number_of y) h k)
+    same_value x y (before_rank (rank_of x) (rank_of y) (number_in_rank x) (number_in_rank y) h k)
+    (before_number (rank_of x) (rank_of y) (number_in_rank x) (number_in_rank y) h k)
 
 -- a value does not come before itself
 pub not_before : (x y : Value) → is_before x y ≡ true → x ≡ y → ⊥

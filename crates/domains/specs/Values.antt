@@ -10,16 +10,16 @@ rank_of (Whole n) = 1
 rank_of (Symbol s) = 2
 
 -- where a value stands among those of its rank: false before true, numbers ascending, symbols by their number
-abbrev pub number_of : Value → ℤ
-number_of (Truth b) = if b then pos 1 else pos 0
-number_of (Whole n) = n
-number_of (Symbol s) = pos s
+abbrev pub number_in_rank : Value → ℤ
+number_in_rank (Truth b) = if b then pos 1 else pos 0
+number_in_rank (Whole n) = n
+number_in_rank (Symbol s) = pos s
 
 -- the first value comes before the second
 abbrev pub is_before : Value → Value → Bool
 is_before a b =
     if nat_lt (rank_of a) (rank_of b) then true
-    else (if nat_lt (rank_of b) (rank_of a) then false else int_lt (number_of a) (number_of b))
+    else (if nat_lt (rank_of b) (rank_of a) then false else int_lt (number_in_rank a) (number_in_rank b))
 
 -- each value comes before all later ones
 abbrev pub IsAscending : List Value → Type 0

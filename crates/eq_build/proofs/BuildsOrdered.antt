@@ -12,7 +12,7 @@ use Rattle.eq_core.specs.Ordered.{AreBelow, AreOrdered}
 use Rattle.eq_core.specs.Values.{Grows, IsBelow}
 use Rattle.eq_core.proofs.Ordering.{joined_ordered, none_earlier}
 use Rattle.eq_core.proofs.Telling.{grows_on, below_kept, all_more}
-use Rattle.eq_build.specs.Entries.{Entry, Term, Group, Row, Built, operand_for, all_of_each, one_of_alls, with_terms, entries_of, entries_for, only, pairs_of, combined, folded, with_step, with_signs, led, opposite_term, opposite_terms, each_for, joint_terms, case_terms, chosen}
+use Rattle.eq_build.specs.Entries.{Entry, Term, Group, OperandRow, Built, operand_for, all_of_each, one_of_alls, with_terms, entries_of, entries_for, only, pairs_of, combined, folded, with_step, with_signs, led, opposite_term, opposite_terms, each_for, joint_terms, case_terms, chosen}
 use Rattle.eq_build.specs.Builds.{Builds, Builds_each, Builds_parts, Builds_cases}
 use Rattle.eq_build.specs.Builds as b
 use Rattle.eq_build.specs.Laws.{EntriesBelow, IsOrderedBuilt}
@@ -28,7 +28,7 @@ pub entries_on : {g h : List Gate} (es : List Entry) → Grows g h → EntriesBe
 entries_on es w a = record { each = λ e m. below_kept e.operand w (a.each e m) }
 
 -- operands, and the gates so far, in order
-pub record IsOrderedRow (r : Row) : Type 0 where
+pub record IsOrderedRow (r : OperandRow) : Type 0 where
   pub gates : AreOrdered r.gates
   pub below : AreBelow (length r.gates) r.operands
 

@@ -8,9 +8,9 @@ use Rattle.domains.proofs.Order.{not_before}
 use Rattle.domains.proofs.Same.{same_is, same_self}
 use Rattle.eq_core.specs.Gates.{Operand, Always, Never, EventIs, GateIs, Gate, all_of}
 use Rattle.eq_core.specs.Ordered.{AreBelow}
-use Rattle.eq_core.specs.Values.{Tells, Grows, EachTrue, value_at}
+use Rattle.eq_core.specs.Values.{IsTrueWhere, Grows, EachTrue, value_at}
 use Rattle.eq_core.proofs.Telling.{grows_self, grows_on, value_kept, below_kept, tells_kept, tells_as, tells_never, all_tells, all_grows, any_tells, any_grows}
-use Rattle.eq_build.specs.Entries.{Entry, operand_for, Term, Group, Row, all_of_each, one_of_alls, is_never, with_entry, with_terms, Rises, entries_of, entries_for}
+use Rattle.eq_build.specs.Entries.{Entry, operand_for, Term, Group, OperandRow, all_of_each, one_of_alls, is_never, with_entry, with_terms, Rises, entries_of, entries_for}
 use Rattle.eq_build.specs.Tells.{AreEntries, IsBuilt}
 use Rattle.eq_build.proofs.GroupsRise.{InGroups, InTerms, terms_there, terms_were, terms_rise}
 
@@ -38,22 +38,22 @@ entries_as f k a = record {
 
 -- the operand of a value tells of it
 pub operand_tells : {set : List ℕ} {g : List Gate} (es : List Entry) (P : Value → Type 0) (d : Value)
-    → ((e : Entry) → IsOneOf es e → Tells set g e.operand (P e.value))
-    → (P d → (e : Entry) × IsOneOf es e × (e.value ≡ d)) → Tells set g (operand_for es d) (P d)
+    → ((e : Entry) → IsOneOf es e → IsTrueWhere set g e.operand (P e.value))
+    → (P d → (e : Entry) × IsOneOf es e × (e.value ≡ d)) → IsTrueWhere set g (operand_for es d) (P d)
 operand_tells [] P d t w = tells_never (λ p. let r = w p in one_none r.0 r.1)
 operand_tells {set = set} {g = g} (e ∷ es) P d t w = go (is_same e.value d) refl
     (λ f. operand_tells es P d (λ x o. t x (one_rest e es x o)) f)
   where
-    go : (b : Bool) → is_same e.value d ≡ b → ((P d → (x : Entry) × IsOneOf es x × (x.value ≡ d)) → Tells set g
-        (operand_for es d) (P d)) → Tells set g (if b then e.operand else operand_for es d) (P d)
-    go true i r = subst (λ z. Tells set g e.operand (P z)) (same_is e.value d i) (t e (one_first e es))
+    go : (b : Bool) → is_same e.value d ≡ b → ((P d → (x : Entry) × IsOneOf es x × (x.value ≡ d)) → IsTrueWhere set g
+        (operand_for es d) (P d)) → IsTrueWhere set g (if b then e.operand else operand_for es d) (P d)
+    go true i r = subst (λ z. IsTrueWhere set g e.operand (P z)) (same_is e.value d i) (t e (one_first e es))
     go false i r = r (λ p. let x = w p in elim (one_cases e es x.0 x.1) [
       | inl j ↦ absurd (let k = is_so e.value d (ap (λ z. z.value) j ∙ x.2) in cc)
       | inr o ↦ (x.0, o, x.2)
     ])
 
 pub entry_tells : {set : List ℕ} {g : List Gate} {es : List Entry} {P : Value → Type 0} → AreEntries set g es P
-    → (d : Value) → Tells set g (operand_for es d) (P d)
+    → (d : Value) → IsTrueWhere set g (operand_for es d) (P d)
 entry_tells {es = es} {P = P} a d = operand_tells es P d a.tells (a.whole d)
 
 -- operands are true of more gates where they were
@@ -76,12 +76,12 @@ pub all_kept : {g h : List Gate} (oss : List (List Operand)) → Grows g h → A
 all_kept oss w a = record { each = λ os o. are_kept os w (a.each os o) }
 
 -- the operands of a row, each telling that its list is true
-record IsRow (set : List ℕ) (g : List Gate) (oss : List (List Operand)) (r : Row) : Type 0 where
+record IsRow (set : List ℕ) (g : List Gate) (oss : List (List Operand)) (r : OperandRow) : Type 0 where
   pub grown : Grows g r.gates
   pub each : (os : List Operand) → IsOneOf oss os
-      → (o : Operand) × IsOneOf r.operands o × Tells set r.gates o (EachTrue set g os)
+      → (o : Operand) × IsOneOf r.operands o × IsTrueWhere set r.gates o (EachTrue set g os)
   pub back : (o : Operand) → IsOneOf r.operands o
-      → (os : List Operand) × IsOneOf oss os × Tells set r.gates o (EachTrue set g os)
+      → (os : List Operand) × IsOneOf oss os × IsTrueWhere set r.gates o (EachTrue set g os)
 
 row_tells : (set : List ℕ) (g : List Gate) (oss : List (List Operand)) → AllBelow g oss
     → IsRow set g oss (all_of_each g oss)
@@ -101,9 +101,9 @@ row_tells set g (os ∷ oss) a = with_head (a.each os (one_first os oss)) (λ h 
         let w : Grows g m.gates = all_grows set g os b in
         let r = rest m.gates w in
         let rr = all_of_each m.gates oss in
-        let t : Tells set rr.gates m.operand (EachTrue set g os) = tells_kept r.grown (all_tells set g os b) in
-        let lift : (ps : List Operand) → IsOneOf oss ps → (o : Operand) → Tells set rr.gates o
-        (EachTrue set m.gates ps) → Tells set rr.gates o (EachTrue set g ps) = λ ps i o k.
+        let t : IsTrueWhere set rr.gates m.operand (EachTrue set g os) = tells_kept r.grown (all_tells set g os b) in
+        let lift : (ps : List Operand) → IsOneOf oss ps → (o : Operand) → IsTrueWhere set rr.gates o
+        (EachTrue set m.gates ps) → IsTrueWhere set rr.gates o (EachTrue set g ps) = λ ps i o k.
         let c = a.each ps (one_rest os oss ps i) in tells_as (each_back ps w c) (each_on ps w c) k in
         record {
           grown = grows_on w r.grown;
@@ -112,19 +112,19 @@ row_tells set g (os ∷ oss) a = with_head (a.each os (one_first os oss)) (λ h 
               m.operand,
               one_first m.operand rr.operands,
               subst
-                  (λ z. Tells set rr.gates m.operand (EachTrue set g z)) e t,
+                  (λ z. IsTrueWhere set rr.gates m.operand (EachTrue set g z)) e t,
             )
             | inr j ↦ let x = r.each ps j in (x.0, one_rest m.operand rr.operands x.0 x.1, lift ps j x.0 x.2)
           ];
           back = λ o i. elim (one_cases m.operand rr.operands o i) [
-            | inl e ↦ (os, one_first os oss, subst (λ z. Tells set rr.gates z (EachTrue set g os)) e t)
+            | inl e ↦ (os, one_first os oss, subst (λ z. IsTrueWhere set rr.gates z (EachTrue set g os)) e t)
             | inr j ↦ let x = r.back o j in (x.0, one_rest os oss x.0 x.1, lift x.0 x.1 o x.2)
           ];
         }
 
 -- one of the lists, all of its operands
 pub one_grows : (set : List ℕ) (g : List Gate) (oss : List (List Operand)) → AllBelow g oss → Grows g (one_of_alls g
-    oss).gates × Tells set (one_of_alls g oss).gates (one_of_alls g oss).operand (OneAll set g oss)
+    oss).gates × IsTrueWhere set (one_of_alls g oss).gates (one_of_alls g oss).operand (OneAll set g oss)
 one_grows set g oss a =
     let r = row_tells set g oss a in
     let rr = all_of_each g oss in
@@ -251,7 +251,7 @@ groups_tell set g (p ∷ ps) r a =
     not_later q m e = not_before p.value q.value (r.0 q m) e
 
     with_rest : Grows g (one_of_alls g p.terms).gates
-        × Tells set (one_of_alls g p.terms).gates (one_of_alls g p.terms).operand (OneAll set g p.terms)
+        × IsTrueWhere set (one_of_alls g p.terms).gates (one_of_alls g p.terms).operand (OneAll set g p.terms)
         → ((h : List Gate) → Grows g h → IsBuilt set h (entries_of h ps) (OneOfGroups set h ps))
         → IsBuilt set g (entries_of g (p ∷ ps)) (OneOfGroups set g (p ∷ ps))
     with_rest m rest =
@@ -259,7 +259,7 @@ groups_tell set g (p ∷ ps) r a =
         let s = rest made.gates m.0 in
         let b = entries_of made.gates ps in
         let first : Entry = record { value = p.value; operand = made.operand } in
-        let t : Tells set b.gates made.operand (OneAll set g p.terms) = tells_kept s.grown m.1 in
+        let t : IsTrueWhere set b.gates made.operand (OneAll set g p.terms) = tells_kept s.grown m.1 in
         let own : OneAll set g p.terms → OneOfGroups set g (p ∷ ps) p.value = λ h.
         record { group = p; is_one = one_first p ps; value = refl; holds = h } in
         let mine : OneOfGroups set g (p ∷ ps) p.value → OneAll set g p.terms = λ i.
@@ -271,7 +271,7 @@ groups_tell set g (p ∷ ps) r a =
           grown = grows_on m.0 s.grown;
           entries = record {
             tells = λ e n. elim (entry_cases p.value made.operand b.entries e n) [
-              | inl i ↦ subst (λ (z : Entry). Tells set b.gates z.operand (OneOfGroups set g (p ∷ ps) z.value)) i
+              | inl i ↦ subst (λ (z : Entry). IsTrueWhere set b.gates z.operand (OneOfGroups set g (p ∷ ps) z.value)) i
                   (tells_as own mine t)
               | inr k ↦ tells_as
                   (λ h. let j = groups_back ps e.value m.0 others h in

@@ -12,7 +12,7 @@ use Rattle.typed_expr.specs.declared.expr.Expr.{Expr, out-Expr}
 use Rattle.typed_expr.specs.declared.expr.Expr.TheOpen.{Not, All, Any}
 use Rattle.eq_core.specs.Gates.{Operand, Always, Gate}
 use Rattle.eq_core.specs.Ordered.{AreBelow}
-use Rattle.eq_core.specs.Values.{IsBelow, Tells, Grows, EachTrue, value_at}
+use Rattle.eq_core.specs.Values.{IsBelow, IsTrueWhere, Grows, EachTrue, value_at}
 use Rattle.eq_core.proofs.Telling.{grows_self, grows_on, tells_always}
 use Rattle.eq_build.specs.Entries.{Entry, Term, operand_for, entries_for, pair_term, pairs_of, result_of, combined, folded, with_step, with_signs, only, opposite_term, opposite_terms, each_for, joint_terms, case_terms, chosen}
 use Rattle.eq_build.specs.Tells.{AreEntries, IsBuilt}
@@ -67,7 +67,8 @@ module _ {set : List ℕ} {g : List Gate} where
   one_holds o t = t.each o (one_first o [])
 
   -- two operands, each of them true
-  two_true : {o p : Operand} {P Q : Type 0} → Tells set g o P → Tells set g p Q → P → Q → EachTrue set g (o ∷ p ∷ [])
+  two_true : {o p : Operand} {P Q : Type 0} → IsTrueWhere set g o P → IsTrueWhere set g p Q → P → Q
+      → EachTrue set g (o ∷ p ∷ [])
   two_true {o = o} {p = p} a c h k = record {
     each = λ q m. elim (one_cases o (p ∷ []) q m) [
       | inl e ↦ subst (λ z. value_at g z set ≡ true) e (a.so_true h)
@@ -78,7 +79,8 @@ module _ {set : List ℕ} {g : List Gate} where
     ];
   }
 
-  two_hold : {o p : Operand} {P Q : Type 0} → Tells set g o P → Tells set g p Q → EachTrue set g (o ∷ p ∷ []) → P × Q
+  two_hold : {o p : Operand} {P Q : Type 0} → IsTrueWhere set g o P → IsTrueWhere set g p Q
+      → EachTrue set g (o ∷ p ∷ []) → P × Q
   two_hold {o = o} {p = p} a c t =
       (a.true_so (t.each o (one_first o (p ∷ []))), c.true_so (t.each p (one_rest o (p ∷ []) p (one_first p []))))
 
@@ -164,8 +166,9 @@ only_tells set g v = record {
   whole = λ d i. (record { value = v; operand = Always }, one_first (record { value = v; operand = Always }) [], i);
 }
   where
-    at : (e : Entry) → (record { value = v; operand = Always } ≡ e) ⊎ IsOneOf [] e → Tells set g e.operand (v ≡ e.value)
-    at e (inl i) = subst (λ (z : Entry). Tells set g z.operand (v ≡ z.value)) i (tells_always refl)
+    at : (e : Entry) → (record { value = v; operand = Always } ≡ e) ⊎ IsOneOf [] e
+        → IsTrueWhere set g e.operand (v ≡ e.value)
+    at e (inl i) = subst (λ (z : Entry). IsTrueWhere set g z.operand (v ≡ z.value)) i (tells_always refl)
     at e (inr o) = absurd (one_none e o)
 
 -- steps from a value on

@@ -1,7 +1,7 @@
 -- A term that holds Never changes nothing.
 use Rattle.std.proofs.Common.{◌≡◌, Bool, true, false, if◌then◌else◌, List, [], ◌∷◌, ◌++◌, refl, sym, ap, ◌∙◌, subst}
 use Rattle.eq_core.specs.Gates.{Operand, Always, Never, EventIs, GateIs, Gate, Made, joined, all_of, any_of}
-use Rattle.eq_build.specs.Entries.{Row, all_of_each, one_of_alls}
+use Rattle.eq_build.specs.Entries.{OperandRow, all_of_each, one_of_alls}
 use Rattle.eq_build.specs.Laws.{holds_never, without_never}
 
 -- all operands with Never among them are Never, and make no gate
@@ -27,7 +27,7 @@ alike_both (EventIs n sign) os ps a = record { same = λ g kept. a.same g (kept 
 alike_both (GateIs n sign) os ps a = record { same = λ g kept. a.same g (kept ++ GateIs n sign ∷ []) }
 
 -- the rows have the same gates, and their operands join alike
-record AreAlike (r s : Row) : Type 0 where
+record AreAlike (r s : OperandRow) : Type 0 where
   pub gates : r.gates ≡ s.gates
   pub operands : Alike r.operands s.operands
 

@@ -7,7 +7,7 @@ use Rattle.eq_core.specs.Views.{operand_of}
 use Rattle.eq_core.specs.declared.joints.Operand as sign
 use Rattle.eq_core.specs.declared.joints.Gate as flat
 use Rattle.eq_core.proofs.Telling.{any_more}
-use Rattle.eq_build.specs.Entries.{Row, Group, Built, all_of_each, one_of_alls, entries_of, entries_for, combined, folded, case_terms, chosen}
+use Rattle.eq_build.specs.Entries.{OperandRow, Group, Built, all_of_each, one_of_alls, entries_of, entries_for, combined, folded, case_terms, chosen}
 use Rattle.eq_build.specs.Entries.{Entry as View}
 use Rattle.eq_build.specs.declared.steps.Step.{Step}
 use Rattle.eq_build.specs.Builds.{most_gates}
@@ -41,14 +41,14 @@ entries_passed_on b r x gates h s =
 
 -- too many gates for one term are too many for all
 pub term_stops : (g h : List Gate) (oss rest : List (List Operand)) (os out : List Operand)
-    → ◌≡◌ {A = Row} (all_of_each g oss)
+    → ◌≡◌ {A = OperandRow} (all_of_each g oss)
     (record { operands = out ++ (all_of_each h (os ∷ rest)).operands; gates = (all_of_each h (os ∷ rest)).gates })
     → most_gates < length (all_of h os).gates → most_gates < length (one_of_alls g oss).gates
 term_stops g h oss rest os out e l =
     let r = all_of_each g oss in
     let more = longer_on (each_more (all_of h os).gates rest) l in
     longer_on (any_more r.gates r.operands)
-    (subst (λ z. most_gates < length z) (sym (ap (λ (z : Row). z.gates) e)) more)
+    (subst (λ z. most_gates < length z) (sym (ap (λ (z : OperandRow). z.gates) e)) more)
 
 -- too many gates for one group are too many for all
 pub group_stops : (g h : List Gate) (p : Group) (all rest : List Group)

@@ -54,12 +54,12 @@ abbrev pub with_terms : List Term → List Group → List Group
 with_terms ts ps = fold (λ qs t. with_term t qs) ps ts
 
 -- operands, and all gates so far
-pub record Row : Type 0 where
+pub record OperandRow : Type 0 where
   pub operands : List Operand
   pub gates : List Gate
 
 -- all operands of each term, term by term
-abbrev pub all_of_each : List Gate → List (List Operand) → Row
+abbrev pub all_of_each : List Gate → List (List Operand) → OperandRow
 all_of_each gates [] = record { operands = []; gates = gates }
 all_of_each gates (os ∷ oss) =
     let m = all_of gates os in

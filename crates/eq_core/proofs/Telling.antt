@@ -7,7 +7,7 @@ use Rattle.ar_base.proofs.Standing.{stands_none}
 use Rattle.ar_base.proofs.Truths.{not_true, true_not}
 use Rattle.eq_core.specs.Gates.{Operand, Always, Never, EventIs, GateIs, Gate, Made, opposite, neutral, closed_as, joined, all_of, any_of}
 use Rattle.eq_core.specs.Ordered.{IsEarlier, AreBelow, IsInPlace}
-use Rattle.eq_core.specs.Values.{has_event, value_of_gate, signed, operand_at, joint_at, values_from, values_at, value_at, IsBelow, Tells, Grows, EachTrue, OneTrue}
+use Rattle.eq_core.specs.Values.{has_event, value_of_gate, signed, operand_at, joint_at, values_from, values_at, value_at, IsBelow, IsTrueWhere, Grows, EachTrue, OneTrue}
 
 -- more gates
 pub grows_self : (gates : List Gate) → Grows gates gates
@@ -68,21 +68,21 @@ below_kept (EventIs e sign) g l = tt
 below_kept {old = old} {new = new} (GateIs n sign) g l = let e : length new ≡ length old + length g.more = ap length
     g.is ∙ length-append old g.more in omega (arith, e, l)
 
-pub tells_kept : {set : List ℕ} {old new : List Gate} {o : Operand} {P : Type 0} → Grows old new → Tells set old o P
-    → Tells set new o P
+pub tells_kept : {set : List ℕ} {old new : List Gate} {o : Operand} {P : Type 0} → Grows old new → IsTrueWhere set old o
+    P → IsTrueWhere set new o P
 tells_kept {set = set} {o = o} g t =
     let e = value_kept set o g t.below in
     record { below = below_kept o g t.below; true_so = λ h. t.true_so (sym e ∙ h); so_true = λ p. e ∙ t.so_true p }
 
 -- the same operand tells of what is as much
 pub tells_as : {set : List ℕ} {gates : List Gate} {o : Operand} {P Q : Type 0} → (P → Q) → (Q → P)
-    → Tells set gates o P → Tells set gates o Q
+    → IsTrueWhere set gates o P → IsTrueWhere set gates o Q
 tells_as f g t = record { below = t.below; true_so = λ h. f (t.true_so h); so_true = λ q. t.so_true (g q) }
 
-pub tells_always : {set : List ℕ} {gates : List Gate} {P : Type 0} → P → Tells set gates Always P
+pub tells_always : {set : List ℕ} {gates : List Gate} {P : Type 0} → P → IsTrueWhere set gates Always P
 tells_always p = record { below = tt; true_so = λ h. p; so_true = λ p. refl }
 
-pub tells_never : {set : List ℕ} {gates : List Gate} {P : Type 0} → (P → ⊥) → Tells set gates Never P
+pub tells_never : {set : List ℕ} {gates : List Gate} {P : Type 0} → (P → ⊥) → IsTrueWhere set gates Never P
 tells_never n = record { below = tt; true_so = λ h. absurd cc; so_true = λ p. absurd (n p) }
 
 pub turned : (set : List ℕ) (values : List Bool) (o : Operand)
@@ -108,8 +108,8 @@ opposite_below n Never l = tt
 opposite_below n (EventIs e sign) l = tt
 opposite_below n (GateIs g sign) l = l
 
-pub tells_opposite : {set : List ℕ} {gates : List Gate} {o : Operand} {P : Type 0} → Tells set gates o P
-    → Tells set gates (opposite o) (P → ⊥)
+pub tells_opposite : {set : List ℕ} {gates : List Gate} {o : Operand} {P : Type 0} → IsTrueWhere set gates o P
+    → IsTrueWhere set gates (opposite o) (P → ⊥)
 tells_opposite {set = set} {gates = gates} {o = o} t =
     let v = values_at set gates in
     let e = turned set v o in
@@ -306,7 +306,7 @@ module _ (set : List ℕ) (gates : List Gate) (os : List Operand) (a : AreBelow 
   any_joined = one_joins set gates [] os (none_below (length gates)) a
 
   -- all of the operands make a gate, or what is left of it, that is true exactly where each is
-  pub all_tells : Tells set (all_of gates os).gates (all_of gates os).operand (EachTrue set gates os)
+  pub all_tells : IsTrueWhere set (all_of gates os).gates (all_of gates os).operand (EachTrue set gates os)
   all_tells = record {
     below = all_joined.below;
     true_so = λ e. record {
@@ -321,7 +321,7 @@ module _ (set : List ℕ) (gates : List Gate) (os : List Operand) (a : AreBelow 
   all_grows = all_joined.grown
 
   -- one of the operands
-  pub any_tells : Tells set (any_of gates os).gates (any_of gates os).operand (OneTrue set gates os)
+  pub any_tells : IsTrueWhere set (any_of gates os).gates (any_of gates os).operand (OneTrue set gates os)
   any_tells = record {
     below = any_joined.below;
     true_so = λ e. let r = one_in_joint set (values_at set gates) os (sym any_joined.value ∙ e) in record

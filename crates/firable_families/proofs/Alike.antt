@@ -11,7 +11,7 @@ use Rattle.mode_trees.specs.declared.forests.Edge.{Edge}
 use Rattle.mode_trees.specs.declared.forests.ModeTree as flat
 use Rattle.mode_trees.specs.declared.forests.Forest.{Forest}
 use Rattle.mode_trees.specs.Views.{row_of, tree_of, trees_of}
-use Rattle.firable_families.specs.Firable.{LeadsTo, root, edge, IsFirableOf}
+use Rattle.firable_families.specs.Firable.{LeadsToMode, root, edge, IsFirableOf}
 use Rattle.firable_families.proofs.Trees.{fore}
 
 -- edges between the same modes, of one event
@@ -28,22 +28,22 @@ pub record AreAlike (s t : ModeTree) : Type 0 where
 abbrev HaveOneEvent : Label → Label → Type 0
 HaveOneEvent l k = l.event ≡ k.event
 
-leads_alike : (s t : ModeTree) → AreAlike s t → {ls : List Label} {m : Value} → LeadsTo s ls m
-    → (ks : List Label) × LeadsTo t ks m × Along HaveOneEvent ls ks
+leads_alike : (s t : ModeTree) → AreAlike s t → {ls : List Label} {m : Value} → LeadsToMode s ls m
+    → (ks : List Label) × LeadsToMode t ks m × Along HaveOneEvent ls ks
 leads_alike s t h (root e) = ([], root (sym h.first ∙ e), none)
 leads_alike s t h (edge {l = l} {m = m} {to = to} p o) =
     let w = leads_alike s t h p in
     let r = along_on s.edges t.edges h.edges o.place (record { from = m; label = l; to = to }) o.stands in (
       r.0.label ∷ w.0,
-      subst (LeadsTo t (r.0.label ∷ w.0)) (sym r.2.to)
-          (edge (subst (LeadsTo t w.0) r.2.from w.1) (one_here t.edges o.place r.0 r.1)),
+      subst (LeadsToMode t (r.0.label ∷ w.0)) (sym r.2.to)
+          (edge (subst (LeadsToMode t w.0) r.2.from w.1) (one_here t.edges o.place r.0 r.1)),
       one_and r.2.event w.2,
     )
 
 paths_alike : {ss ts : List ModeTree} → Along AreAlike ss ts → (path : ℕ → List Label)
-    → ((k : ℕ) (s : ModeTree) → Stands ss k s → (m : Value) × LeadsTo s (path k) m)
+    → ((k : ℕ) (s : ModeTree) → Stands ss k s → (m : Value) × LeadsToMode s (path k) m)
     → (other : ℕ → List Label) × ((k : ℕ) (t : ModeTree) → Stands ts k t
-    → ((m : Value) × LeadsTo t (other k) m) × Along HaveOneEvent (path k) (other k))
+    → ((m : Value) × LeadsToMode t (other k) m) × Along HaveOneEvent (path k) (other k))
 paths_alike none path leads = (λ k. [], λ k t i. cc)
 paths_alike (one_and {a = s} {b = t} {ys = ts} r rest) path leads =
     let l = leads zero s refl in
@@ -51,13 +51,13 @@ paths_alike (one_and {a = s} {b = t} {ys = ts} r rest) path leads =
     let ih = paths_alike rest (λ k. path (suc k)) (λ k u i. leads (suc k) u i) in
     (fore w.0 ih.0, at ts ih.0 w.0 l.0 w.1 w.2 ih.1)
   where
-    at : (us : List ModeTree) (other : ℕ → List Label) (ks : List Label) (m : Value) → LeadsTo t ks m
+    at : (us : List ModeTree) (other : ℕ → List Label) (ks : List Label) (m : Value) → LeadsToMode t ks m
         → Along HaveOneEvent (path zero) ks
         → ((k : ℕ) (u : ModeTree) → Stands us k u
-        → ((m : Value) × LeadsTo u (other k) m) × Along HaveOneEvent (path (suc k)) (other k))
+        → ((m : Value) × LeadsToMode u (other k) m) × Along HaveOneEvent (path (suc k)) (other k))
         → (k : ℕ) (u : ModeTree) → Stands (t ∷ us) k u
-        → ((m : Value) × LeadsTo u (fore ks other k) m) × Along HaveOneEvent (path k) (fore ks other k)
-    at us other ks m p a ih zero u i = let e : t ≡ u = cc in ((m, subst (λ z. LeadsTo z ks m) e p), a)
+        → ((m : Value) × LeadsToMode u (fore ks other k) m) × Along HaveOneEvent (path k) (fore ks other k)
+    at us other ks m p a ih zero u i = let e : t ≡ u = cc in ((m, subst (λ z. LeadsToMode z ks m) e p), a)
     at us other ks m p a ih (suc k) u i = ih k u i
 
 pub firable_alike : (ss ts : List ModeTree) → Along AreAlike ss ts → (set : List ℕ) → IsFirableOf ss set

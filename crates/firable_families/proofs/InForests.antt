@@ -16,7 +16,7 @@ use Rattle.ar_firing.specs.Operands.{IsFirableWith}
 use Rattle.ar_firing.specs.Forest.{ModeTree, IsModeVariable, IsModeTree, IsForest}
 use Rattle.ar_firing.proofs.Ends.{live}
 use Rattle.ar_firing.proofs.TreeEdges.{row_is_live, live_is_row}
-use Rattle.firable_families.specs.Firable.{LeadsTo, root, edge, IsFirableOf, IsTrueAt}
+use Rattle.firable_families.specs.Firable.{LeadsToMode, root, edge, IsFirableOf, IsTrueAt}
 
 -- the path of the tree of this variable, where there is one
 abbrev pub path_for : List ModeTree → (ℕ → List Label) → ℕ → List Label
@@ -76,7 +76,7 @@ module _ {V : Type 0} (sys : System V) (dropped : List ℕ) (keyed : AreKeyed sy
       (λ l. let a = forest.ascends k j t s l h i in absurd (omega (arith, a, e))) o) (cases_order j k)
 
   -- paths of a tree are those of its variable
-  path_of : (tree : ModeTree) → IsModeTree sys dropped tree → {ls : List Label} {m : Value} → LeadsTo tree ls m
+  path_of : (tree : ModeTree) → IsModeTree sys dropped tree → {ls : List Label} {m : Value} → LeadsToMode tree ls m
       → Path sys dropped tree.variable ls m
   path_of tree h {m = m} (root e) = sys_.root h.is_mode.stands h.is_mode.is_state (sym h.first ∙ e)
   path_of tree h (edge {l = l} {m = m} {to = to} p r) =
@@ -84,7 +84,7 @@ module _ {V : Type 0} (sys : System V) (dropped : List ℕ) (keyed : AreKeyed sy
       (record { from = m; label = l; to = to }) r).edge
 
   of_path : (tree : ModeTree) → IsModeTree sys dropped tree → {ls : List Label} {m : Value}
-      → Path sys dropped tree.variable ls m → LeadsTo tree ls m
+      → Path sys dropped tree.variable ls m → LeadsToMode tree ls m
   of_path tree h {m = m} (sys_.root {x = x} s i e) =
       root (h.first ∙ ap (λ z. z.value) (stands_one sys.net.variables tree.variable h.is_mode.variable x
       h.is_mode.stands s) ∙ e)
@@ -121,7 +121,7 @@ module _ {V : Type 0} (sys : System V) (dropped : List ℕ) (keyed : AreKeyed sy
     walks = λ k tree i.
         let h = forest.sound k tree i in
         let w = p.walks tree.variable h.is_mode.variable h.is_mode.stands h.is_mode.is_state in
-        (w.0, subst (λ z. LeadsTo tree (p.path z) w.0) (variable_is k tree i) (of_path tree h w.2));
+        (w.0, subst (λ z. LeadsToMode tree (p.path z) w.0) (variable_is k tree i) (of_path tree h w.2));
     sound = λ k tree i j l s.
         let h = forest.sound k tree i in
         p.sound tree.variable h.is_mode.variable h.is_mode.stands h.is_mode.is_state j l

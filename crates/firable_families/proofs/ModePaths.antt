@@ -9,13 +9,13 @@ use Rattle.ar_firing.specs.Trees.{IsTree}
 use Rattle.ar_firing.specs.Listed.{AreListed}
 use Rattle.ar_firing.specs.Forest.{Row, ModeTree}
 use Rattle.zdd_families.specs.Families.{Family, IsFamily}
-use Rattle.firable_families.specs.Firable.{LeadsTo, root, edge, HaveEvents, IsPathSet}
+use Rattle.firable_families.specs.Firable.{LeadsToMode, root, edge, HaveEvents, IsPathSet}
 use Rattle.firable_families.specs.Entries.{AreEntries, HasEntries}
 use Rattle.firable_families.proofs.Listing.{lists_listed}
 
 module _ (tree : ModeTree) (t : IsTree tree) where
   -- one path leads to a mode
-  pub leads_one : {ls ks : List Label} {m n : Value} → LeadsTo tree ls m → LeadsTo tree ks n → m ≡ n → ls ≡ ks
+  pub leads_one : {ls ks : List Label} {m n : Value} → LeadsToMode tree ls m → LeadsToMode tree ks n → m ≡ n → ls ≡ ks
   leads_one (root e) (root f) h = refl
   leads_one (root e) (edge p r) h = absurd (t.begins r.place _ r.stands (sym h ∙ sym e))
   leads_one (edge p r) (root f) h = absurd (t.begins r.place _ r.stands (h ∙ sym f))
@@ -37,7 +37,7 @@ module _ (tree : ModeTree) (t : IsTree tree) where
       → (m : Value) × (set : List ℕ) × IsOneOf entries (m, set) × Within s set × Within set s
   entry_of entries a s p = at p.leads p.events
     where
-      found : {ls : List Label} {m : Value} → LeadsTo tree ls m → HaveEvents ls s → (set : List ℕ)
+      found : {ls : List Label} {m : Value} → LeadsToMode tree ls m → HaveEvents ls s → (set : List ℕ)
           → IsOneOf entries (m, set)
           → (m : Value) × (set : List ℕ) × IsOneOf entries (m, set) × Within s set × Within set s
       found {m = m} l h set i =
@@ -45,7 +45,7 @@ module _ (tree : ModeTree) (t : IsTree tree) where
           let q = leads_one l e.leads refl in
           (m, set, i, same_events q h e.events, same_events (sym q) e.events h)
 
-      at : {ls : List Label} {m : Value} → LeadsTo tree ls m → HaveEvents ls s
+      at : {ls : List Label} {m : Value} → LeadsToMode tree ls m → HaveEvents ls s
           → (m : Value) × (set : List ℕ) × IsOneOf entries (m, set) × Within s set × Within set s
       at (root e) h = found (root refl) h a.first.0 a.first.1
       at (edge {l = l} {m = m} {to = to} p r) h = let x = a.entered (record { from = m; label = l; to = to }) r in found (edge p r) h x.0 x.1

@@ -16,7 +16,7 @@ use Rattle.zdd_families.proofs.Ascending.{IsAscending}
 use Rattle.zdd_families.proofs.Laws.{holds_here, holds_more}
 use Rattle.zdd_families.proofs.Members.{holds_law}
 use Rattle.zdd_families.proofs.Minimal.{witness}
-use Rattle.firable_families.specs.Firable.{LeadsTo, root, edge, HaveEvents, IsPathSet, IsFirableOf}
+use Rattle.firable_families.specs.Firable.{LeadsToMode, root, edge, HaveEvents, IsPathSet, IsFirableOf}
 use Rattle.firable_families.specs.Walk.{left, occurs, AreTreeFamilies, AreEventsBelow}
 use Rattle.firable_families.proofs.Listing.{lists_listed, stands_has, has_stands}
 use Rattle.firable_families.proofs.Merging.{IsMerged, AreParted, occurs_from, left_sound, map_stands}
@@ -124,7 +124,7 @@ fore a f (suc k) = f k
 from_choice : {trees : List ModeTree} {fs : List Family} → AreTreeFamilies trees fs → (choice : ℕ → List ℕ)
     → ((n : ℕ) (f : Family) → Stands fs n f → has f (choice n) ≡ true)
     → (path : ℕ → List Label) × ((k : ℕ) (tree : ModeTree) → Stands trees k tree
-    → ((m : Value) × LeadsTo tree (path k) m) × HaveEvents (path k) (choice k))
+    → ((m : Value) × LeadsToMode tree (path k) m) × HaveEvents (path k) (choice k))
 from_choice none choice each = (λ k. [], λ k tree i. cc)
 from_choice (one_and {a = tree} {b = f} {xs = xs} r rest) choice each =
     let i = has_stands f (choice zero) (each zero f refl) in
@@ -134,10 +134,10 @@ from_choice (one_and {a = tree} {b = f} {xs = xs} r rest) choice each =
   where
     at : (ts : List ModeTree) (path : ℕ → List Label) → (s : IsPathSet tree (choice zero))
         → ((k : ℕ) (t : ModeTree) → Stands ts k t
-        → ((m : Value) × LeadsTo t (path k) m) × HaveEvents (path k) (choice (suc k)))
+        → ((m : Value) × LeadsToMode t (path k) m) × HaveEvents (path k) (choice (suc k)))
         → (k : ℕ) (t : ModeTree) → Stands (tree ∷ ts) k t
-        → ((m : Value) × LeadsTo t (fore s.labels path k) m) × HaveEvents (fore s.labels path k) (choice k)
-    at ts path s ih zero t i = let e : tree ≡ t = cc in ((s.end, subst (λ z. LeadsTo z s.labels s.end) e s.leads), s.events)
+        → ((m : Value) × LeadsToMode t (fore s.labels path k) m) × HaveEvents (fore s.labels path k) (choice k)
+    at ts path s ih zero t i = let e : tree ≡ t = cc in ((s.end, subst (λ z. LeadsToMode z s.labels s.end) e s.leads), s.events)
     at ts path s ih (suc k) t i = ih k t i
 
 have_map : (ls : List Label) → HaveEvents ls (map (λ l. l.event) ls)
@@ -153,7 +153,7 @@ have_within ls s t v w h = record {
 }
 
 from_path : {trees : List ModeTree} {fs : List Family} → AreTreeFamilies trees fs → (path : ℕ → List Label)
-    → ((k : ℕ) (tree : ModeTree) → Stands trees k tree → (m : Value) × LeadsTo tree (path k) m)
+    → ((k : ℕ) (tree : ModeTree) → Stands trees k tree → (m : Value) × LeadsToMode tree (path k) m)
     → (choice : ℕ → List ℕ) × ((k : ℕ) (f : Family) → Stands fs k f
     → (has f (choice k) ≡ true) × HaveEvents (path k) (choice k))
 from_path none path leads = (λ k. [], λ k f i. cc)
@@ -175,7 +175,7 @@ from_path (one_and {a = tree} {b = f} {ys = ys} r rest) path leads =
     at gs choice t h v ih (suc k) g i = ih k g i
 
 -- a label on a path is an edge of the tree
-on_path : {tree : ModeTree} {ls : List Label} {m : Value} → LeadsTo tree ls m → (k : ℕ) (l : Label) → Stands ls k l
+on_path : {tree : ModeTree} {ls : List Label} {m : Value} → LeadsToMode tree ls m → (k : ℕ) (l : Label) → Stands ls k l
     → (a : Value) × (b : Value) × IsOneOf tree.edges (record { from = a; label = l; to = b })
 on_path (root e) k l i = cc
 on_path {tree = tree} (edge {l = h} {m = m} {to = to} p r) zero l i = let e : h ≡ l = cc in (m, to, subst (λ z. IsOneOf tree.edges (record { from = m; label = z; to = to })) e r)

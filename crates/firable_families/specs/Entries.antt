@@ -6,12 +6,12 @@ use Rattle.domains.specs.declared.Value.{Value}
 use Rattle.ar_meaning.specs.Runs.{Label}
 use Rattle.ar_firing.specs.Forest.{Row, ModeTree}
 use Rattle.zdd_families.specs.Families.{Family, has}
-use Rattle.firable_families.specs.Firable.{LeadsTo, HaveEvents}
+use Rattle.firable_families.specs.Firable.{LeadsToMode, HaveEvents}
 
 -- a mode of the tree with the events of a path that leads to it
 pub record IsEntry (tree : ModeTree) (mode : Value) (set : List ℕ) : Type 0 where
   pub labels : List Label
-  pub leads : LeadsTo tree labels mode
+  pub leads : LeadsToMode tree labels mode
   pub events : HaveEvents labels set
 
 -- the modes and sets are those of the tree's first mode and of each mode that an edge enters

@@ -9,10 +9,10 @@ use Rattle.ar_firing.specs.Cuts.{IsLeast}
 use Rattle.ar_firing.specs.Listed.{AreListed}
 
 -- the tree's edges with these labels, the last first, lead from its first mode to this one
-pub data LeadsTo (tree : ModeTree) : List Label → Value → Type 0 where
-  root : {m : Value} → tree.first ≡ m → LeadsTo tree [] m
-  edge : {l : Label} {ls : List Label} {m to : Value} → LeadsTo tree ls m
-      → IsOneOf tree.edges (record { from = m; label = l; to = to }) → LeadsTo tree (l ∷ ls) to
+pub data LeadsToMode (tree : ModeTree) : List Label → Value → Type 0 where
+  root : {m : Value} → tree.first ≡ m → LeadsToMode tree [] m
+  edge : {l : Label} {ls : List Label} {m to : Value} → LeadsToMode tree ls m
+      → IsOneOf tree.edges (record { from = m; label = l; to = to }) → LeadsToMode tree (l ∷ ls) to
 
 -- the labels' events are the members of the set
 pub record HaveEvents (ls : List Label) (set : List ℕ) : Type 0 where
@@ -23,14 +23,14 @@ pub record HaveEvents (ls : List Label) (set : List ℕ) : Type 0 where
 pub record IsPathSet (tree : ModeTree) (set : List ℕ) : Type 0 where
   pub labels : List Label
   pub end : Value
-  pub leads : LeadsTo tree labels end
+  pub leads : LeadsToMode tree labels end
   pub events : HaveEvents labels set
 
 -- the set is firable in these trees: its events are those along one path of each tree, and no other; path k is that of
 -- the tree at place k
 pub record IsFirableOf (trees : List ModeTree) (set : List ℕ) : Type 0 where
   pub path : ℕ → List Label
-  pub walks : (k : ℕ) (tree : ModeTree) → Stands trees k tree → (m : Value) × LeadsTo tree (path k) m
+  pub walks : (k : ℕ) (tree : ModeTree) → Stands trees k tree → (m : Value) × LeadsToMode tree (path k) m
   pub sound : (k : ℕ) (tree : ModeTree) → Stands trees k tree → (j : ℕ) (l : Label) → Stands (path k) j l
       → IsOneOf set l.event
   pub whole : (e : ℕ) → IsOneOf set e

@@ -4,8 +4,8 @@ use Rattle.std.specs.List.{list_all}
 use Rattle.ar_base.specs.Lists.{Stands, IsOneOf}
 use Rattle.ar_base.proofs.Standing.{stands_one, stands_within}
 use Rattle.domains.specs.declared.Value.{Value}
-use Rattle.ar_meaning.specs.Facts.{Passes, HasValue}
-use Rattle.ar_meaning.specs.Flows.{IsBroken}
+use Rattle.ar_meaning.specs.Facts.{PassesConditions, HasValue}
+use Rattle.ar_meaning.specs.Flows.{IsBrokenAssign}
 use Rattle.ar_meaning.specs.Found.{IsAnswer}
 use Rattle.ar_meaning.proofs.ByNumber as number
 use Rattle.ar_meaning.proofs.Found.{holds, fails}
@@ -22,17 +22,18 @@ module _ (p : GtsParts) (sound : IsSound p) (a : Assign) (one : IsOneOf p.assign
   typed : IsAssignTo p false a
   typed = sound.assertions a one
 
-  met : IsAnswer (list_all (is_met t) a.when.items) (Passes (HasValue (net_of p) t) (assign_of a).conditions)
+  met : IsAnswer (list_all (is_met t) a.when.items) (PassesConditions (HasValue (net_of p) t) (assign_of a).conditions)
   met = passes_answer p t total a.when.items typed.conditions
 
-  pub not_reached : list_all (is_met t) a.when.items ≡ false → IsBroken (net_of p) t (assign_of a) → ⊥
+  pub not_reached : list_all (is_met t) a.when.items ≡ false → IsBrokenAssign (net_of p) t (assign_of a) → ⊥
   not_reached e h = fails _ _ e met h.passes
 
   pub target_within : a.target.n < length t
   target_within = let h = stands_within p.variables.items a.target.n typed.variable typed.stands in omega (arith, h, total.long)
 
   pub broken_answer : list_all (is_met t) a.when.items ≡ true → (v : Value) → v ≡ value_in t a.value → (w : Value)
-      → Stands t a.target.n w → (b : Bool) → IsAnswer b (v ≡ w → ⊥) → IsAnswer b (IsBroken (net_of p) t (assign_of a))
+      → Stands t a.target.n w → (b : Bool) → IsAnswer b (v ≡ w → ⊥)
+      → IsAnswer b (IsBrokenAssign (net_of p) t (assign_of a))
   broken_answer e v is w sw true h = record {
     passes = holds _ _ e met;
     value = value_in t a.value;

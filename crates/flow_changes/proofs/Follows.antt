@@ -8,7 +8,7 @@ use Rattle.domains.specs.Domains.{Holds}
 use Rattle.domains.specs.declared.Value.{Value}
 use Rattle.typed_expr.proofs.Facts.{yields_more}
 use Rattle.ar_meaning.specs.Facts.{FactOf, given}
-use Rattle.ar_meaning.specs.Flows.{IsBroken}
+use Rattle.ar_meaning.specs.Flows.{IsBrokenAssign}
 use Rattle.ar_meaning.proofs.Least.{passes_more}
 use Rattle.ar_meaning.proofs.ByNumber as number
 use Rattle.gts_core.specs.Readings.{IsTotal}
@@ -158,7 +158,7 @@ module _ (p : GtsParts) (sound : IsSound p) (old : List Value) (known : List Boo
       }
 
       module _ (holds : (q n : ℕ) (a : Assign) → IsOneOf list q → Stands plan.order.items q n
-          → Stands p.assigns.items n a → IsBroken (net_of p) values (assign_of a) → ⊥) where
+          → Stands p.assigns.items n a → IsBrokenAssign (net_of p) values (assign_of a) → ⊥) where
         settled : IsSettledTo p old known new members values marked
         settled = record {
           total = reset_total;

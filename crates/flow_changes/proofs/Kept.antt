@@ -6,8 +6,8 @@ use Rattle.typed_expr.specs.Yields.{Yields}
 use Rattle.typed_expr.specs.declared.expr.Expr.{out-Expr}
 use Rattle.typed_expr.proofs.Facts.{yields_named, yields_more}
 use Rattle.ar_meaning.specs.Systems.{Assign, Variable, Net}
-use Rattle.ar_meaning.specs.Facts.{Passes, Allows, IsGiven, HasValue, FactOf, given}
-use Rattle.ar_meaning.specs.Flows.{IsOutside, IsBroken}
+use Rattle.ar_meaning.specs.Facts.{PassesConditions, Allows, HasStateValue, HasValue, FactOf, given}
+use Rattle.ar_meaning.specs.Flows.{IsOutside, IsBrokenAssign}
 use Rattle.ar_meaning.specs.Dependence.{Names}
 use Rattle.ar_meaning.proofs.Least.{least, closed, passes_more}
 use Rattle.ar_meaning.proofs.Dependence.{passes_named}
@@ -15,23 +15,23 @@ use Rattle.ar_meaning.proofs.Dependence.{passes_named}
 -- facts of the variables that are out of reach stay, where those have the same values, and assignments to them name
 -- such variables alone
 module _ {V : Type 0} (net : Net V) (t u : List Value) (Out : V → Type 0)
-    (same : (x : V) (v : Value) → Out x → IsGiven net t x v → IsGiven net u x v)
+    (same : (x : V) (v : Value) → Out x → HasStateValue net t x v → HasStateValue net u x v)
     (within : (a : Assign V) (x : V) → IsOneOf net.assertions a → Names a x → Out a.target → Out x) where
   abbrev Both : V → Value → Type 0
   Both x v = FactOf net t x v × (Out x → FactOf net u x v)
 
-  step : (a : Assign V) (v : Value) → IsOneOf net.assertions a → Passes Both a.conditions
+  step : (a : Assign V) (v : Value) → IsOneOf net.assertions a → PassesConditions Both a.conditions
       → Yields Both (out-Expr V a.value) v → Allows net a.target v → Both a.target v
   step a v m p y l = (
-    closed net.assertions (Allows net) (IsGiven net t) a v m (passes_more V Both (FactOf net t) (λ x w h. h.0) p)
+    closed net.assertions (Allows net) (HasStateValue net t) a v m (passes_more V Both (FactOf net t) (λ x w h. h.0) p)
         (yields_more V Both (FactOf net t) (λ x w h. h.0) y) l,
-    λ o. closed net.assertions (Allows net) (IsGiven net u) a v m
+    λ o. closed net.assertions (Allows net) (HasStateValue net u) a v m
         (passes_named (λ x w n h. h.1 (within a x m (inr n) o)) p)
         (yields_named (λ x w n h. h.1 (within a x m (inl n) o)) y) l,
   )
 
   pub facts_stay : (x : V) (v : Value) → Out x → FactOf net t x v → FactOf net u x v
-  facts_stay x v o h = (least net.assertions (Allows net) (IsGiven net t) Both
+  facts_stay x v o h = (least net.assertions (Allows net) (HasStateValue net t) Both
       (λ y w g. (given g, λ c. given (same y w c g))) (λ a w m p y l. step a w m p y l) x v h).1 o
 
 -- where the facts of these variables are found again, so are their faults
@@ -57,7 +57,8 @@ module _ {V : Type 0} (net : Net V) (before now : List Value) (Out : V → Type 
     (there : (x : V) (v : Value) → Out x → HasValue net before x v → HasValue net now x v)
     (back : (x : V) (v : Value) → Out x → HasValue net now x v → HasValue net before x v)
     (within : (a : Assign V) (x : V) → IsOneOf net.assertions a → Names a x → Out a.target → Out x) where
-  pub no_broken : (a : Assign V) → IsOneOf net.assertions a → Out a.target → IsBroken net now a → IsBroken net before a
+  pub no_broken : (a : Assign V) → IsOneOf net.assertions a → Out a.target → IsBrokenAssign net now a
+      → IsBrokenAssign net before a
   no_broken a m o h = record {
     passes = passes_named (λ y w n f. back y w (within a y m (inr n) o) f) h.passes;
     value = h.value;

@@ -7,7 +7,7 @@ use Rattle.domains.specs.declared.Value.TheVariants.{Truth}
 use Rattle.typed_expr.specs.Sets.{HasExactly}
 use Rattle.typed_expr.specs.Yields.{Yields, facts_of}
 use Rattle.typed_expr.specs.declared.expr.Expr.{Expr, out-Expr}
-use Rattle.ar_meaning.specs.Facts.{Passes, none, one_and}
+use Rattle.ar_meaning.specs.Facts.{PassesConditions, none, one_and}
 use Rattle.gts_core.specs.Readings.{values_at, one_or_none}
 use Rattle.gts_core.specs.View.{numbered, condition_of}
 use Rattle.gts_core.proofs.Numbering.{yields_numbered, yields_back}
@@ -47,15 +47,15 @@ module _ (values : List Value) (known : List Bool) where
 
 -- the conditions from a place on decide
 pub record Decides (facts : ℕ → Value → Type 0) (cs : List (Expr VarId × Bool)) (i : ℕ) : Type 0 where
-  pub on : Passes facts (map condition_of (drop i cs)) → Passes facts (map condition_of cs)
-  pub off : Passes facts (map condition_of cs) → Passes facts (map condition_of (drop i cs))
+  pub on : PassesConditions facts (map condition_of (drop i cs)) → PassesConditions facts (map condition_of cs)
+  pub off : PassesConditions facts (map condition_of cs) → PassesConditions facts (map condition_of (drop i cs))
 
 module _ (facts : ℕ → Value → Type 0) (cs : List (Expr VarId × Bool)) where
   pub decides_start : Decides facts cs 0
   decides_start = record { on = λ h. h; off = λ h. h }
 
-  head : (d : Expr ℕ × Bool) (ds : List (Expr ℕ × Bool)) → Passes facts (d ∷ ds)
-      → Yields facts (out-Expr ℕ d.0) (Truth d.1) × Passes facts ds
+  head : (d : Expr ℕ × Bool) (ds : List (Expr ℕ × Bool)) → PassesConditions facts (d ∷ ds)
+      → Yields facts (out-Expr ℕ d.0) (Truth d.1) × PassesConditions facts ds
   head d ds (one_and y p) = (y, p)
 
   module _ (i : ℕ) (c : Expr VarId × Bool) (h : i < length cs) (is : c ≡ get_or cs i c) where
@@ -63,23 +63,25 @@ module _ (facts : ℕ → Value → Type 0) (cs : List (Expr VarId × Bool)) whe
     split = at_drop_more (λ (xs : List (Expr VarId × Bool)). xs) cs i c h
         ∙ ap (λ (z : Expr VarId × Bool). z ∷ drop (i + 1) cs) (sym is)
 
-    there : Passes facts (map condition_of (drop i cs))
-        → Yields facts (out-Expr ℕ (numbered c.0)) (Truth c.1) × Passes facts (map condition_of (drop (i + 1) cs))
-    there p = head _ _ (subst (λ (xs : List (Expr VarId × Bool)). Passes facts (map condition_of xs)) split p)
+    there : PassesConditions facts (map condition_of (drop i cs))
+        → Yields facts (out-Expr ℕ (numbered c.0)) (Truth c.1) × PassesConditions facts
+        (map condition_of (drop (i + 1) cs))
+    there p = head _ _ (subst (λ (xs : List (Expr VarId × Bool)). PassesConditions facts (map condition_of xs)) split p)
 
-    back : Yields facts (out-Expr ℕ (numbered c.0)) (Truth c.1) → Passes facts (map condition_of (drop (i + 1) cs))
-        → Passes facts (map condition_of (drop i cs))
-    back y p = subst (λ (xs : List (Expr VarId × Bool)). Passes facts (map condition_of xs)) (sym split) (one_and y p)
+    back : Yields facts (out-Expr ℕ (numbered c.0)) (Truth c.1) → PassesConditions facts (map condition_of (drop (i + 1)
+        cs)) → PassesConditions facts (map condition_of (drop i cs))
+    back y p = subst (λ (xs : List (Expr VarId × Bool)). PassesConditions facts (map condition_of xs)) (sym split)
+        (one_and y p)
 
     pub decides_on : Decides facts cs i → Yields facts (out-Expr ℕ (numbered c.0)) (Truth c.1)
         → Decides facts cs (i + 1)
     decides_on r y = record { on = λ p. r.on (back y p); off = λ p. (there (r.off p)).1 }
 
     pub decides_not : Decides facts cs i → (Yields facts (out-Expr ℕ (numbered c.0)) (Truth c.1) → ⊥)
-        → Passes facts (map condition_of cs) → ⊥
+        → PassesConditions facts (map condition_of cs) → ⊥
     decides_not r n p = n (there (r.off p)).0
 
-  pub decides_all : (i : ℕ) → length cs ≤ i → Decides facts cs i → Passes facts (map condition_of cs)
+  pub decides_all : (i : ℕ) → length cs ≤ i → Decides facts cs i → PassesConditions facts (map condition_of cs)
   decides_all i h r =
       let e : drop i cs ≡ [] = at_drop_all (λ (xs : List (Expr VarId × Bool)). xs) cs i h in
-      r.on (subst (λ (xs : List (Expr VarId × Bool)). Passes facts (map condition_of xs)) (sym e) none)
+      r.on (subst (λ (xs : List (Expr VarId × Bool)). PassesConditions facts (map condition_of xs)) (sym e) none)

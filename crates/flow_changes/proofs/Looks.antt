@@ -10,7 +10,7 @@ use Rattle.domains.specs.declared.Value.{Value}
 use Rattle.typed_expr.specs.Yields.{Yields}
 use Rattle.typed_expr.specs.declared.expr.Expr.{out-Expr}
 use Rattle.typed_expr.proofs.Facts.{yields_more, yields_named}
-use Rattle.ar_meaning.specs.Facts.{Passes, Allows, IsGiven, FactOf}
+use Rattle.ar_meaning.specs.Facts.{PassesConditions, Allows, HasStateValue, FactOf}
 use Rattle.ar_meaning.specs.Dependence.{Names}
 use Rattle.ar_meaning.proofs.Dependence.{passes_named}
 use Rattle.ar_meaning.proofs.Least.{closed, passes_more}
@@ -91,10 +91,10 @@ module _ (p : GtsParts) (plan : Plan) (n : ℕ) (a : Assign) (sa : Stands p.assi
 
   -- it has what it yields
   mine : (changed : Bool) → Applies p a values known values' known' changed → (b : Assign) → Stands p.assigns.items n b
-      → (v : Value) → Passes (Knows values known) (assign_of b).conditions
+      → (v : Value) → PassesConditions (Knows values known) (assign_of b).conditions
       → Yields (Knows values known) (out-Expr ℕ (assign_of b).value) v → Knows values' known' b.target.n v
   mine changed x b sb =
-      let P : Assign → Type 0 = λ z. (v : Value) → Passes (Knows values known) (assign_of z).conditions
+      let P : Assign → Type 0 = λ z. (v : Value) → PassesConditions (Knows values known) (assign_of z).conditions
       → Yields (Knows values known) (out-Expr ℕ (assign_of z).value) v → Knows values' known' z.target.n v in
       subst P (stands_one p.assigns.items n a b sa sb) x.done
 
@@ -119,7 +119,7 @@ module _ (p : GtsParts) (plan : Plan) (n : ℕ) (a : Assign) (sa : Stands p.assi
         value = subst (λ (z : List Value). Stands z m v) (x.still refl).0 k.value;
       }
 
-      same : (b : Assign) → ((v : Value) → Passes (Knows values known) (assign_of b).conditions
+      same : (b : Assign) → ((v : Value) → PassesConditions (Knows values known) (assign_of b).conditions
           → Yields (Knows values known) (out-Expr ℕ (assign_of b).value) v → Knows values' known' b.target.n v)
           → HasAll (Knows values' known') (assign_of b)
       same b h v pass y = h v (passes_more ℕ (Knows values' known') (Knows values known) old pass)
@@ -153,7 +153,7 @@ module _ (p : GtsParts) (plan : Plan) (n : ℕ) (a : Assign) (sa : Stands p.assi
   }
     where
       stays : (b : Assign) → (Names (assign_of b) a.target.n → ⊥)
-          → ((v : Value) → Passes (Knows values known) (assign_of b).conditions
+          → ((v : Value) → PassesConditions (Knows values known) (assign_of b).conditions
           → Yields (Knows values known) (out-Expr ℕ (assign_of b).value) v → Knows values' known' b.target.n v)
           → HasAll (Knows values' known') (assign_of b)
       stays b lacks has v pass y = has v
@@ -178,7 +178,7 @@ module _ (p : GtsParts) (plan : Plan) (n : ℕ) (a : Assign) (sa : Stands p.assi
           }
 
       again : (m : ℕ) (b : Assign) → Stands p.assigns.items m b
-          → ((v : Value) → Passes (Knows values known) (assign_of b).conditions
+          → ((v : Value) → PassesConditions (Knows values known) (assign_of b).conditions
           → Yields (Knows values known) (out-Expr ℕ (assign_of b).value) v → Knows values' known' b.target.n v)
           → Waits plan work' m ⊎ HasAll (Knows values' known') (assign_of b)
       again m b sb has = elim (reader_or_not plan.readers.pairs.items a.target.n m) [
@@ -223,7 +223,7 @@ looks_sound p u n values known values' known' total sound only m v k =
         (listed x.0.domain v (total.in_domain m x.0 v x.1 k.value)) in
         let there : Allows (net_of p) h.assign.target.n v = subst (λ (z : ℕ). Allows (net_of p) z v) h.is allowed in
         subst (λ (z : ℕ). FactOf (net_of p) u z v) (sym h.is)
-        (closed (net_of p).assertions (Allows (net_of p)) (IsGiven (net_of p) u) (assign_of h.assign) v
+        (closed (net_of p).assertions (Allows (net_of p)) (HasStateValue (net_of p) u) (assign_of h.assign) v
         (record { place = n; stands = stands_map assign_of p.assigns.items n h.assign h.stands })
         (passes_more ℕ (Knows values known) (FactOf (net_of p) u) sound h.passes)
         (yields_more ℕ (Knows values known) (FactOf (net_of p) u) sound h.yields) there)

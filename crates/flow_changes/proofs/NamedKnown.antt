@@ -9,7 +9,7 @@ use Rattle.typed_expr.specs.Yields.{Yields}
 use Rattle.typed_expr.specs.declared.expr.Expr.{out-Expr}
 use Rattle.typed_expr.proofs.Facts.{yields_more, yields_named}
 use Rattle.ar_meaning.specs.Dependence.{Names}
-use Rattle.ar_meaning.specs.Facts.{Passes, HasValue}
+use Rattle.ar_meaning.specs.Facts.{PassesConditions, HasValue}
 use Rattle.ar_meaning.specs.Found.{IsAnswer}
 use Rattle.ar_meaning.specs.Reached.{Reaches}
 use Rattle.ar_meaning.proofs.ByNumber as number
@@ -40,12 +40,12 @@ module _ (p : GtsParts) (sound : IsSound p) (a : Assign) (one : IsOneOf p.assign
   back : (n : ℕ) (v : Value) → Names (assign_of a) n → HasValue (net_of p) t n v → Knows t known n v
   back n v d h = record { marked = named n d; value = number.value_at (net_of p) (are_numbered p) t n v h }
 
-  passes_there : Passes (Knows t known) (assign_of a).conditions
-      → Passes (HasValue (net_of p) t) (assign_of a).conditions
+  passes_there : PassesConditions (Knows t known) (assign_of a).conditions
+      → PassesConditions (HasValue (net_of p) t) (assign_of a).conditions
   passes_there q = passes_more ℕ (Knows t known) (HasValue (net_of p) t) there q
 
-  passes_back : Passes (HasValue (net_of p) t) (assign_of a).conditions
-      → Passes (Knows t known) (assign_of a).conditions
+  passes_back : PassesConditions (HasValue (net_of p) t) (assign_of a).conditions
+      → PassesConditions (Knows t known) (assign_of a).conditions
   passes_back q = passes_named (λ x w d h. back x w (inr d) h) q
 
   yields_there : (v : Value) → Yields (Knows t known) (out-Expr ℕ (assign_of a).value) v
@@ -56,7 +56,7 @@ module _ (p : GtsParts) (sound : IsSound p) (a : Assign) (one : IsOneOf p.assign
       → Yields (Knows t known) (out-Expr ℕ (assign_of a).value) v
   yields_back v y = yields_named (λ x w d h. back x w (inl d) h) y
 
-  met : IsAnswer (list_all (is_met t) a.when.items) (Passes (HasValue (net_of p) t) (assign_of a).conditions)
+  met : IsAnswer (list_all (is_met t) a.when.items) (PassesConditions (HasValue (net_of p) t) (assign_of a).conditions)
   met = passes_answer p t total a.when.items typed.conditions
 
   -- it is not reached

@@ -11,8 +11,8 @@ use Rattle.typed_expr.specs.Yields.{Yields}
 use Rattle.typed_expr.specs.declared.expr.Expr.{out-Expr}
 use Rattle.typed_expr.proofs.Facts.{yields_more, yields_named}
 use Rattle.ar_meaning.specs.Systems as s
-use Rattle.ar_meaning.specs.Facts.{Passes, Allows, IsGiven, HasValue, FactOf, given}
-use Rattle.ar_meaning.specs.Flows.{HasTwo, IsOutside, IsBroken, Completes, Flows, Total}
+use Rattle.ar_meaning.specs.Facts.{PassesConditions, Allows, HasStateValue, HasValue, FactOf, given}
+use Rattle.ar_meaning.specs.Flows.{HasTwo, IsOutside, IsBrokenAssign, Completes, Flows, Total}
 use Rattle.ar_meaning.specs.Flows as flows
 use Rattle.ar_meaning.specs.Dependence.{Names}
 use Rattle.ar_meaning.proofs.Dependence.{passes_named}
@@ -82,14 +82,14 @@ pub record IsSettledTo (p : GtsParts) (old : List Value) (known : List Bool) (ne
   pub reset : (n : ℕ) (x : Variable) (w : Value) → IsOneOf members n → Stands p.variables.items n x
       → (Stands marks n true → ⊥) → Stands values n w → w ≡ x.value
   pub holds : (m : ℕ) (a : Assign) → Stands p.assigns.items m a → IsOneOf members a.target.n
-      → IsBroken (net_of p) values (assign_of a) → ⊥
+      → IsBrokenAssign (net_of p) values (assign_of a) → ⊥
 
 -- no flow has two facts or one outside its domain, and no assignment is broken
 record HasNoFault (net : s.Net ℕ) (t total : List Value) : Type 0 where
   two : HasNo net.variables (HasTwo net t)
   outside : HasNo net.variables (IsOutside net t)
   completes : Completes (FactOf net t) net.variables t total
-  broken : HasNo net.assertions (IsBroken net total)
+  broken : HasNo net.assertions (IsBrokenAssign net total)
 
 no_fault : (net : s.Net ℕ) (t total : List Value) → Flows net t (Total total) → HasNoFault net t total
 no_fault net t total (flows.all_hold a b c d) = record { two = a; outside = b; completes = c; broken = d }
@@ -121,7 +121,7 @@ module _ (p : GtsParts) (sound : IsSound p) (old : List Value) (known : List Boo
       o (subst (λ (z : s.Assign ℕ). IsOneOf members z.target) r.2
       (cone.closed x m.place r.0 inside r.1 (subst (λ (z : s.Assign ℕ). Names z x) (sym r.2) named)))
 
-  given_there : (x : ℕ) (v : Value) → Out x → IsGiven net old x v → IsGiven net u x v
+  given_there : (x : ℕ) (v : Value) → Out x → HasStateValue net old x v → HasStateValue net u x v
   given_there x v o g =
       let e : g.place ≡ x = sym ((are_numbered p).key g.place g.variable g.stands) ∙ g.is_key in
       record {
@@ -133,7 +133,7 @@ module _ (p : GtsParts) (sound : IsSound p) (old : List Value) (known : List Boo
         value = state_out g.place (subst Out (sym e) o) ∙ g.value;
       }
 
-  given_back : (x : ℕ) (v : Value) → Out x → IsGiven net u x v → IsGiven net old x v
+  given_back : (x : ℕ) (v : Value) → Out x → HasStateValue net u x v → HasStateValue net old x v
   given_back x v o g =
       let e : g.place ≡ x = sym ((are_numbered p).key g.place g.variable g.stands) ∙ g.is_key in
       record {
@@ -186,14 +186,15 @@ module _ (p : GtsParts) (sound : IsSound p) (old : List Value) (known : List Boo
             let e : r.pair.1 ≡ v = stands_one u n r.pair.1 v here su in
             subst (λ (z : ℕ). Knows values marks z v) r.is (subst (λ (z : Value). Knows values marks r.pair.0.n z) e k)
 
-    given_known : (x : ℕ) (v : Value) → IsGiven net u x v → Knows values marks x v
+    given_known : (x : ℕ) (v : Value) → HasStateValue net u x v → Knows values marks x v
     given_known x v g =
         let r = variable_back p g.place g.variable g.stands in
         let e : g.place ≡ x = sym ((are_numbered p).key g.place g.variable g.stands) ∙ g.is_key in
         let is : r.0.is_state ≡ true = ap (λ (z : s.Variable ℕ). z.is_state) r.2 ∙ g.is_state in
         subst (λ (z : ℕ). Knows values marks z v) e (state_value g.place r.0 v r.1 is g.value)
 
-    closed_known : (a : s.Assign ℕ) (v : Value) → IsOneOf net.assertions a → Passes (Knows values marks) a.conditions
+    closed_known : (a : s.Assign ℕ) (v : Value) → IsOneOf net.assertions a
+        → PassesConditions (Knows values marks) a.conditions
         → Yields (Knows values marks) (out-Expr ℕ a.value) v → Allows net a.target v → Knows values marks a.target v
     closed_known a v m pass y al = elim (member_told members a.target) [
       | inl o ↦ (
@@ -203,13 +204,13 @@ module _ (p : GtsParts) (sound : IsSound p) (old : List Value) (known : List Boo
           (at.has_all m.place r.0 r.1 (subst (λ (z : s.Assign ℕ). IsOneOf members z.target) (sym r.2) o)) in
           all v pass y)
       | inr o ↦ knows_there a.target v o
-          (facts.complete a.target v (closed net.assertions (Allows net) (IsGiven net old) a v m
+          (facts.complete a.target v (closed net.assertions (Allows net) (HasStateValue net old) a v m
           (passes_named (λ x w n h. facts.sound x w (knows_back x w (within a x m (inr n) o) h)) pass)
           (yields_named (λ x w n h. facts.sound x w (knows_back x w (within a x m (inl n) o) h)) y) al))
     ]
 
     fact_known : (n : ℕ) (v : Value) → FactOf net u n v → Knows values marks n v
-    fact_known = least net.assertions (Allows net) (IsGiven net u) (Knows values marks) given_known closed_known
+    fact_known = least net.assertions (Allows net) (HasStateValue net u) (Knows values marks) given_known closed_known
 
     pub settled_known : AreKnown p u values marks
     settled_known = record { sound = at.sound; complete = fact_known }
@@ -312,15 +313,15 @@ module _ (p : GtsParts) (sound : IsSound p) (old : List Value) (known : List Boo
           value = sym (at.kept_values h.place (subst Out (sym e) o)) ∙ h.value;
         }
 
-    none_broken : HasNo net.assertions (IsBroken net values)
+    none_broken : HasNo net.assertions (IsBrokenAssign net values)
     none_broken = record { has_not = λ k a st h. by k a st h (member_told members a.target) }
       where
-        by : (k : ℕ) (a : s.Assign ℕ) → Stands net.assertions k a → IsBroken net values a
+        by : (k : ℕ) (a : s.Assign ℕ) → Stands net.assertions k a → IsBrokenAssign net values a
             → IsOneOf members a.target ⊎ Out a.target → ⊥
         by k a st h (inl o) =
             let r = stands_map_back assign_of p.assigns.items k a st in
             at.holds k r.0 r.1 (subst (λ (z : s.Assign ℕ). IsOneOf members z.target) (sym r.2) o)
-            (subst (λ (z : s.Assign ℕ). IsBroken net values z) (sym r.2) h)
+            (subst (λ (z : s.Assign ℕ). IsBrokenAssign net values z) (sym r.2) h)
         by k a st h (inr o) = was.broken.has_not k a st
             (no_broken net old values Out value_there value_back within a (record { place = k; stands = st }) o h)
 
@@ -347,7 +348,7 @@ module _ (p : GtsParts) (t total : List Value) (long : length t ≡ length p.var
   abbrev All : ℕ → Type 0
   All n = Unit {0}
 
-  given_total : (x : ℕ) (v : Value) → All x → IsGiven (net_of p) t x v → IsGiven (net_of p) total x v
+  given_total : (x : ℕ) (v : Value) → All x → HasStateValue (net_of p) t x v → HasStateValue (net_of p) total x v
   given_total x v o g =
       let b = both g.place g.variable g.stands g.is_state in
       record {
@@ -359,7 +360,7 @@ module _ (p : GtsParts) (t total : List Value) (long : length t ≡ length p.var
         value = subst (λ (z : Value). Stands total g.place z) (stands_one t g.place b.0 v b.1 g.value) b.2;
       }
 
-  given_own : (x : ℕ) (v : Value) → All x → IsGiven (net_of p) total x v → IsGiven (net_of p) t x v
+  given_own : (x : ℕ) (v : Value) → All x → HasStateValue (net_of p) total x v → HasStateValue (net_of p) t x v
   given_own x v o g =
       let b = both g.place g.variable g.stands g.is_state in
       record {

@@ -7,7 +7,7 @@ use Rattle.domains.specs.declared.Value.{Value}
 use Rattle.typed_expr.specs.Yields.{Yields}
 use Rattle.typed_expr.specs.declared.expr.Expr.{out-Expr}
 use Rattle.ar_meaning.specs.Systems as s
-use Rattle.ar_meaning.specs.Facts.{Passes}
+use Rattle.ar_meaning.specs.Facts.{PassesConditions}
 use Rattle.ar_meaning.specs.Dependence.{Names}
 use Rattle.flow_propagate.specs.NewValues.{IsRenewed}
 use Rattle.gts_core.specs.View.{assign_of}
@@ -37,4 +37,5 @@ pub record Knows (values : List Value) (known : List Bool) (n : ℕ) (v : Value)
 
 -- the facts have what the assignment yields from them
 abbrev pub HasAll : (ℕ → Value → Type 0) → s.Assign ℕ → Type 0
-HasAll facts a = (v : Value) → Passes facts a.conditions → Yields facts (out-Expr ℕ a.value) v → facts a.target v
+HasAll facts a = (v : Value) → PassesConditions facts a.conditions → Yields facts (out-Expr ℕ a.value) v
+    → facts a.target v

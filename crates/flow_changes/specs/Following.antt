@@ -4,7 +4,7 @@ use Rattle.ar_base.specs.Lists.{Stands, IsOneOf}
 use Rattle.domains.specs.declared.Value.{Value}
 use Rattle.typed_expr.specs.Yields.{Yields}
 use Rattle.typed_expr.specs.declared.expr.Expr.{out-Expr}
-use Rattle.ar_meaning.specs.Facts.{Passes, FactOf}
+use Rattle.ar_meaning.specs.Facts.{PassesConditions, FactOf}
 use Rattle.gts_core.specs.Readings.{IsTotal}
 use Rattle.gts_core.specs.View.{assign_of, net_of}
 use Rattle.gts_core.specs.declared.system.Assign.{Assign}
@@ -27,7 +27,7 @@ pub record IsNew (p : GtsParts) (n : ℕ) (values : List Value) (known : List Bo
   pub assign : Assign
   pub stands : Stands p.assigns.items n assign
   pub is : m ≡ assign.target.n
-  pub passes : Passes (Knows values known) (assign_of assign).conditions
+  pub passes : PassesConditions (Knows values known) (assign_of assign).conditions
   pub yields : Yields (Knows values known) (out-Expr ℕ (assign_of assign).value) v
 
 -- what is left to do: for each value that may become known one look at each reader, and the looks that wait

@@ -9,7 +9,7 @@ use Rattle.typed_expr.specs.Sets.{HasExactly}
 use Rattle.typed_expr.specs.Yields.{Yields}
 use Rattle.typed_expr.specs.declared.expr.Expr.{out-Expr}
 use Rattle.ar_meaning.specs.Systems as s
-use Rattle.ar_meaning.specs.Facts.{Passes}
+use Rattle.ar_meaning.specs.Facts.{PassesConditions}
 use Rattle.gts_core.specs.View.{assign_of}
 use Rattle.gts_core.specs.declared.system.Variable.{Variable}
 use Rattle.gts_core.specs.declared.system.Assign.{Assign}
@@ -58,10 +58,10 @@ pub record Applies (p : GtsParts) (a : Assign) (values_then : List Value) (known
   pub grows : (n : ℕ) (v : Value) → Knows values_then known_then n v → Knows values known n v
   pub only : (n : ℕ) (v : Value) → Knows values known n v
       → Knows values_then known_then n v
-      ⊎ ((n ≡ a.target.n) × Passes (Knows values_then known_then) (assign_of a).conditions
+      ⊎ ((n ≡ a.target.n) × PassesConditions (Knows values_then known_then) (assign_of a).conditions
       × Yields (Knows values_then known_then) (out-Expr ℕ (assign_of a).value) v)
   pub still : changed ≡ false → (values ≡ values_then) × (known ≡ known_then)
-  pub done : (v : Value) → Passes (Knows values_then known_then) (assign_of a).conditions
+  pub done : (v : Value) → PassesConditions (Knows values_then known_then) (assign_of a).conditions
       → Yields (Knows values_then known_then) (out-Expr ℕ (assign_of a).value) v → Knows values known a.target.n v
   pub less : changed ≡ true → unmarked known < unmarked known_then
 

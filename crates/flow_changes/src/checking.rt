@@ -2,7 +2,7 @@
 
 ghost use Rattle.std.specs.Prelude.{◌≡◌, ◌<◌, ℕ, true, false, length};
 ghost use Rattle.ar_base.specs.Lists.{IsOneOf, Stands};
-ghost use Rattle.ar_meaning.specs.Flows.{IsBroken};
+ghost use Rattle.ar_meaning.specs.Flows.{IsBrokenAssign};
 ghost use Rattle.ar_meaning.specs.Found.{IsAnswer};
 ghost use Rattle.gts_core.specs.Readings.{IsTotal};
 ghost use Rattle.gts_core.specs.Sound.{IsSound};
@@ -20,7 +20,7 @@ pub(crate) fn all_hold(parts: &GtsParts, order: &[u32], list: &[usize], values: 
     requires within { AreWithin list.now order.now }
     requires below { AreWithin order.now parts.now.assigns.items }
     ensures { IsAnswer result ((q n : ℕ) (a : Assigns) → IsOneOf list.now q → Stands order.now q n
-        → Stands parts.now.assigns.items n a → IsBroken (net_of parts.now) values.now (assign_of a)
+        → Stands parts.now.assigns.items n a → IsBrokenAssign (net_of parts.now) values.now (assign_of a)
         → ⊥) }
 {
     for place in list {
@@ -36,7 +36,7 @@ fn is_broken(parts: &GtsParts, assign: &Assign, values: &[Value]) -> bool
     requires sound { IsSound parts.now }
     requires one { IsOneOf parts.now.assigns.items assign.now }
     requires total { IsTotal parts.now values.now }
-    ensures { IsAnswer result (IsBroken (net_of parts.now) values.now (assign_of assign.now)) }
+    ensures { IsAnswer result (IsBrokenAssign (net_of parts.now) values.now (assign_of assign.now)) }
 {
     if !are_met(values, &assign.when) {
         return false;

@@ -4,7 +4,7 @@ ghost use Rattle.std.specs.Prelude.{◌≡◌, ◌∷◌, [], ℕ, map, Contains
 ghost use Rattle.domains.specs.declared.Value.{Value};
 ghost use Rattle.typed_expr.specs.Kinds.{kind_of};
 ghost use Rattle.typed_expr.specs.Rows.{first_of};
-ghost use Rattle.ar_meaning.specs.Facts.{Passes};
+ghost use Rattle.ar_meaning.specs.Facts.{PassesConditions};
 ghost use Rattle.ar_meaning.specs.Found.{IsAnswer};
 ghost use Rattle.ar_meaning.specs.Reached.{Reaches};
 ghost use Rattle.gts_core.specs.View.{assign_of, condition_of};
@@ -81,7 +81,7 @@ fn has(values: &[Value], v: Value) -> bool
 // Whether every condition yields the truth value that it must have.
 fn reached(alloc: Global, conditions: &[(Expr<VarId>, bool)], known: &Known) -> Result<bool, Memory>
     ensures { IfOk result (λ b. IsAnswer b
-        (Passes (Knows known.now.values.now known.now.known.now)
+        (PassesConditions (Knows known.now.values.now known.now.known.now)
         (map condition_of conditions.now))) }
 {
     for (test, must) in conditions {

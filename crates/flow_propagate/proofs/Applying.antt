@@ -6,7 +6,7 @@ use Rattle.domains.specs.Domains as domains
 use Rattle.domains.proofs.Domains.{listed, held}
 use Rattle.domains.specs.declared.Value.{Value}
 use Rattle.typed_expr.proofs.Facts.{yields_more}
-use Rattle.ar_meaning.specs.Facts.{Allows, IsGiven, FactOf}
+use Rattle.ar_meaning.specs.Facts.{Allows, HasStateValue, FactOf}
 use Rattle.ar_meaning.proofs.Least.{passes_more, closed}
 use Rattle.ar_meaning.proofs.ByNumber.{allowed_from, allowed_at}
 use Rattle.gts_core.specs.View.{assign_of, net_of, variable_of}
@@ -34,7 +34,7 @@ module _ (p : GtsParts) (a : Assign) (one : IsOneOf p.assigns.items a) (x : Vari
           allowed_from (net_of p) (are_numbered p) a.target.n (variable_of a.target.n x) w
           (variable_there p a.target.n x stands) (listed x.domain w k.2) in
           subst (λ (z : ℕ). FactOf (net_of p) t z w) (sym k.0)
-          (closed (net_of p).assertions (Allows (net_of p)) (IsGiven (net_of p) t) (assign_of a) w
+          (closed (net_of p).assertions (Allows (net_of p)) (HasStateValue (net_of p) t) (assign_of a) w
           (record { place = one.place; stands = stands_map assign_of p.assigns.items one.place a one.stands })
           (passes_more ℕ (Holds old) (FactOf (net_of p) t) sound r.0)
           (yields_more ℕ (Holds old) (FactOf (net_of p) t) sound (r.1.sound w k.1)) allowed))

@@ -6,7 +6,7 @@ use Rattle.domains.specs.Domains.{Holds}
 use Rattle.domains.proofs.Domains.{held}
 use Rattle.domains.specs.declared.Value.{Value}
 use Rattle.ar_meaning.specs.Systems as s
-use Rattle.ar_meaning.specs.Facts.{FactOf, IsGiven, Allows, given, assigned}
+use Rattle.ar_meaning.specs.Facts.{FactOf, HasStateValue, Allows, given, assigned}
 use Rattle.ar_meaning.specs.Flows.{Completes, state, known, unknown, Flows, Total, all_hold}
 use Rattle.ar_meaning.specs.Flows as flows
 use Rattle.ar_meaning.proofs.ByNumber as number
@@ -118,7 +118,7 @@ states_turned (states.flow i d) = states.flow i (states_turned d)
 -- the facts follow from the values of the state variables
 pub fact_same : {V : Type 0} (net : s.Net V) (t u : List Value) → Same_states net.variables t u → (x : V) (v : Value)
     → FactOf net t x v → FactOf net u x v
-fact_same net t u d = least net.assertions (Allows net) (IsGiven net t) (FactOf net u)
+fact_same net t u d = least net.assertions (Allows net) (HasStateValue net t) (FactOf net u)
     (λ x v h. given (record {
       place = h.place;
       variable = h.variable;
@@ -127,7 +127,7 @@ fact_same net t u d = least net.assertions (Allows net) (IsGiven net t) (FactOf 
       is_state = h.is_state;
       value = same_at d h.place h.variable h.stands h.is_state v h.value;
     }))
-    (λ a v m q y l. closed net.assertions (Allows net) (IsGiven net u) a v m q y l)
+    (λ a v m q y l. closed net.assertions (Allows net) (HasStateValue net u) a v m q y l)
 
 -- a total valuation that a state determines determines itself
 pub flows_itself : {V : Type 0} (net : s.Net V) (t total : List Value) → Flows net t (Total total)

@@ -12,7 +12,7 @@ use Rattle.gts_core.specs.declared.system.Variable.{Variable}
 use Rattle.gts_core.specs.declared.system.Assign.{Assign}
 use Rattle.gts_core.specs.declared.system.GtsParts.{GtsParts}
 use Rattle.ar_meaning.specs.Systems as s
-use Rattle.ar_meaning.specs.Dependence.{Names, Reads, IsFlow, DependsOn, AreUses}
+use Rattle.ar_meaning.specs.Dependence.{Names, IsReadBy, IsFlow, DependsOn, AreUses}
 use Rattle.ar_meaning.proofs.Dependence.{tests_one}
 use Rattle.flow_propagate.specs.Plan.{AreReaders}
 use Rattle.flow_propagate.specs.Dependence.{flows_in, ArePlaces, AddsUse, AreUsesSoFar}
@@ -90,7 +90,7 @@ flow_below (y ∷ xs) (suc n) x s e =
     omega (arith, r, whole, front)
 
 -- what an assignment names is a variable of the system
-pub reads_below : (p : GtsParts) (x n : ℕ) → IsSound p → Reads (net_of p) x n → x < length p.variables.items
+pub reads_below : (p : GtsParts) (x n : ℕ) → IsSound p → IsReadBy (net_of p) x n → x < length p.variables.items
 reads_below p x n s h =
     let t = reads_back r.assign x r.names in
     let P : ℕ → Type 0 = λ z. z < length p.variables.items in
@@ -122,7 +122,7 @@ use_not p x n y old st is = record {
 -- a flow makes the use of it by the target
 module _ (p : GtsParts) (x n : ℕ) (y : Variable) (a : Assign) (before : List ℕ) (sound : IsSound p)
     (places : ArePlaces p.variables.items (length p.variables.items) before)
-    (reads : Reads (net_of p) x n) (st : Stands p.variables.items x y) (is : y.is_state ≡ false)
+    (reads : IsReadBy (net_of p) x n) (st : Stands p.variables.items x y) (is : y.is_state ≡ false)
     (sa : Stands p.assigns.items n a) where
   typed : IsAssignTo p false a
   typed = sound.assertions a (record { place = n; stands = sa })

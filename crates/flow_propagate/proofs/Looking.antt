@@ -8,7 +8,7 @@ use Rattle.typed_expr.specs.Yields.{Yields}
 use Rattle.typed_expr.proofs.Facts.{yields_named}
 use Rattle.typed_expr.specs.declared.expr.Expr.{out-Expr}
 use Rattle.ar_meaning.specs.Systems as s
-use Rattle.ar_meaning.specs.Facts.{Passes, Allows, IsGiven}
+use Rattle.ar_meaning.specs.Facts.{PassesConditions, Allows, HasStateValue}
 use Rattle.ar_meaning.proofs.Least.{least}
 use Rattle.gts_core.specs.View.{assign_of, net_of}
 use Rattle.gts_core.specs.declared.system.Assign.{Assign}
@@ -26,7 +26,8 @@ use Rattle.flow_propagate.proofs.Numbered.{read_there}
 -- an assignment that does not name the target keeps what it has
 stays : (p : GtsParts) (a b : Assign) (old new : Rows) (changed : Bool) → Applies p a old new changed
     → (Names (assign_of b) a.target.n → ⊥)
-    → ((v : Value) → Passes (Holds old) (assign_of b).conditions → Yields (Holds old) (out-Expr ℕ (assign_of b).value) v
+    → ((v : Value) → PassesConditions (Holds old) (assign_of b).conditions
+    → Yields (Holds old) (out-Expr ℕ (assign_of b).value) v
     → Allows (net_of p) b.target.n v → Holds new b.target.n v) → IsClosed (net_of p) new (assign_of b)
 stays p a b old new changed m lacks has v pass y al =
     has v (passes_named (λ x w d h. m.others x w h (λ e. lacks (subst (λ (z : ℕ). Names (assign_of b) z) e (inr d))))
@@ -106,7 +107,7 @@ looks_more p readers most n a old new before after r sa m w = record {
 }
   where
     again : (k : ℕ) (b : Assign) → Stands p.assigns.items k b
-        → ((v : Value) → Passes (Holds old) (assign_of b).conditions
+        → ((v : Value) → PassesConditions (Holds old) (assign_of b).conditions
         → Yields (Holds old) (out-Expr ℕ (assign_of b).value) v → Allows (net_of p) b.target.n v
         → Holds new b.target.n v) → Waits after k ⊎ IsClosed (net_of p) new (assign_of b)
     again k b st has = elim (one_or_not readers (a.target.n, k)) [
@@ -116,11 +117,11 @@ looks_more p readers most n a old new before after r sa m w = record {
     ]
 
     mine : (k : ℕ) (b : Assign) → k ≡ n → Stands p.assigns.items k b → (v : Value)
-        → Passes (Holds old) (assign_of b).conditions → Yields (Holds old) (out-Expr ℕ (assign_of b).value) v
+        → PassesConditions (Holds old) (assign_of b).conditions → Yields (Holds old) (out-Expr ℕ (assign_of b).value) v
         → Allows (net_of p) b.target.n v → Holds new b.target.n v
     mine k b e st =
         let one : a ≡ b = stands_one p.assigns.items n a b sa (subst (λ (z : ℕ). Stands p.assigns.items z b) e st) in
-        let P : Assign → Type 0 = λ z. (v : Value) → Passes (Holds old) (assign_of z).conditions
+        let P : Assign → Type 0 = λ z. (v : Value) → PassesConditions (Holds old) (assign_of z).conditions
         → Yields (Holds old) (out-Expr ℕ (assign_of z).value) v → Allows (net_of p) z.target.n v
         → Holds new z.target.n v in
         subst P one m.done
@@ -141,12 +142,12 @@ all_closed p rows work h lacks n a st = elim (h n a st) [ inl w ↦ absurd (lack
 
 -- a sound table that holds what is given and is closed has exactly the facts
 pub are_facts : (p : GtsParts) (t : List Value) (rows : Rows) → IsSoundTable (net_of p) t rows
-    → ((n : ℕ) (v : Value) → IsGiven (net_of p) t n v → Holds rows n v)
+    → ((n : ℕ) (v : Value) → HasStateValue (net_of p) t n v → Holds rows n v)
     → ((n : ℕ) (a : Assign) → Stands p.assigns.items n a → IsClosed (net_of p) rows (assign_of a))
     → AreFacts (net_of p) t rows
 are_facts p t rows sound given c = record {
   sound = sound;
-  complete = least (net_of p).assertions (Allows (net_of p)) (IsGiven (net_of p) t) (Holds rows) given
+  complete = least (net_of p).assertions (Allows (net_of p)) (HasStateValue (net_of p) t) (Holds rows) given
       (λ a v i q y al. closed a i v q y al);
 }
   where

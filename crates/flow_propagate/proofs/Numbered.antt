@@ -4,7 +4,7 @@ use Rattle.std.proofs.lemmas.List.Sums.{sum_by-cons}
 use Rattle.ar_base.specs.Lists.{Stands}
 use Rattle.ar_base.proofs.Standing.{stands_map, stands_map_back}
 use Rattle.ar_meaning.specs.Systems as s
-use Rattle.ar_meaning.specs.Dependence.{Names, Reads, IsFlow, flow_count}
+use Rattle.ar_meaning.specs.Dependence.{Names, IsReadBy, IsFlow, flow_count}
 use Rattle.gts_core.specs.View.{assign_of, variable_of, variables_from, net_of}
 use Rattle.gts_core.specs.declared.system.Variable.{Variable}
 use Rattle.gts_core.specs.declared.system.Assign.{Assign}
@@ -65,14 +65,14 @@ module _ (p : GtsParts) where
     pub stands : Stands p.assigns.items n assign
     pub names : Names (assign_of assign) x
 
-  pub read_there : (x n : ℕ) → ReadHere x n → Reads (net_of p) x n
+  pub read_there : (x n : ℕ) → ReadHere x n → IsReadBy (net_of p) x n
   read_there x n r = record {
     assign = assign_of r.assign;
     stands = stands_map assign_of p.assigns.items n r.assign r.stands;
     names = r.names;
   }
 
-  pub read_back : (x n : ℕ) → Reads (net_of p) x n → ReadHere x n
+  pub read_back : (x n : ℕ) → IsReadBy (net_of p) x n → ReadHere x n
   read_back x n r =
       let k = stands_map_back assign_of p.assigns.items n r.assign r.stands in
       record { assign = k.0; stands = k.1; names = subst (λ (z : s.Assign ℕ). Names z x) (sym k.2) r.names }

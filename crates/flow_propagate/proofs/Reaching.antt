@@ -6,7 +6,7 @@ use Rattle.domains.specs.declared.Value.TheVariants.{Truth}
 use Rattle.typed_expr.specs.Sets.{HasExactly}
 use Rattle.typed_expr.specs.Yields.{Yields, facts_of}
 use Rattle.typed_expr.specs.declared.expr.Expr.{Expr, out-Expr}
-use Rattle.ar_meaning.specs.Facts.{Passes, none, one_and}
+use Rattle.ar_meaning.specs.Facts.{PassesConditions, none, one_and}
 use Rattle.ar_base.specs.Numbers.{VarId}
 use Rattle.gts_core.specs.View.{numbered, condition_of}
 use Rattle.gts_core.proofs.Numbering.{yields_numbered, yields_back}
@@ -26,8 +26,10 @@ tells rows e set h = record {
 
 -- the conditions from a place on decide
 pub record Decides (rows : Rows) (cs : List (Expr VarId × Bool)) (i : ℕ) : Type 0 where
-  pub on : Passes (Holds rows) (map condition_of (drop i cs)) → Passes (Holds rows) (map condition_of cs)
-  pub off : Passes (Holds rows) (map condition_of cs) → Passes (Holds rows) (map condition_of (drop i cs))
+  pub on : PassesConditions (Holds rows) (map condition_of (drop i cs))
+      → PassesConditions (Holds rows) (map condition_of cs)
+  pub off : PassesConditions (Holds rows) (map condition_of cs)
+      → PassesConditions (Holds rows) (map condition_of (drop i cs))
 
 pub decides_start : (rows : Rows) (cs : List (Expr VarId × Bool)) → Decides rows cs 0
 decides_start rows cs = record { on = λ h. h; off = λ h. h }
@@ -38,18 +40,20 @@ module _ (rows : Rows) (cs : List (Expr VarId × Bool)) (i : ℕ) (c : Expr VarI
   split = at_drop_more (λ (xs : List (Expr VarId × Bool)). xs) cs i c h
       ∙ ap (λ (z : Expr VarId × Bool). z ∷ drop (i + 1) cs) (sym is)
 
-  head : (d : Expr ℕ × Bool) (ds : List (Expr ℕ × Bool)) → Passes (Holds rows) (d ∷ ds)
-      → Yields (Holds rows) (out-Expr ℕ d.0) (Truth d.1) × Passes (Holds rows) ds
+  head : (d : Expr ℕ × Bool) (ds : List (Expr ℕ × Bool)) → PassesConditions (Holds rows) (d ∷ ds)
+      → Yields (Holds rows) (out-Expr ℕ d.0) (Truth d.1) × PassesConditions (Holds rows) ds
   head d ds (one_and y p) = (y, p)
 
-  there : Passes (Holds rows) (map condition_of (drop i cs))
+  there : PassesConditions (Holds rows) (map condition_of (drop i cs))
       → Yields (Holds rows) (out-Expr ℕ (numbered c.0)) (Truth c.1)
-      × Passes (Holds rows) (map condition_of (drop (i + 1) cs))
-  there p = head _ _ (subst (λ (xs : List (Expr VarId × Bool)). Passes (Holds rows) (map condition_of xs)) split p)
+      × PassesConditions (Holds rows) (map condition_of (drop (i + 1) cs))
+  there p = head _ _ (subst (λ (xs : List (Expr VarId × Bool)). PassesConditions (Holds rows) (map condition_of xs))
+      split p)
 
   back : Yields (Holds rows) (out-Expr ℕ (numbered c.0)) (Truth c.1)
-      → Passes (Holds rows) (map condition_of (drop (i + 1) cs)) → Passes (Holds rows) (map condition_of (drop i cs))
-  back y p = subst (λ (xs : List (Expr VarId × Bool)). Passes (Holds rows) (map condition_of xs)) (sym split)
+      → PassesConditions (Holds rows) (map condition_of (drop (i + 1) cs))
+      → PassesConditions (Holds rows) (map condition_of (drop i cs))
+  back y p = subst (λ (xs : List (Expr VarId × Bool)). PassesConditions (Holds rows) (map condition_of xs)) (sym split)
       (one_and y p)
 
   pub decides_on : Decides rows cs i → Yields (Holds rows) (out-Expr ℕ (numbered c.0)) (Truth c.1)
@@ -57,11 +61,11 @@ module _ (rows : Rows) (cs : List (Expr VarId × Bool)) (i : ℕ) (c : Expr VarI
   decides_on r y = record { on = λ p. r.on (back y p); off = λ p. (there (r.off p)).1 }
 
   pub decides_not : Decides rows cs i → (Yields (Holds rows) (out-Expr ℕ (numbered c.0)) (Truth c.1) → ⊥)
-      → Passes (Holds rows) (map condition_of cs) → ⊥
+      → PassesConditions (Holds rows) (map condition_of cs) → ⊥
   decides_not r n p = n (there (r.off p)).0
 
 pub decides_all : (rows : Rows) (cs : List (Expr VarId × Bool)) (i : ℕ) → length cs ≤ i → Decides rows cs i
-    → Passes (Holds rows) (map condition_of cs)
+    → PassesConditions (Holds rows) (map condition_of cs)
 decides_all rows cs i h r =
     let e : drop i cs ≡ [] = at_drop_all (λ (xs : List (Expr VarId × Bool)). xs) cs i h in
-    r.on (subst (λ (xs : List (Expr VarId × Bool)). Passes (Holds rows) (map condition_of xs)) (sym e) none)
+    r.on (subst (λ (xs : List (Expr VarId × Bool)). PassesConditions (Holds rows) (map condition_of xs)) (sym e) none)

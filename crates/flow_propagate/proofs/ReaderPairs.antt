@@ -20,7 +20,7 @@ use Rattle.gts_core.proofs.Viewing.{variables_long}
 use Rattle.gts_core.specs.Sound.{IsSound}
 use Rattle.gts_core.specs.declared.system.Assign.{Assign}
 use Rattle.gts_core.specs.declared.system.GtsParts.{GtsParts}
-use Rattle.ar_meaning.specs.Dependence.{Names, Reads}
+use Rattle.ar_meaning.specs.Dependence.{Names, IsReadBy}
 use Rattle.flow_propagate.specs.Plan.{ComesBefore, AreReaders, AreGivers}
 use Rattle.gts_core.specs.Named.{ReadsVariable}
 use Rattle.flow_propagate.specs.Named.{IsPairFor, AddsNamed, AreNamed, AreTargets, Ascend}
@@ -40,12 +40,12 @@ named_more p i a old new h is before adds = record {
     stands : Stands p.assigns.items i a
     stands = stands_item p.assigns.items i a h is
 
-    here : (q : ℕ × ℕ) → IsPairFor i (ReadsVariable a) q → Reads (net_of p) q.0 q.1
-    here q k = subst (λ (z : ℕ). Reads (net_of p) z q.1) (sym k.first)
-        (subst (λ (z : ℕ). Reads (net_of p) k.variable.n z) (sym k.second)
+    here : (q : ℕ × ℕ) → IsPairFor i (ReadsVariable a) q → IsReadBy (net_of p) q.0 q.1
+    here q k = subst (λ (z : ℕ). IsReadBy (net_of p) z q.1) (sym k.first)
+        (subst (λ (z : ℕ). IsReadBy (net_of p) k.variable.n z) (sym k.second)
         (read_there p k.variable.n i (record { assign = a; stands = stands; names = reads_there a k.variable k.has })))
 
-    same : (x n : ℕ) → n ≡ i → Reads (net_of p) x n → IsOneOf new (x, n)
+    same : (x n : ℕ) → n ≡ i → IsReadBy (net_of p) x n → IsOneOf new (x, n)
     same x n e h =
         let r = read_back p x n h in
         let one : r.assign ≡ a = stands_one p.assigns.items i r.assign a
@@ -54,7 +54,7 @@ named_more p i a old new h is before adds = record {
         subst (λ (z : ℕ). IsOneOf new (z, n)) t.is
         (subst (λ (z : ℕ). IsOneOf new (t.variable.n, z)) (sym e) (adds.all t.variable t.has))
 
-    at : (x n : ℕ) → Reads (net_of p) x n → (n < i) ⊎ (n ≡ i) → IsOneOf new (x, n)
+    at : (x n : ℕ) → IsReadBy (net_of p) x n → (n < i) ⊎ (n ≡ i) → IsOneOf new (x, n)
     at x n r (inl l) = adds.grows (x, n) (before.all x n l r)
     at x n r (inr e) = same x n e r
 

@@ -9,7 +9,7 @@ use Rattle.typed_expr.proofs.Facts.{yields_more}
 use Rattle.typed_expr.specs.Yields.{Yields}
 use Rattle.typed_expr.specs.declared.expr.Expr.{out-Expr}
 use Rattle.ar_meaning.specs.Systems as s
-use Rattle.ar_meaning.specs.Facts.{FactOf, Passes}
+use Rattle.ar_meaning.specs.Facts.{FactOf, PassesConditions}
 use Rattle.ar_meaning.specs.Flows.{HasTwo, IsOutside}
 use Rattle.ar_meaning.specs.Found.{IsAnswer}
 use Rattle.ar_meaning.proofs.Least.{passes_more}
@@ -110,7 +110,7 @@ module _ (p : GtsParts) (sound : IsSound p) (t : List Value) (rows : Rows) (fact
           variable = v.0;
           stands = subst (λ (z : ℕ). Stands p.variables.items z v.0) (sym target) v.1;
           leaves = record {
-            passes = subst (λ (z : s.Assign ℕ). Passes (Holds rows) z.conditions) (sym i.2)
+            passes = subst (λ (z : s.Assign ℕ). PassesConditions (Holds rows) z.conditions) (sym i.2)
                 (passes_more ℕ (FactOf (net_of p) t) (Holds rows) facts.complete h.passes);
             value = h.value;
             yields = subst (λ (z : s.Assign ℕ). Yields (Holds rows) (out-Expr ℕ z.value) h.value) (sym i.2)

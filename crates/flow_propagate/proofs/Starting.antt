@@ -5,7 +5,7 @@ use Rattle.ar_base.proofs.Standing.{stands_some, stands_within}
 use Rattle.domains.specs.declared.Value.{Value}
 use Rattle.domains.proofs.Members.{nothing-in, contains-one}
 use Rattle.ar_meaning.specs.Systems as s
-use Rattle.ar_meaning.specs.Facts.{IsGiven, FactOf, given}
+use Rattle.ar_meaning.specs.Facts.{HasStateValue, FactOf, given}
 use Rattle.ar_meaning.proofs.ByNumber.{given_from}
 use Rattle.gts_core.specs.View.{net_of, variable_of}
 use Rattle.gts_core.proofs.Viewing.{variable_there, variable_back, are_numbered}
@@ -41,7 +41,7 @@ module _ (p : GtsParts) (t : List Value) (rows : Rows) (long : length t ≡ leng
       by_state n x.0 w.0 v x.0.is_state refl x.1 w.1
       (subst (λ (z : List Value). Contains z v) (st.row n x.0 w.0 below x.1 w.1) h)
 
-  pub starts_given : (n : ℕ) (v : Value) → IsGiven (net_of p) t n v → Holds rows n v
+  pub starts_given : (n : ℕ) (v : Value) → HasStateValue (net_of p) t n v → Holds rows n v
   starts_given n v g =
       let r = variable_back p g.place g.variable g.stands in
       let place : g.place ≡ n = ap (λ (z : s.Variable ℕ). z.key) r.2 ∙ g.is_key in

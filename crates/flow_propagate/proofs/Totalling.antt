@@ -5,8 +5,8 @@ use Rattle.ar_base.specs.Lists.{Stands, IsOneOf, IsFirst, HasNo}
 use Rattle.ar_base.proofs.Standing.{stands_one, stands_map, stands_map_back, stands_within, stands_left, stands_next, at_most}
 use Rattle.domains.specs.declared.Value.{Value}
 use Rattle.ar_meaning.specs.Systems as s
-use Rattle.ar_meaning.specs.Facts.{FactOf, HasValue, Passes}
-use Rattle.ar_meaning.specs.Flows.{IsBroken, Completes}
+use Rattle.ar_meaning.specs.Facts.{FactOf, HasValue, PassesConditions}
+use Rattle.ar_meaning.specs.Flows.{IsBrokenAssign, Completes}
 use Rattle.ar_meaning.specs.Flows as flows
 use Rattle.ar_meaning.proofs.Found.{holds, fails}
 use Rattle.ar_meaning.proofs.ByNumber.{value_at, value_from}
@@ -93,7 +93,8 @@ module _ (p : GtsParts) (sound : IsSound p) (total : List Value) (is : IsTotal p
   typed : (a : Assign) → IsOneOf p.assigns.items a → IsAssignTo p false a
   typed a one = sound.assertions a one
 
-  broken_there : (a : Assign) → IsOneOf p.assigns.items a → Breaks total a → IsBroken (net_of p) total (assign_of a)
+  broken_there : (a : Assign) → IsOneOf p.assigns.items a → Breaks total a
+      → IsBrokenAssign (net_of p) total (assign_of a)
   broken_there a one h = record {
     passes = holds _ _ h.met (passes_answer p total is a.when.items (typed a one).conditions);
     value = value_in total a.value;
@@ -101,12 +102,13 @@ module _ (p : GtsParts) (sound : IsSound p) (total : List Value) (is : IsTotal p
     differs = λ c. h.differs (value_at (net_of p) (are_numbered p) total a.target.n _ c);
   }
 
-  met : (a : Assign) → IsOneOf p.assigns.items a → Passes (HasValue (net_of p) total) (assign_of a).conditions
+  met : (a : Assign) → IsOneOf p.assigns.items a → PassesConditions (HasValue (net_of p) total) (assign_of a).conditions
       → (b : Bool) → list_all (is_met total) a.when.items ≡ b → b ≡ true
   met a one h true e = refl
   met a one h false e = absurd (fails _ _ e (passes_answer p total is a.when.items (typed a one).conditions) h)
 
-  broken_back : (a : Assign) → IsOneOf p.assigns.items a → IsBroken (net_of p) total (assign_of a) → Breaks total a
+  broken_back : (a : Assign) → IsOneOf p.assigns.items a → IsBrokenAssign (net_of p) total (assign_of a)
+      → Breaks total a
   broken_back a one h = record {
     met = met a one h.passes (list_all (is_met total) a.when.items) refl;
     differs = λ st.
@@ -118,7 +120,7 @@ module _ (p : GtsParts) (sound : IsSound p) (total : List Value) (is : IsTotal p
   }
 
   pub broken_found : (n : ℕ) → IsFirst p.assigns.items (Breaks total) n
-      → IsFirst (net_of p).assertions (IsBroken (net_of p) total) n
+      → IsFirst (net_of p).assertions (IsBrokenAssign (net_of p) total) n
   broken_found n f = record {
     item = assign_of f.item;
     stands = stands_map assign_of p.assigns.items n f.item f.stands;
@@ -126,15 +128,15 @@ module _ (p : GtsParts) (sound : IsSound p) (total : List Value) (is : IsTotal p
     before = λ k a below st h.
         let r = stands_map_back assign_of p.assigns.items k a st in
         f.before k r.0 below r.1 (broken_back r.0 (record { place = k; stands = r.1 })
-        (subst (λ (z : s.Assign ℕ). IsBroken (net_of p) total z) (sym r.2) h));
+        (subst (λ (z : s.Assign ℕ). IsBrokenAssign (net_of p) total z) (sym r.2) h));
   }
 
-  pub broken_none : HasNo p.assigns.items (Breaks total) → HasNo (net_of p).assertions (IsBroken (net_of p) total)
+  pub broken_none : HasNo p.assigns.items (Breaks total) → HasNo (net_of p).assertions (IsBrokenAssign (net_of p) total)
   broken_none f = record {
     has_not = λ k a st h.
         let r = stands_map_back assign_of p.assigns.items k a st in
         f.has_not k r.0 r.1 (broken_back r.0 (record { place = k; stands = r.1 })
-        (subst (λ (z : s.Assign ℕ). IsBroken (net_of p) total z) (sym r.2) h));
+        (subst (λ (z : s.Assign ℕ). IsBrokenAssign (net_of p) total z) (sym r.2) h));
   }
 
 pub no_items : {A : Type 0} (xs : List A) (n : ℕ) (P : A → Type 0) → length xs ≤ n

@@ -8,7 +8,7 @@ use Rattle.domains.specs.Same.{has_value}
 use Rattle.domains.specs.declared.Value.{Value}
 use Rattle.typed_expr.specs.Yields.{Yields}
 use Rattle.typed_expr.specs.declared.expr.Expr.{out-Expr}
-use Rattle.ar_meaning.specs.Facts.{Passes, Allows}
+use Rattle.ar_meaning.specs.Facts.{PassesConditions, Allows}
 use Rattle.gts_core.specs.View.{assign_of, net_of}
 use Rattle.gts_core.specs.declared.system.Variable.{Variable}
 use Rattle.gts_core.specs.declared.system.Assign.{Assign}
@@ -36,7 +36,7 @@ pub record Applies (p : GtsParts) (a : Assign) (old new : Rows) (changed : Bool)
   pub moves : Moves (net_of p) old new
   pub others : (n : ℕ) (v : Value) → Holds new n v → (n ≡ a.target.n → ⊥) → Holds old n v
   pub still : changed ≡ false → new ≡ old
-  pub done : (v : Value) → Passes (Holds old) (assign_of a).conditions
+  pub done : (v : Value) → PassesConditions (Holds old) (assign_of a).conditions
       → Yields (Holds old) (out-Expr ℕ (assign_of a).value) v → Allows (net_of p) a.target.n v → Holds new a.target.n v
   pub less : changed ≡ true → missing p new < missing p old
 

@@ -5,7 +5,7 @@ use Rattle.ar_base.specs.Numbers.{VarId}
 use Rattle.gts_core.specs.View.{net_of}
 use Rattle.gts_core.specs.declared.system.Assign.{Assign}
 use Rattle.gts_core.specs.declared.system.GtsParts.{GtsParts}
-use Rattle.ar_meaning.specs.Dependence.{Reads}
+use Rattle.ar_meaning.specs.Dependence.{IsReadBy}
 use Rattle.flow_propagate.specs.Plan.{ComesBefore}
 
 -- a variable that has P, by its number, with the assignment's
@@ -23,8 +23,8 @@ pub record AddsNamed (n : ℕ) (P : VarId → Type 0) (old new : List (ℕ × �
 
 -- the pairs of a variable and one of the first so many assignments that names it
 pub record AreNamed (p : GtsParts) (count : ℕ) (pairs : List (ℕ × ℕ)) : Type 0 where
-  pub only : (q : ℕ × ℕ) → IsOneOf pairs q → Reads (net_of p) q.0 q.1
-  pub all : (x n : ℕ) → n < count → Reads (net_of p) x n → IsOneOf pairs (x, n)
+  pub only : (q : ℕ × ℕ) → IsOneOf pairs q → IsReadBy (net_of p) q.0 q.1
+  pub all : (x n : ℕ) → n < count → IsReadBy (net_of p) x n → IsOneOf pairs (x, n)
 
 -- the pairs of the target of one of the first so many assignments and the assignment's number
 pub record AreTargets (p : GtsParts) (count : ℕ) (pairs : List (ℕ × ℕ)) : Type 0 where

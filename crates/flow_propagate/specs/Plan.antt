@@ -1,7 +1,7 @@
 -- How the flows of a system depend on each other, and which assignments read which variable.
 use Rattle.std.specs.Prelude.{◌≡◌, ℕ, ◌<◌, ◌⊎◌, List, [], length, map}
 use Rattle.ar_base.specs.Lists.{Stands, IsOneOf}
-use Rattle.ar_meaning.specs.Dependence.{Reads, AreUses, flow_count}
+use Rattle.ar_meaning.specs.Dependence.{IsReadBy, AreUses, flow_count}
 use Rattle.flow_blocks.specs.Blocks.{Follow}
 use Rattle.flow_blocks.specs.declared.graph.Block.{Block}
 use Rattle.gts_core.specs.View.{net_of}
@@ -22,8 +22,8 @@ ComesBefore q r = (q.0 < r.0) ⊎ ((q.0 ≡ r.0) × (q.1 < r.1))
 
 -- the pairs of a variable and an assignment that names it, ascending, each once
 pub record AreReaders (p : GtsParts) (readers : List (ℕ × ℕ)) : Type 0 where
-  pub only : (x n : ℕ) → IsOneOf readers (x, n) → Reads (net_of p) x n
-  pub all : (x n : ℕ) → Reads (net_of p) x n → IsOneOf readers (x, n)
+  pub only : (x n : ℕ) → IsOneOf readers (x, n) → IsReadBy (net_of p) x n
+  pub all : (x n : ℕ) → IsReadBy (net_of p) x n → IsOneOf readers (x, n)
   pub ascending : (j k : ℕ) (q r : ℕ × ℕ) → j < k → Stands readers j q → Stands readers k r → ComesBefore q r
 
 -- the pairs of a variable and an assignment to it, ascending, each once

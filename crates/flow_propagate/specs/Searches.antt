@@ -6,7 +6,7 @@ use Rattle.domains.specs.declared.Domain.{Domain}
 use Rattle.domains.specs.declared.Value.{Value}
 use Rattle.typed_expr.specs.Yields.{Yields}
 use Rattle.typed_expr.specs.declared.expr.Expr.{out-Expr}
-use Rattle.ar_meaning.specs.Facts.{Passes}
+use Rattle.ar_meaning.specs.Facts.{PassesConditions}
 use Rattle.gts_core.specs.View.{assign_of}
 use Rattle.gts_core.specs.declared.system.Variable.{Variable}
 use Rattle.gts_core.specs.declared.system.Assign.{Assign}
@@ -28,7 +28,7 @@ IsTwo is_state row = (is_state ≡ false) × AreTwo row
 
 -- an assignment that is reached and yields a value outside a domain
 pub record Leaves (rows : Rows) (domain : Domain) (a : Assign) : Type 0 where
-  pub passes : Passes (Holds rows) (assign_of a).conditions
+  pub passes : PassesConditions (Holds rows) (assign_of a).conditions
   pub value : Value
   pub yields : Yields (Holds rows) (out-Expr ℕ (assign_of a).value) value
   pub outside : domains.Holds domain value → ⊥

@@ -10,7 +10,7 @@ use Rattle.typed_expr.specs.Sets.{HasExactly}
 use Rattle.typed_expr.specs.Yields.{Yields}
 use Rattle.typed_expr.specs.declared.expr.Expr.{out-Expr}
 use Rattle.ar_meaning.specs.Systems.{Assign, Net}
-use Rattle.ar_meaning.specs.Facts.{Passes, Allows, FactOf}
+use Rattle.ar_meaning.specs.Facts.{PassesConditions, Allows, FactOf}
 use Rattle.ar_meaning.specs.Reached as reached
 
 -- the table has the value for the variable
@@ -23,8 +23,8 @@ IsSoundTable net t rows = (n : ℕ) (v : Value) → Holds rows n v → FactOf ne
 
 -- the table has what the assignment adds to it
 abbrev pub IsClosed : Net ℕ → Rows → Assign ℕ → Type 0
-IsClosed net rows a = (v : Value) → Passes (Holds rows) a.conditions → Yields (Holds rows) (out-Expr ℕ a.value) v
-    → Allows net a.target v → Holds rows a.target v
+IsClosed net rows a = (v : Value) → PassesConditions (Holds rows) a.conditions → Yields (Holds rows) (out-Expr ℕ
+    a.value) v → Allows net a.target v → Holds rows a.target v
 
 -- the table keeps its facts, and may have got more of them
 pub record Moves (net : Net ℕ) (old new : Rows) : Type 0 where

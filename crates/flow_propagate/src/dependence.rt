@@ -2,7 +2,7 @@
 
 ghost use Rattle.std.specs.Prelude.{◌≡◌, ◌<◌, ◌+◌, ◌^◌, if◌then◌else◌, length, IfOk};
 ghost use Rattle.gts_core.specs.Sound.{IsSound};
-ghost use Rattle.ar_meaning.specs.Dependence.{Reads, AreUses};
+ghost use Rattle.ar_meaning.specs.Dependence.{IsReadBy, AreUses};
 ghost use Rattle.gts_core.specs.View.{net_of};
 ghost use Rattle.flow_propagate.specs.Plan.{AreReaders};
 ghost use Rattle.flow_propagate.specs.Dependence.{flows_in, ArePlaces, AddsUse};
@@ -78,7 +78,7 @@ fn add_use(
     requires sound { IsSound parts.now }
     requires places { ArePlaces parts.now.variables.items (length parts.now.variables.items)
         places.now.before.items }
-    requires reads { Reads (net_of parts.now) variable assign }
+    requires reads { IsReadBy (net_of parts.now) variable assign }
     ensures { IfOk result (λ _. AddsUse parts.now variable assign uses.old.items uses.new.items) }
 {
     if parts.variables[variable as usize].is_state {

@@ -5,7 +5,7 @@ ghost use Rattle.domains.specs.Domains.{IsDomain, Holds as DomainHolds};
 ghost use Rattle.domains.specs.declared.Value.{Value};
 ghost use Rattle.domains.specs.declared.Value.TheVariants.{Truth};
 ghost use Rattle.typed_expr.specs.Kinds.{kind_of};
-ghost use Rattle.ar_meaning.specs.Facts.{Passes};
+ghost use Rattle.ar_meaning.specs.Facts.{PassesConditions};
 ghost use Rattle.ar_meaning.specs.Found.{IsAnswer};
 ghost use Rattle.gts_core.specs.View.{assign_of, condition_of};
 ghost use Rattle.typed_expr.specs.Rows.{row_at, first_of};
@@ -60,7 +60,7 @@ pub(crate) fn reached(
     table: &Table,
 ) -> Result<bool, Memory>
     ensures { IfOk result (λ b. IsAnswer b
-        (Passes (Holds table.now.rows.items) (map condition_of conditions.now))) }
+        (PassesConditions (Holds table.now.rows.items) (map condition_of conditions.now))) }
 {
     for (test, must) in conditions {
         let set = eval_set(alloc, test, table)?;

@@ -12,7 +12,7 @@ use Rattle.ar_meaning.specs.Image.{Assign_renames, Variable_renames, Expr_rename
 use Rattle.ar_meaning.proofs.Dependence.{tests_there}
 use Rattle.ar_meaning.proofs.ImageFlows.{partner, passes_carry, given_there, allows_there, fact_there}
 use Rattle.ar_meaning.proofs.ImageTurned.{net_turned, assign_turned}
-use Rattle.flow_reasons.specs.Rounds.{Adds, Round}
+use Rattle.flow_reasons.specs.Rounds.{AddsFact, Round}
 use Rattle.flow_reasons.specs.Reasons.{Reason, IsNamedFact, IsDerived, IsReason, derived, reset, AreReasonsFrom, none, state, flow, InCone, named, rested_on}
 
 -- what holds here holds there
@@ -20,8 +20,8 @@ module _ {V W : Type 0} (same : V → W → Type 0) (A : Net V) (B : Net W) (ima
   adds_there : (P : V → Value → Type 0) (Q : W → Value → Type 0)
       → ((x : V) (y : W) (v : Value) → same x y → P x v → Q y v)
       → (x : V) (y : W) (v : Value) → same x y → (a : Assign V) (b : Assign W) → Assign_renames same a b
-      → Adds A P x v a
-      → Adds B Q y v b
+      → AddsFact A P x v a
+      → AddsFact B Q y v b
   adds_there P Q kept x y v s a b r h = record {
     is_target = image.one x b.target y (subst (λ z. same z b.target) h.is_target r.target) s;
     passes = passes_carry V W P Q same kept h.passes r.conditions;

@@ -10,7 +10,7 @@ use Rattle.domains.specs.declared.Value.TheVariants.{Truth}
 use Rattle.typed_expr.specs.Sets.{HasExactly}
 use Rattle.typed_expr.specs.Yields.{Yields, facts_of}
 use Rattle.typed_expr.specs.declared.expr.Expr.{Expr, out-Expr}
-use Rattle.ar_meaning.specs.Facts.{Passes, none, one_and}
+use Rattle.ar_meaning.specs.Facts.{PassesConditions, none, one_and}
 use Rattle.ar_meaning.specs.Found.{IsAnswer}
 use Rattle.gts_core.specs.Readings.{values_at, one_or_none}
 use Rattle.gts_core.specs.View.{numbered, condition_of, assign_of}
@@ -69,10 +69,10 @@ module _ (values : List Value) (marks : List Mark) where
 
   -- the conditions from a place on decide
   pub record Decides (cs : List (Expr VarId × Bool)) (i : ℕ) : Type 0 where
-    pub on : Passes (Known values marks) (map condition_of (drop i cs))
-        → Passes (Known values marks) (map condition_of cs)
-    pub off : Passes (Known values marks) (map condition_of cs)
-        → Passes (Known values marks) (map condition_of (drop i cs))
+    pub on : PassesConditions (Known values marks) (map condition_of (drop i cs))
+        → PassesConditions (Known values marks) (map condition_of cs)
+    pub off : PassesConditions (Known values marks) (map condition_of cs)
+        → PassesConditions (Known values marks) (map condition_of (drop i cs))
 
   pub decides_start : (cs : List (Expr VarId × Bool)) → Decides cs 0
   decides_start cs = record { on = λ h. h; off = λ h. h }
@@ -83,35 +83,36 @@ module _ (values : List Value) (marks : List Mark) where
     split = at_drop_more (λ (xs : List (Expr VarId × Bool)). xs) cs i c h
         ∙ ap (λ (z : Expr VarId × Bool). z ∷ drop (i + 1) cs) (sym is)
 
-    head : (d : Expr ℕ × Bool) (ds : List (Expr ℕ × Bool)) → Passes (Known values marks) (d ∷ ds)
-        → Yields (Known values marks) (out-Expr ℕ d.0) (Truth d.1) × Passes (Known values marks) ds
+    head : (d : Expr ℕ × Bool) (ds : List (Expr ℕ × Bool)) → PassesConditions (Known values marks) (d ∷ ds)
+        → Yields (Known values marks) (out-Expr ℕ d.0) (Truth d.1) × PassesConditions (Known values marks) ds
     head d ds (one_and y p) = (y, p)
 
-    there : Passes (Known values marks) (map condition_of (drop i cs))
+    there : PassesConditions (Known values marks) (map condition_of (drop i cs))
         → Yields (Known values marks) (out-Expr ℕ (numbered c.0)) (Truth c.1)
-        × Passes (Known values marks) (map condition_of (drop (i + 1) cs))
-    there p = head _ _ (subst (λ (xs : List (Expr VarId × Bool)). Passes (Known values marks) (map condition_of xs))
-        split p)
+        × PassesConditions (Known values marks) (map condition_of (drop (i + 1) cs))
+    there p = head _ _ (subst (λ (xs : List (Expr VarId × Bool)). PassesConditions (Known values marks) (map
+        condition_of xs)) split p)
 
     back : Yields (Known values marks) (out-Expr ℕ (numbered c.0)) (Truth c.1)
-        → Passes (Known values marks) (map condition_of (drop (i + 1) cs))
-        → Passes (Known values marks) (map condition_of (drop i cs))
-    back y p = subst (λ (xs : List (Expr VarId × Bool)). Passes (Known values marks) (map condition_of xs)) (sym split)
-        (one_and y p)
+        → PassesConditions (Known values marks) (map condition_of (drop (i + 1) cs))
+        → PassesConditions (Known values marks) (map condition_of (drop i cs))
+    back y p = subst (λ (xs : List (Expr VarId × Bool)). PassesConditions (Known values marks) (map condition_of xs))
+        (sym split) (one_and y p)
 
     pub decides_on : Decides cs i → Yields (Known values marks) (out-Expr ℕ (numbered c.0)) (Truth c.1)
         → Decides cs (i + 1)
     decides_on r y = record { on = λ p. r.on (back y p); off = λ p. (there (r.off p)).1 }
 
     pub decides_not : Decides cs i → (Yields (Known values marks) (out-Expr ℕ (numbered c.0)) (Truth c.1) → ⊥)
-        → Passes (Known values marks) (map condition_of cs) → ⊥
+        → PassesConditions (Known values marks) (map condition_of cs) → ⊥
     decides_not r n p = n (there (r.off p)).0
 
   pub decides_all : (cs : List (Expr VarId × Bool)) (i : ℕ) → length cs ≤ i → Decides cs i
-      → Passes (Known values marks) (map condition_of cs)
+      → PassesConditions (Known values marks) (map condition_of cs)
   decides_all cs i h r =
       let e : drop i cs ≡ [] = at_drop_all (λ (xs : List (Expr VarId × Bool)). xs) cs i h in
-      r.on (subst (λ (xs : List (Expr VarId × Bool)). Passes (Known values marks) (map condition_of xs)) (sym e) none)
+      r.on (subst (λ (xs : List (Expr VarId × Bool)). PassesConditions (Known values marks) (map condition_of xs))
+      (sym e) none)
 
   -- the mark that was tested
   pub open_from : (n : ℕ) → n < length marks → is_fact_found (slice_get marks n) ≡ false → IsOpen marks n
@@ -125,7 +126,7 @@ module _ (values : List Value) (marks : List Mark) where
   -- the answer for an assignment that is reached
   pub brings_answer : (a : Assign) (set : List Value) (v : Value) (b : Bool) → IsOpen marks a.target.n
       → Stands values a.target.n v
-      → Passes (Known values marks) (assign_of a).conditions
+      → PassesConditions (Known values marks) (assign_of a).conditions
       → HasExactly set (Yields (Known values marks) (out-Expr ℕ (numbered a.value))) → IsAnswer b (Contains set v)
       → IsAnswer b (Brings values marks a)
   brings_answer a set v b o s p h ans = turned_answer b (Contains set v) (Brings values marks a)

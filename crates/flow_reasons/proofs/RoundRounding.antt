@@ -3,10 +3,10 @@ use Rattle.std.proofs.Common.{◌≡◌, ◌≤◌, ◌+◌, ℕ, zero, suc, Lis
 use Rattle.ar_base.specs.Lists.{Stands}
 use Rattle.ar_base.proofs.Standing.{at_most, one_contains, contains_one, one_cases, one_first, one_rest}
 use Rattle.domains.specs.declared.Value.{Value}
-use Rattle.typed_expr.specs.Pairs.{Pair, Has}
+use Rattle.typed_expr.specs.Pairs.{Pair, HasPair}
 use Rattle.typed_expr.proofs.Facts.{yields_more, nothing_holds}
 use Rattle.ar_meaning.specs.Systems.{Variable, Net}
-use Rattle.ar_meaning.specs.Facts.{given, assigned, Allows, IsGiven, FactOf}
+use Rattle.ar_meaning.specs.Facts.{given, assigned, Allows, HasStateValue, FactOf}
 use Rattle.ar_meaning.proofs.Least.{closed, passes_more}
 use Rattle.flow_reasons.specs.Rounds.{IsAdded, Round}
 
@@ -26,7 +26,7 @@ module _ {V : Type 0} (net : Net V) (t : List Value) where
       → IsAdded net P x v → FactOf net t x v
   added_fact P facts x v h =
       subst (λ z. FactOf net t z v) h.adds.is_target
-      (closed net.assertions (Allows net) (IsGiven net t) h.assign v h.is_one
+      (closed net.assertions (Allows net) (HasStateValue net t) h.assign v h.is_one
       (passes_more V P (FactOf net t) facts h.adds.passes) (yields_more V P (FactOf net t) facts h.adds.yields)
       (subst (λ z. Allows net z v) (sym h.adds.is_target) h.adds.allowed))
 
@@ -37,8 +37,8 @@ module _ {V : Type 0} (net : Net V) (t : List Value) where
   round_fact (suc k) x v (inr h) = added_fact (Round net t k) (round_fact k) x v h
 
   -- finitely many pairs, each of which stands after some rounds, stand together after some
-  bounded : (K : List (Pair V)) → ((x : V) (v : Value) → Has K x v → (k : ℕ) × Round net t k x v)
-      → (m : ℕ) × ((x : V) (v : Value) → Has K x v → Round net t m x v)
+  bounded : (K : List (Pair V)) → ((x : V) (v : Value) → HasPair K x v → (k : ℕ) × Round net t k x v)
+      → (m : ℕ) × ((x : V) (v : Value) → HasPair K x v → Round net t m x v)
   bounded [] h = (0, λ x v m. absurd (nothing_holds x v m))
   bounded (p ∷ K) h =
       let a = h p.0 p.1 (contains_one (p ∷ K) p (one_first p K)) in
@@ -62,8 +62,8 @@ module _ {V : Type 0} (net : Net V) (t : List Value) where
           is_one = o;
           adds = record {
             is_target = refl;
-            passes = passes_more V (Has K) (Round net t b.0) b.1 p;
-            yields = yields_more V (Has K) (Round net t b.0) b.1 y;
+            passes = passes_more V (HasPair K) (Round net t b.0) b.1 p;
+            yields = yields_more V (HasPair K) (Round net t b.0) b.1 y;
             allowed = l;
           };
         }),

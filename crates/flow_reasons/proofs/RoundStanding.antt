@@ -8,7 +8,7 @@ use Rattle.ar_meaning.specs.Systems.{Variable, Net}
 use Rattle.ar_meaning.specs.Facts.{FactOf}
 use Rattle.ar_meaning.specs.Flows.{HasTwo, Flows, Total, all_hold}
 use Rattle.ar_meaning.proofs.OneAnswer.{first_same, same_value, head_has_not, rest_has_no}
-use Rattle.flow_reasons.specs.Rounds.{Round, Adds}
+use Rattle.flow_reasons.specs.Rounds.{Round, AddsFact}
 use Rattle.flow_reasons.specs.Reasons.{Reason, IsNamedFact, RestsOn, IsDerived, IsReason, derived, reset, AreReasonsFrom, none, state, flow, AreReasons}
 use Rattle.flow_reasons.proofs.RoundRounding.{round_grows, round_fact}
 
@@ -106,8 +106,8 @@ module _ {V : Type 0} (net : Net V) (t : List Value) where
         omega (arith, a, b, d.round, f.round)
 
     rests_one : (k : ℕ) (v : Value) (m m' : ℕ) (ns ns' : List ℕ)
-        → (a : IsFirst net.assertions (Adds net (Round net t k) x.key v) m)
-        → (b : IsFirst net.assertions (Adds net (Round net t k) x.key v) m')
+        → (a : IsFirst net.assertions (AddsFact net (Round net t k) x.key v) m)
+        → (b : IsFirst net.assertions (AddsFact net (Round net t k) x.key v) m')
         → RestsOn net (Round net t k) a.item ns → RestsOn net (Round net t k) b.item ns' → ns ≡ ns'
     rests_one k v m m' ns ns' a b g h =
         let e = first_same a b in
@@ -120,7 +120,8 @@ module _ {V : Type 0} (net : Net V) (t : List Value) where
     derived_one r q i d f =
         let e = rounds_one r q d f in
         let u = one_fact r.value q.value (derived_fact x r d) (derived_fact x q f) in
-        let P : ℕ → Value → Type 0 = λ k v. (a : IsFirst net.assertions (Adds net (Round net t k) x.key v) d.assertion)
+        let P : ℕ → Value → Type 0 =
+        λ k v. (a : IsFirst net.assertions (AddsFact net (Round net t k) x.key v) d.assertion)
         × RestsOn net (Round net t k) a.item r.rests_on in
         let start : P d.before r.value = (d.first, d.rests_on) in
         let p : P f.before q.value = subst (λ v. P f.before v) u (subst (λ k. P k r.value) e start) in

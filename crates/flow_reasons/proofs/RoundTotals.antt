@@ -3,13 +3,13 @@ use Rattle.std.proofs.Common.{ℕ, zero, suc, List, inl, inr}
 use Rattle.domains.specs.declared.Value.{Value}
 use Rattle.typed_expr.proofs.Facts.{yields_more}
 use Rattle.ar_meaning.specs.Systems.{Assign, Variable, Net}
-use Rattle.ar_meaning.specs.Facts.{IsGiven, Allows, given, FactOf}
+use Rattle.ar_meaning.specs.Facts.{HasStateValue, Allows, given, FactOf}
 use Rattle.ar_meaning.specs.Flows.{Completes, Flows, Total, all_hold}
 use Rattle.ar_meaning.specs.Flows as flows
 use Rattle.ar_meaning.proofs.Least.{least, closed, passes_more}
 use Rattle.ar_meaning.proofs.StatesAlone.{Same_states, same_at, turned}
 use Rattle.ar_meaning.proofs.StatesAlone as states
-use Rattle.flow_reasons.specs.Rounds.{Adds, Round}
+use Rattle.flow_reasons.specs.Rounds.{AddsFact, Round}
 use Rattle.flow_reasons.specs.Reasons.{Reason, IsNamedFact, IsDerived, IsReason, derived, reset, AreReasonsFrom, none, state, flow}
 
 -- a completed valuation has the values of the state variables
@@ -25,7 +25,7 @@ pub states_of : {V : Type 0} {net : Net V} {t total : List Value} → Flows net 
 states_of (all_hold n m c b) = completed_states c
 
 module _ {V : Type 0} (net : Net V) (t u : List Value) (same : Same_states net.variables t u) where
-  given_same : (x : V) (v : Value) → IsGiven net t x v → IsGiven net u x v
+  given_same : (x : V) (v : Value) → HasStateValue net t x v → HasStateValue net u x v
   given_same x v h = record {
     place = h.place;
     variable = h.variable;
@@ -36,7 +36,7 @@ module _ {V : Type 0} (net : Net V) (t u : List Value) (same : Same_states net.v
   }
 
   adds_same : (P Q : V → Value → Type 0) → ((x : V) (v : Value) → P x v → Q x v) → (x : V) (v : Value) (a : Assign V)
-      → Adds net P x v a → Adds net Q x v a
+      → AddsFact net P x v a → AddsFact net Q x v a
   adds_same P Q kept x v a h = record {
     is_target = h.is_target;
     passes = passes_more V P Q kept h.passes;
@@ -54,8 +54,8 @@ module _ {V : Type 0} (net : Net V) (t u : List Value) (same : Same_states net.v
   })
 
   pub fact_same : (x : V) (v : Value) → FactOf net t x v → FactOf net u x v
-  fact_same = least net.assertions (Allows net) (IsGiven net t) (FactOf net u) (λ x v h. given (given_same x v h))
-      (λ a v m p y l. closed net.assertions (Allows net) (IsGiven net u) a v m p y l)
+  fact_same = least net.assertions (Allows net) (HasStateValue net t) (FactOf net u) (λ x v h. given (given_same x v h))
+      (λ a v m p y l. closed net.assertions (Allows net) (HasStateValue net u) a v m p y l)
 
 module _ {V : Type 0} (net : Net V) (t u : List Value) (same : Same_states net.variables t u) where
   back : Same_states net.variables u t

@@ -9,12 +9,12 @@ use Rattle.typed_expr.specs.declared.expr.Expr.{out-Expr}
 use Rattle.typed_expr.proofs.Facts.{yields_more, yields_named}
 use Rattle.ar_meaning.specs.Systems as s
 use Rattle.ar_meaning.specs.Dependence.{Names}
-use Rattle.ar_meaning.specs.Facts.{Passes, Allows, IsGiven}
+use Rattle.ar_meaning.specs.Facts.{PassesConditions, Allows, HasStateValue}
 use Rattle.ar_meaning.proofs.ByNumber.{given_from}
 use Rattle.ar_meaning.proofs.Dependence.{passes_named}
 use Rattle.ar_meaning.proofs.Least.{least, passes_more}
 use Rattle.ar_meaning.proofs.Outcomes.{one_told}
-use Rattle.flow_reasons.specs.Rounds.{Round, Adds}
+use Rattle.flow_reasons.specs.Rounds.{Round, AddsFact}
 use Rattle.flow_reasons.proofs.RoundRounding.{round_grows, round_fact, added_fact}
 use Rattle.gts_core.specs.Sound.{IsSound}
 use Rattle.gts_core.specs.View.{net_of, assign_of, variable_of}
@@ -92,7 +92,7 @@ module _ (p : GtsParts) (sound : IsSound p) (values : List Value) (standing : Is
 
     -- an assignment that brings something adds it
     pub brings_adds : (a : Assign) → (b : Brings values old a)
-        → Adds net (Round net values k) a.target.n b.value (assign_of a)
+        → AddsFact net (Round net values k) a.target.n b.value (assign_of a)
     brings_adds a b = record {
       is_target = refl;
       passes = passes_more ℕ (Known values old) (Round net values k) known_round b.passes;
@@ -102,7 +102,7 @@ module _ (p : GtsParts) (sound : IsSound p) (values : List Value) (standing : Is
 
     -- an assignment that adds to an open variable brings something
     pub adds_brings : (j : ℕ) (a : Assign) → Stands p.assigns.items j a → (n : ℕ) (v : Value)
-        → Adds net (Round net values k) n v (assign_of a)
+        → AddsFact net (Round net values k) n v (assign_of a)
         → IsOpen old n → BringsAt p values old j
     adds_brings j a st n v h o =
         let e : a.target.n ≡ n = h.is_target in
@@ -153,7 +153,7 @@ module _ (p : GtsParts) (sound : IsSound p) (values : List Value) (standing : Is
 
       -- what the marked variable got
       marked_adds : (n : ℕ) (m : Mark) (v : Value) → (q : IsMarkedBy p found round n m) → Stands values n v
-          → (a : Assign) × Stands p.assigns.items q.by.n a × Adds net (Round net values k) n v (assign_of a)
+          → (a : Assign) × Stands p.assigns.items q.by.n a × AddsFact net (Round net values k) n v (assign_of a)
       marked_adds n m v q sv =
           let b = (all.each q.by.n).0 q.is_one in
           let e = stands_one p.assigns.items q.by.n b.assign q.is_to.assign b.stands q.is_to.stands in
@@ -163,8 +163,8 @@ module _ (p : GtsParts) (sound : IsSound p) (values : List Value) (standing : Is
           let h = brings_adds b.assign b.brings in (
             b.assign,
             b.stands,
-            subst (λ z. Adds net (Round net values k) n z (assign_of b.assign)) i
-                (subst (λ z. Adds net (Round net values k) z b.brings.value (assign_of b.assign)) t h),
+            subst (λ z. AddsFact net (Round net values k) n z (assign_of b.assign)) i
+                (subst (λ z. AddsFact net (Round net values k) z b.brings.value (assign_of b.assign)) t h),
           )
 
       sound_next : (n : ℕ) (v : Value) → Known values new n v → Round net values (suc k) n v
@@ -183,8 +183,8 @@ module _ (p : GtsParts) (sound : IsSound p) (values : List Value) (standing : Is
       whole_next n v (inl h) = known_more n v (are.whole n v h)
       whole_next n v (inr h) =
           let b = stands_map_back assign_of p.assigns.items h.is_one.place h.assign h.is_one.stands in
-          let adds : Adds net (Round net values k) n v (assign_of b.0) =
-          subst (λ (z : s.Assign ℕ). Adds net (Round net values k) n v z) (sym b.2) h.adds in
+          let adds : AddsFact net (Round net values k) n v (assign_of b.0) =
+          subst (λ (z : s.Assign ℕ). AddsFact net (Round net values k) n v z) (sym b.2) h.adds in
           let sv = fact_stands p sound values standing n v
           (added_fact net values (Round net values k) (round_fact net values k) n v h) in
           let l = stands_within values n v sv in
@@ -217,8 +217,8 @@ module _ (p : GtsParts) (sound : IsSound p) (values : List Value) (standing : Is
                   has = r.2;
                   before = λ j b l sb h.
                       let c = stands_map_back assign_of p.assigns.items j b sb in
-                      let g : Adds net (Round net values k) n v (assign_of c.0) =
-                      subst (λ (z : s.Assign ℕ). Adds net (Round net values k) n v z) (sym c.2) h in
+                      let g : AddsFact net (Round net values k) n v (assign_of c.0) =
+                      subst (λ (z : s.Assign ℕ). AddsFact net (Round net values k) n v z) (sym c.2) h in
                       let at = adds_brings j c.0 c.1 n v g o in
                       let f = q.least j ((all.each j).1 at) (record { assign = c.0; stands = c.1; is = g.is_target }) in
                       omega (arith, l, f);
@@ -277,15 +277,16 @@ module _ (p : GtsParts) (sound : IsSound p) (values : List Value) (standing : Is
     marks_last found all none = record {
       rounds = k;
       are = are;
-      facts = least net.assertions (Allows net) (IsGiven net values) (Known values old)
+      facts = least net.assertions (Allows net) (HasStateValue net values) (Known values old)
           (λ n v g. are.whole n v (round_grows net values 0 k (omega arith) n v g)) last;
     }
       where
-        last : (a : s.Assign ℕ) (v : Value) → IsOneOf net.assertions a → Passes (Known values old) a.conditions
+        last : (a : s.Assign ℕ) (v : Value) → IsOneOf net.assertions a
+            → PassesConditions (Known values old) a.conditions
             → Yields (Known values old) (out-Expr ℕ a.value) v → Allows net a.target v → Known values old a.target v
         last a v o q y l =
             let b = stands_map_back assign_of p.assigns.items o.place a o.stands in
-            let adds : Adds net (Round net values k) a.target v a = record {
+            let adds : AddsFact net (Round net values k) a.target v a = record {
               is_target = refl;
               passes = passes_more ℕ (Known values old) (Round net values k) known_round q;
               yields = yields_more ℕ (Known values old) (Round net values k) known_round y;
@@ -300,7 +301,7 @@ module _ (p : GtsParts) (sound : IsSound p) (values : List Value) (standing : Is
               | inl i ↦ record { mark = m.0; stands = m.1; is = i; value = sv }
               | inr u ↦ absurd (none o.place ((all.each o.place).1
                   (adds_brings o.place b.0 b.1 a.target v
-                  (subst (λ (z : s.Assign ℕ). Adds net (Round net values k) a.target v z) (sym b.2) adds) u)))
+                  (subst (λ (z : s.Assign ℕ). AddsFact net (Round net values k) a.target v z) (sym b.2) adds) u)))
             ]
 
 -- what is brought comes to an open variable, which then has its fact

@@ -7,7 +7,7 @@ use Rattle.typed_expr.specs.Yields.{Yields}
 use Rattle.typed_expr.specs.declared.expr.Expr.{out-Expr}
 use Rattle.typed_expr.proofs.Facts.{yields_named}
 use Rattle.ar_meaning.specs.Systems.{Assign, Variable, Net}
-use Rattle.ar_meaning.specs.Facts.{Passes, FactOf}
+use Rattle.ar_meaning.specs.Facts.{PassesConditions, FactOf}
 use Rattle.ar_meaning.specs.Dependence.{Names}
 use Rattle.ar_meaning.proofs.Dependence.{passes_named}
 use Rattle.flow_reasons.specs.Rounds.{Round, OfThese}
@@ -36,14 +36,14 @@ module _ {V : Type 0} (net : Net V) (t : List Value) (x : Variable V) (r : Reaso
       }
 
   pub suffices : (n : ℕ) (a : Assign V) → r.by ≡ Some n → Stands net.assertions n a
-      → Passes (OfThese net r.rests_on (FactOf net t)) a.conditions
+      → PassesConditions (OfThese net r.rests_on (FactOf net t)) a.conditions
       × Yields (OfThese net r.rests_on (FactOf net t)) (out-Expr V a.value) r.value
   suffices n a by s =
       let e : d.assertion ≡ n = cc (d.by, by) in
       let i = stands_one net.assertions n d.first.item a
       (subst (λ m. Stands net.assertions m d.first.item) e d.first.stands) s in
       let P : Assign V → Type 0 = λ b.
-      Passes (OfThese net r.rests_on (FactOf net t)) b.conditions
+      PassesConditions (OfThese net r.rests_on (FactOf net t)) b.conditions
       × Yields (OfThese net r.rests_on (FactOf net t)) (out-Expr V b.value) r.value in
       subst P i (
         passes_named (λ y v m h. named y v (inr m) h) d.first.has.passes,

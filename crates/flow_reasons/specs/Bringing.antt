@@ -6,8 +6,8 @@ use Rattle.ar_base.specs.Sets.{Ascends}
 use Rattle.domains.specs.declared.Value.{Value}
 use Rattle.typed_expr.specs.Yields.{Yields}
 use Rattle.typed_expr.specs.declared.expr.Expr.{out-Expr}
-use Rattle.ar_meaning.specs.Dependence.{Reads}
-use Rattle.ar_meaning.specs.Facts.{Passes}
+use Rattle.ar_meaning.specs.Dependence.{IsReadBy}
+use Rattle.ar_meaning.specs.Facts.{PassesConditions}
 use Rattle.gts_core.specs.View.{net_of, assign_of}
 use Rattle.gts_core.specs.declared.system.Assign.{Assign}
 use Rattle.gts_core.specs.declared.system.GtsParts.{GtsParts}
@@ -26,7 +26,7 @@ pub record Brings (values : List Value) (marks : List Mark) (a : Assign) : Type 
   pub is_open : IsOpen marks a.target.n
   pub value : Value
   pub is_value : Stands values a.target.n value
-  pub passes : Passes (Known values marks) (assign_of a).conditions
+  pub passes : PassesConditions (Known values marks) (assign_of a).conditions
   pub yields : Yields (Known values marks) (out-Expr ℕ (assign_of a).value) value
 
 -- the same of the assignment of this number
@@ -71,4 +71,4 @@ pub record MarksAll (p : GtsParts) (bringing : List ℕ) (round : ℕ) (old new 
 pub record NameOne (p : GtsParts) (fresh : List ℕ) (n : ℕ) : Type 0 where
   pub variable : ℕ
   pub is_one : IsOneOf fresh variable
-  pub reads : Reads (net_of p) variable n
+  pub reads : IsReadBy (net_of p) variable n

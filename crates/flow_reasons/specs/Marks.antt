@@ -4,7 +4,7 @@ use Rattle.ar_base.specs.Lists.{Stands, IsFirst}
 use Rattle.domains.specs.declared.Value.{Value}
 use Rattle.ar_meaning.specs.Facts.{FactOf}
 use Rattle.ar_meaning.specs.Flows.{Flows, Total}
-use Rattle.flow_reasons.specs.Rounds.{Round, Adds}
+use Rattle.flow_reasons.specs.Rounds.{Round, AddsFact}
 use Rattle.gts_core.specs.View.{net_of}
 use Rattle.gts_core.specs.Readings.{IsTotal, values_at}
 use Rattle.gts_core.specs.declared.system.Variable.{Variable}
@@ -49,7 +49,7 @@ pub record IsAddedIn (p : GtsParts) (values : List Value) (n : ℕ) (v : Value) 
   pub before : ℕ
   pub is_round : round ≡ suc before
   pub not_yet : Round (net_of p) values before n v → ⊥
-  pub first : IsFirst (net_of p).assertions (Adds (net_of p) (Round (net_of p) values before) n v) by
+  pub first : IsFirst (net_of p).assertions (AddsFact (net_of p) (Round (net_of p) values before) n v) by
 
 -- what the mark of a variable with this value says
 abbrev pub Says : GtsParts → List Value → ℕ → Variable → Value → Mark → Type 0

@@ -8,7 +8,7 @@ use Rattle.typed_expr.specs.declared.expr.Expr.{Expr, out-Expr}
 use Rattle.ar_meaning.specs.Systems.{Assign, Variable, Net}
 use Rattle.ar_meaning.specs.Facts.{FactOf}
 use Rattle.ar_meaning.specs.Dependence.{Names}
-use Rattle.flow_reasons.specs.Rounds.{Round, Adds}
+use Rattle.flow_reasons.specs.Rounds.{Round, AddsFact}
 
 -- a reason by numbers: the flow, its value, the round, the assignment that adds the value if one does, and the
 -- variables that it rests on
@@ -43,7 +43,7 @@ pub record IsDerived {V : Type 0} (net : Net V) (t : List Value) (x : Variable V
   pub not_yet : Round net t before x.key r.value → ⊥
   pub assertion : ℕ
   pub by : r.by ≡ Some assertion
-  pub first : IsFirst net.assertions (Adds net (Round net t before) x.key r.value) assertion
+  pub first : IsFirst net.assertions (AddsFact net (Round net t before) x.key r.value) assertion
   pub rests_on : RestsOn net (Round net t before) first.item r.rests_on
 
 -- no fact comes for the flow, and it has its reset: in no round, by no assignment, and resting on nothing

@@ -5,14 +5,14 @@ use Rattle.domains.specs.declared.Value.{Value}
 use Rattle.typed_expr.specs.Yields.{Yields}
 use Rattle.typed_expr.specs.declared.expr.Expr.{out-Expr}
 use Rattle.ar_meaning.specs.Systems.{Assign, Variable, Net}
-use Rattle.ar_meaning.specs.Facts.{Passes, Allows, IsGiven}
+use Rattle.ar_meaning.specs.Facts.{PassesConditions, Allows, HasStateValue}
 
 -- the assignment is one to the variable, the facts reach it, and from them it yields the value, which the variable's
 -- domain has
-pub record Adds {V : Type 0} (net : Net V) (facts : V → Value → Type 0) (x : V) (v : Value) (a : Assign V) : Type
+pub record AddsFact {V : Type 0} (net : Net V) (facts : V → Value → Type 0) (x : V) (v : Value) (a : Assign V) : Type
     0 where
   pub is_target : a.target ≡ x
-  pub passes : Passes facts a.conditions
+  pub passes : PassesConditions facts a.conditions
   pub yields : Yields facts (out-Expr V a.value) v
   pub allowed : Allows net x v
 
@@ -20,12 +20,12 @@ pub record Adds {V : Type 0} (net : Net V) (facts : V → Value → Type 0) (x :
 pub record IsAdded {V : Type 0} (net : Net V) (facts : V → Value → Type 0) (x : V) (v : Value) : Type 0 where
   pub assign : Assign V
   pub is_one : IsOneOf net.assertions assign
-  pub adds : Adds net facts x v assign
+  pub adds : AddsFact net facts x v assign
 
 -- what stands after so many rounds: after none what the state gives, and after one more what stood before it and what
 -- the assertions add from that
 abbrev pub Round : {V : Type 0} → Net V → List Value → ℕ → V → Value → Type 0
-Round net t zero x v = IsGiven net t x v
+Round net t zero x v = HasStateValue net t x v
 Round net t (suc k) x v = Round net t k x v ⊎ IsAdded net (Round net t k) x v
 
 -- of the facts those of these variables alone

@@ -3,7 +3,7 @@
 ghost use Rattle.std.specs.Prelude.{◌≡◌, ◌<◌, ◌∷◌, [], true, length, map, slice_get, IfOk, Contains};
 ghost use Rattle.domains.specs.declared.Value.{Value};
 ghost use Rattle.typed_expr.specs.Kinds.{kind_of};
-ghost use Rattle.ar_meaning.specs.Facts.{Passes};
+ghost use Rattle.ar_meaning.specs.Facts.{PassesConditions};
 ghost use Rattle.ar_meaning.specs.Found.{IsAnswer};
 ghost use Rattle.gts_core.specs.View.{condition_of};
 ghost use Rattle.gts_core.specs.Readings.{value_at};
@@ -89,7 +89,7 @@ fn reached(
     known: &Known<'_>,
 ) -> Result<bool, Memory>
     ensures { IfOk result (λ b. IsAnswer b
-        (Passes (IsKnown known.now.values.now known.now.marks.now)
+        (PassesConditions (IsKnown known.now.values.now known.now.marks.now)
         (map condition_of conditions.now))) }
 {
     for (test, must) in conditions {

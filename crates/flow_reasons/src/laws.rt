@@ -6,7 +6,7 @@ ghost use Rattle.domains.specs.declared.Value.{Value};
 ghost use Rattle.typed_expr.specs.Yields.{Yields};
 ghost use Rattle.typed_expr.specs.declared.expr.Expr.{Expr, out-Expr};
 ghost use Rattle.ar_meaning.specs.Systems.{Assign, Variable, Net, System};
-ghost use Rattle.ar_meaning.specs.Facts.{Passes, FactOf};
+ghost use Rattle.ar_meaning.specs.Facts.{PassesConditions, FactOf};
 ghost use Rattle.ar_meaning.specs.Flows.{Flows, Total};
 ghost use Rattle.ar_meaning.specs.Image.{Expr_renames};
 ghost use Rattle.ar_meaning.specs.FlatOf.{IsNumber, IsFlatOf};
@@ -28,7 +28,7 @@ pub fn reasons_suffice<V>()
     ensures facts { (net : Net V) (t : List Value) (x : Variable V) (r : Reason)
         → IsDerived net t x r
         → (n : ℕ) (a : Assign V) → r.by ≡ Some n → Stands net.assertions n a
-        → Passes (OfThese net r.rests_on (FactOf net t)) a.conditions
+        → PassesConditions (OfThese net r.rests_on (FactOf net t)) a.conditions
         × Yields (OfThese net r.rests_on (FactOf net t)) (out-Expr V a.value) r.value }
 {}
 

@@ -20,7 +20,8 @@ use Rattle.eq_core.specs.Gates.{Operand, Gate, Table}
 use Rattle.eq_core.specs.Values.{value_at}
 use Rattle.firable_families.specs.Firable.{IsFirableOf, ListsLeast}
 use Rattle.firable_families.proofs.Listing.{true_lists, least_listed}
-use Rattle.gate_diagrams.specs.Needed.{family_at, IsNeeded, IsNeededByBoth, IsConflictAt, NodesMay}
+use Rattle.gate_diagrams.specs.Needed.{family_at, IsNeeded, IsNeededByBoth}
+use Rattle.gate_diagrams.specs.NodeLimits.{IsConflictAt, NodesMay}
 use Rattle.gate_diagrams.specs.Needed.IsNeeded.{of_firable}
 use Rattle.gate_diagrams.proofs.Filters.{of_members}
 use Rattle.gate_diagrams.proofs.Needing.{minimal_drawn}

@@ -24,7 +24,8 @@ use Rattle.mode_diagrams.specs.Agreement.{Agrees, AreClosed}
 use Rattle.mode_diagrams.specs.Numbers.{HasFewEdges, IsByModes}
 use Rattle.mode_diagrams.specs.Sets.{AreSmall, HasSets, IsTrueFrom}
 use Rattle.mode_diagrams.specs.declared.listing.Listed.{Listed}
-use Rattle.gate_diagrams.specs.Needed.{family_at, own, named, IsNeeded, IsNeededByBoth, itself, NodesMay}
+use Rattle.gate_diagrams.specs.Needed.{family_at, own, named, IsNeeded, IsNeededByBoth, itself}
+use Rattle.gate_diagrams.specs.NodeLimits.{NodesMay}
 use Rattle.gate_diagrams.specs.Needed.IsNeeded.{of_signed}
 use Rattle.gate_diagrams.specs.declared.answer.Drawn.{Drawn}
 use Rattle.gate_diagrams.specs.declared.answer.Drawn.TheVariants.{Conflicts, Cuts}

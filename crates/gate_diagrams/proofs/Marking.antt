@@ -7,7 +7,7 @@ use Rattle.eq_core.specs.Gates.{Operand, Always, Never, EventIs, GateIs, Gate}
 use Rattle.eq_core.specs.Ordered.{AreBelow, AreOrdered}
 use Rattle.eq_core.specs.Values.{IsBelow}
 use Rattle.eq_core.proofs.Telling.{place_below}
-use Rattle.gate_diagrams.specs.Needed.{InCone, own, named}
+use Rattle.gate_diagrams.specs.Needed.{InGateCone, own, named}
 use Rattle.gate_diagrams.specs.Drawing.{AreMarks, Marks}
 
 pub marks_none : (m : List Bool) → Marks [] m m
@@ -52,7 +52,7 @@ all_below gates l n gate a s h = record { each = λ o i. below_more l n o h ((pl
 pub record IsMarking (gates : List Gate) (o : Operand) (left : ℕ) (marks : List Bool) : Type 0 where
   pub long : length marks ≡ length gates
   pub left_in : left ≤ length gates
-  pub sound : (g : ℕ) → Stands marks g true → InCone gates o g
+  pub sound : (g : ℕ) → Stands marks g true → InGateCone gates o g
   pub own : (g : ℕ) (sign : Bool) → o ≡ GateIs g sign → Stands marks g true
   pub closed : (g h : ℕ) (gate : Gate) (sign : Bool) → left ≤ g → Stands marks g true → Stands gates g gate
       → IsOneOf gate.operands (GateIs h sign) → Stands marks h true
@@ -113,7 +113,7 @@ pub marking_ends : (gates : List Gate) (o : Operand) (marks : List Bool) → IsM
     → AreMarks gates o marks
 marking_ends gates o marks i = record { long = i.long; sound = i.sound; whole = λ g c l. all_of c }
   where
-    all_of : {g : ℕ} → InCone gates o g → Stands marks g true
+    all_of : {g : ℕ} → InGateCone gates o g → Stands marks g true
     all_of {g = g} (own {sign = sign} e) = i.own g sign e
     all_of {g = g} (named {g = k} {gate = gate} {sign = sign} c s x) =
         i.closed k g gate sign (omega arith) (all_of c) s x

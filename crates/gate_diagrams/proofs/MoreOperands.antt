@@ -7,7 +7,7 @@ use Rattle.zdd_nodes.specs.Nodes.{NodeId, Stored, family, IsNumber, Draws}
 use Rattle.zdd_nodes.specs.declared.NodeFault.{NodeFault}
 use Rattle.zdd_nodes.proofs.Growing.{Draws-refused, Draws-after, kept}
 use Rattle.eq_core.specs.Gates.{Operand, Gate}
-use Rattle.gate_diagrams.specs.Needed.{family_at, joint_family, IsNamed, of_gate, IsNeeded}
+use Rattle.gate_diagrams.specs.Needed.{family_at, joint_family, IsOperandInCone, of_gate, IsNeeded}
 use Rattle.gate_diagrams.specs.Drawing.{IsReady, IsTable}
 use Rattle.gate_diagrams.proofs.Needing.{met_drawn, joined_drawn}
 
@@ -26,7 +26,7 @@ module _ (gates : List Gate) (o : Operand) (g : ℕ) (gate : Gate) (table : List
   abbrev Then : Family
   Then = joint_family all gates gate.both (take (k + 1) gate.operands)
 
-  pub is_named : IsNamed gates o p
+  pub is_named : IsOperandInCone gates o p
   is_named = of_gate ready.cone ready.stands (record { place = k; stands = next })
 
   pub is_in_table : IsTable all gates table s p

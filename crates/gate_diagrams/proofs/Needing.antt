@@ -11,7 +11,7 @@ use Rattle.zdd_nodes.proofs.Growing.{Draws-weaker}
 use Rattle.eq_core.specs.Gates.{Operand, EventIs, GateIs, Gate, opposite}
 use Rattle.eq_core.specs.Ordered.{AreOrdered}
 use Rattle.eq_core.proofs.Telling.{place_below}
-use Rattle.gate_diagrams.specs.Needed.{family_at, joint_family, InCone, IsNamed, IsNeeded}
+use Rattle.gate_diagrams.specs.Needed.{family_at, joint_family, InGateCone, IsOperandInCone, IsNeeded}
 use Rattle.gate_diagrams.specs.Needed.IsNeeded.{of_firable, of_signed, of_plain, of_first, of_half}
 use Rattle.gate_diagrams.proofs.Filters.{family_of_event, family_of_opposite, joint_first, joint_meet, joint_union, family_of_gate}
 
@@ -34,12 +34,12 @@ module _ (all : Family) (gates : List Gate) (o : Operand) where
   firable_drawn s t r d = counted_drawn all all s t r refl (λ h c. of_firable c) d
 
   pub event_drawn : (e : ℕ) (sign : Bool) (s t : Stored) (r : Result NodeId NodeFault)
-      → IsNamed gates o (EventIs e sign)
+      → IsOperandInCone gates o (EventIs e sign)
       → Draws (IsCounted (having all e)) (having all e) s t r → Draws N (family_at all gates (EventIs e true)) s t r
   event_drawn e sign s t r n d = counted_drawn (having all e) (family_at all gates (EventIs e true)) s t r
       (sym (family_of_event all gates e)) (λ h c. of_plain (EventIs e sign) n c) d
 
-  pub opposite_drawn : (p : Operand) (s t : Stored) (r : Result NodeId NodeFault) → IsNamed gates o (opposite p)
+  pub opposite_drawn : (p : Operand) (s t : Stored) (r : Result NodeId NodeFault) → IsOperandInCone gates o (opposite p)
       → (let made = minus all (family_at all gates p) in Draws (IsCounted made) made s t r) → Draws N (family_at all gates (opposite p)) s t r
   opposite_drawn p s t r n d = counted_drawn (minus all (family_at all gates p)) (family_at all gates (opposite p)) s t
       r (sym (family_of_opposite all gates p)) (λ h c. of_signed (opposite p) n c) d
@@ -51,7 +51,7 @@ module _ (all : Family) (gates : List Gate) (o : Operand) where
       (λ h c. of_half c) d
 
   -- a gate of the cone, a further operand after so many
-  module _ (g : ℕ) (gate : Gate) (cone : InCone gates o g) (stands : Stands gates g gate) (k : ℕ) (p : Operand)
+  module _ (g : ℕ) (gate : Gate) (cone : InGateCone gates o g) (stands : Stands gates g gate) (k : ℕ) (p : Operand)
       (next : Stands gate.operands k p) where
     abbrev So_far : Family
     So_far = joint_family all gates gate.both (take k gate.operands)

@@ -6,12 +6,12 @@ use Rattle.zdd_nodes.specs.Nodes.{NodeId, Stored, family, IsNumber, Draws}
 use Rattle.zdd_nodes.specs.declared.NodeFault.{NodeFault}
 use Rattle.zdd_nodes.proofs.Growing.{Draws-stays, Draws-refused, Draws-after, kept}
 use Rattle.eq_core.specs.Gates.{Operand, Always, Never, EventIs, GateIs, Gate}
-use Rattle.gate_diagrams.specs.Needed.{family_at, IsNamed, IsNeeded}
+use Rattle.gate_diagrams.specs.Needed.{family_at, IsOperandInCone, IsNeeded}
 use Rattle.gate_diagrams.specs.Drawing.{IsDrawn}
 use Rattle.gate_diagrams.proofs.Filters.{family_of_always, family_of_never}
 use Rattle.gate_diagrams.proofs.Needing.{event_drawn, opposite_drawn}
 
-module _ (gates : List Gate) (root p : Operand) (named : IsNamed gates root p) (s : Stored) (f : ℕ)
+module _ (gates : List Gate) (root p : Operand) (named : IsOperandInCone gates root p) (s : Stored) (f : ℕ)
     (f_in : IsNumber s f) where
   abbrev all : Family
   all = family s f
@@ -29,7 +29,7 @@ module _ (gates : List Gate) (root p : Operand) (named : IsNamed gates root p) (
 
   event_plain : (e : ℕ) (sign : Bool) → p ≡ EventIs e sign → (t : Stored) (r : Result NodeId NodeFault)
       → Draws (IsCounted (having all e)) (having all e) s t r → Draws N (family_at all gates (EventIs e true)) s t r
-  event_plain e sign q t r d = event_drawn all gates root e sign s t r (subst (IsNamed gates root) q named) d
+  event_plain e sign q t r d = event_drawn all gates root e sign s t r (subst (IsOperandInCone gates root) q named) d
 
   pub event_refused : (e : ℕ) (sign : Bool) → p ≡ EventIs e sign → (t : Stored) (x : NodeFault)
       → Draws (IsCounted (having all e)) (having all e) s t (Err x) → Draws N (family_at all gates p) s t (Err x)
@@ -47,7 +47,7 @@ module _ (gates : List Gate) (root p : Operand) (named : IsNamed gates root p) (
       let a = event_plain e false q t (Ok n) d in
       let m : minus (family t f) (family t n.n) ≡ minus all (family_at all gates (EventIs e true)) =
       ap₂ minus (kept N s t f a.grows f_in) a.ok.1 in
-      let b = opposite_drawn all gates root (EventIs e true) t u r (subst (IsNamed gates root) q named)
+      let b = opposite_drawn all gates root (EventIs e true) t u r (subst (IsOperandInCone gates root) q named)
       (subst (λ z. Draws (IsCounted z) z t u r) m k) in
       subst (λ z. Draws N (family_at all gates z) s u r) (sym q)
       (Draws-after N (family_at all gates (EventIs e false)) s t u r a.grows b)
@@ -60,4 +60,4 @@ module _ (gates : List Gate) (root p : Operand) (named : IsNamed gates root p) (
       → (t : Stored) (r : Result NodeId NodeFault)
       → (let made = minus all (family s n.n) in Draws (IsCounted made) made s t r) → Draws N (family_at all gates p) s t r
   gate_negated g q n d t r k = subst (λ z. Draws N (family_at all gates z) s t r) (sym q)
-      (opposite_drawn all gates root (GateIs g true) s t r (subst (IsNamed gates root) q named) (subst (λ z. let made = minus all z in Draws (IsCounted made) made s t r) d.is k))
+      (opposite_drawn all gates root (GateIs g true) s t r (subst (IsOperandInCone gates root) q named) (subst (λ z. let made = minus all z in Draws (IsCounted made) made s t r) d.is k))

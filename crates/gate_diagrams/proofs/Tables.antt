@@ -12,7 +12,7 @@ use Rattle.eq_core.specs.Gates.{Operand, GateIs, Gate}
 use Rattle.eq_core.specs.Ordered.{AreOrdered}
 use Rattle.eq_core.specs.Values.{IsBelow}
 use Rattle.eq_core.proofs.Telling.{place_below}
-use Rattle.gate_diagrams.specs.Needed.{family_at, InCone, own, named, IsNeeded}
+use Rattle.gate_diagrams.specs.Needed.{family_at, InGateCone, own, named, IsNeeded}
 use Rattle.gate_diagrams.specs.Drawing.{IsDrawn, IsTable, IsReady}
 
 -- want of memory is no full store
@@ -24,7 +24,7 @@ pub record IsDrawing (all : Family) (gates : List Gate) (o : Operand) (k : ℕ) 
     (old s : Stored) : Type 0 where
   pub grows : Grows (IsNeeded all gates o) old s
   pub long : length table ≡ k
-  pub drawn : (g : ℕ) (n : NodeId) → InCone gates o g → Stands table g n → IsDrawn all gates (GateIs g true) s n.n
+  pub drawn : (g : ℕ) (n : NodeId) → InGateCone gates o g → Stands table g n → IsDrawn all gates (GateIs g true) s n.n
 
 pub drawing_begins : (all : Family) (gates : List Gate) (o : Operand) (s : Stored) → IsDrawing all gates o 0 [] s s
 drawing_begins all gates o s = record
@@ -46,7 +46,7 @@ module _ (gates : List Gate) (o : Operand) (f : ℕ) (old : Stored) (f_in : IsNu
   firable_in = still N old s f d.grows f_in
 
   -- the next gate, where it is in the cone, can be drawn
-  pub ready_next : AreOrdered gates → IsInOrder all → (gate : Gate) → InCone gates o (length table)
+  pub ready_next : AreOrdered gates → IsInOrder all → (gate : Gate) → InGateCone gates o (length table)
       → Stands gates (length table) gate
       → IsReady (family s f) gates o (length table) gate table s
   ready_next a i gate c h = subst (λ z. IsReady z gates o (length table) gate table s) (sym all_same) (record {
@@ -81,7 +81,7 @@ module _ (gates : List Gate) (o : Operand) (f : ℕ) (old : Stored) (f_in : IsNu
   next_memory b t r made x = memory_drawn N made old t (Grows-then N old s t d.grows (next_as b t r x).grows)
 
   -- its number goes last into the table
-  pub drawing_next : (b : Bool) (t : Stored) (n : NodeId) → (InCone gates o (length table) → b ≡ true)
+  pub drawing_next : (b : Bool) (t : Stored) (n : NodeId) → (InGateCone gates o (length table) → b ≡ true)
       → Draws (IsNeeded (family s f) gates o) (cond b (family_at (family s f) gates (GateIs (length table) true)) []) s
       t (Ok n)
       → IsDrawing all gates o (k + 1) (table ++ n ∷ []) old t
@@ -95,11 +95,11 @@ module _ (gates : List Gate) (o : Operand) (f : ℕ) (old : Stored) (f_in : IsNu
             (λ i. at g m i.0 i.1 c y.ok) (slice_get-push_cases table n g m h);
       }
     where
-      at : (g : ℕ) (m : NodeId) → g ≡ length table → m ≡ n → InCone gates o g
+      at : (g : ℕ) (m : NodeId) → g ≡ length table → m ≡ n → InGateCone gates o g
           → IsNumber t n.n × (family t n.n ≡ cond b (family_at all gates (GateIs (length table) true)) [])
           → IsDrawn all gates (GateIs g true) t m.n
       at g m e q c y =
-          let z : b ≡ true = marked (subst (InCone gates o) e c) in
+          let z : b ≡ true = marked (subst (InGateCone gates o) e c) in
           subst (λ z. IsDrawn all gates (GateIs z true) t m.n) (sym e)
           (subst (λ z. IsDrawn all gates (GateIs (length table) true) t z.n) (sym q)
           (record {

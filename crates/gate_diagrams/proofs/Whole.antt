@@ -19,7 +19,8 @@ use Rattle.eq_core.specs.Gates.{Table}
 use Rattle.firable_families.specs.Firable.{IsFirableOf}
 use Rattle.firable_families.specs.Walk.{left, AreTreeFamilies}
 use Rattle.firable_families.proofs.Trees.{walk_lists}
-use Rattle.gate_diagrams.specs.Needed.{IsNeeded, IsNeededByBoth, NodesMay}
+use Rattle.gate_diagrams.specs.Needed.{IsNeeded, IsNeededByBoth}
+use Rattle.gate_diagrams.specs.NodeLimits.{NodesMay}
 use Rattle.gate_diagrams.specs.Needed.IsNeeded.{of_firable}
 use Rattle.gate_diagrams.specs.Walked.{families_left}
 use Rattle.gate_diagrams.specs.Answers.{AreNeeded}

@@ -7,7 +7,8 @@ use Rattle.zdd_nodes.specs.Nodes.{Stored, family, IsNumber}
 use Rattle.eq_core.specs.Gates.{Table}
 use Rattle.eq_core.specs.Values.{value_at}
 use Rattle.firable_families.specs.Firable.{ListsLeast}
-use Rattle.gate_diagrams.specs.Needed.{IsNeeded, IsNeededByBoth, IsConflictAt}
+use Rattle.gate_diagrams.specs.Needed.{IsNeeded, IsNeededByBoth}
+use Rattle.gate_diagrams.specs.NodeLimits.{IsConflictAt}
 use Rattle.gate_diagrams.specs.declared.answer.Drawn.{Drawn}
 use Rattle.gate_diagrams.specs.declared.answer.Drawn.TheVariants.{Conflicts, Cuts}
 

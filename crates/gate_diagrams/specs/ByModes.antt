@@ -11,7 +11,8 @@ use Rattle.firable_families.specs.Firable.{IsFirableOf}
 use Rattle.mode_diagrams.specs.declared.trees.NumberedTree.{NumberedTree}
 use Rattle.mode_diagrams.specs.Numbers.{IsByModes}
 use Rattle.mode_diagrams.specs.declared.listing.Listed.{Listed}
-use Rattle.gate_diagrams.specs.Needed.{family_at, NodesMay}
+use Rattle.gate_diagrams.specs.Needed.{family_at}
+use Rattle.gate_diagrams.specs.NodeLimits.{NodesMay}
 use Rattle.gate_diagrams.specs.Answers.{IsAnswer, AreNeeded, store_of}
 use Rattle.gate_diagrams.specs.declared.answer.Drawn.{Drawn}
 

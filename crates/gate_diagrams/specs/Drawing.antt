@@ -5,13 +5,13 @@ use Rattle.zdd_families.specs.Families.{Family, IsInOrder}
 use Rattle.zdd_nodes.specs.Nodes.{NodeId, Stored, family, IsNumber}
 use Rattle.eq_core.specs.Gates.{Operand, GateIs, Gate}
 use Rattle.eq_core.specs.Ordered.{AreOrdered}
-use Rattle.gate_diagrams.specs.Needed.{family_at, InCone}
+use Rattle.gate_diagrams.specs.Needed.{family_at, InGateCone}
 
 -- a mark for each gate, true exactly for those of the operand's cone
 pub record AreMarks (gates : List Gate) (o : Operand) (marks : List Bool) : Type 0 where
   pub long : length marks ≡ length gates
-  pub sound : (g : ℕ) → Stands marks g true → InCone gates o g
-  pub whole : (g : ℕ) → InCone gates o g → g < length gates → Stands marks g true
+  pub sound : (g : ℕ) → Stands marks g true → InGateCone gates o g
+  pub whole : (g : ℕ) → InGateCone gates o g → g < length gates → Stands marks g true
 
 -- the gates that these operands name are marked, and those that were so before
 pub record Marks (os : List Operand) (old new : List Bool) : Type 0 where
@@ -36,6 +36,6 @@ pub record IsReady (all : Family) (gates : List Gate) (o : Operand) (g : ℕ) (g
     (s : Stored) : Type 0 where
   pub ordered : AreOrdered gates
   pub in_order : IsInOrder all
-  pub cone : InCone gates o g
+  pub cone : InGateCone gates o g
   pub stands : Stands gates g gate
   pub operands : (p : Operand) → IsOneOf gate.operands p → IsTable all gates table s p

@@ -1,4 +1,5 @@
 pub mod Needed
+pub mod NodeLimits
 pub mod Drawing
 pub mod Walked
 pub mod Answers

@@ -3,13 +3,10 @@
 use Rattle.std.specs.Prelude.{◌≡◌, ◌<◌, ◌≤◌, ◌⊎◌, ℕ, Bool, true, List, length, take}
 use Rattle.std.specs.List.{filter}
 use Rattle.ar_base.specs.Lists.{Stands, IsOneOf}
-use Rattle.ar_firing.specs.Forest.{ModeTree}
-use Rattle.ar_firing.specs.Listed.{AreListed}
 use Rattle.zdd_families.specs.Families.{Family}
-use Rattle.zdd_families.specs.Sections.{IsCounted, IsHalf, IsMoreThan}
+use Rattle.zdd_families.specs.Sections.{IsCounted, IsHalf}
 use Rattle.eq_core.specs.Gates.{Operand, Always, Never, EventIs, GateIs, Gate, Table}
 use Rattle.eq_core.specs.Values.{values_at, joint_at, value_at}
-use Rattle.firable_families.specs.Firable.{IsFirableOf, IsTrueAt}
 
 -- the sets at which the operand is true
 unfoldable pub family_at : Family → List Gate → Operand → Family
@@ -27,42 +24,30 @@ plain (EventIs e sign) = EventIs e true
 plain (GateIs g sign) = GateIs g true
 
 -- the gate is the operand's, or one that an operand of such a gate names
-pub data InCone (gates : List Gate) (o : Operand) : ℕ → Type 0 where
-  own : {g : ℕ} {sign : Bool} → o ≡ GateIs g sign → InCone gates o g
-  named : {g h : ℕ} {gate : Gate} {sign : Bool} → InCone gates o g → Stands gates g gate
-      → IsOneOf gate.operands (GateIs h sign) → InCone gates o h
+pub data InGateCone (gates : List Gate) (o : Operand) : ℕ → Type 0 where
+  own : {g : ℕ} {sign : Bool} → o ≡ GateIs g sign → InGateCone gates o g
+  named : {g h : ℕ} {gate : Gate} {sign : Bool} → InGateCone gates o g → Stands gates g gate
+      → IsOneOf gate.operands (GateIs h sign) → InGateCone gates o h
 
 -- p is the operand, or an operand of a gate of its cone
-pub data IsNamed (gates : List Gate) (o : Operand) : Operand → Type 0 where
-  itself : {p : Operand} → p ≡ o → IsNamed gates o p
-  of_gate : {g : ℕ} {gate : Gate} {p : Operand} → InCone gates o g → Stands gates g gate → IsOneOf gate.operands p
-      → IsNamed gates o p
+pub data IsOperandInCone (gates : List Gate) (o : Operand) : Operand → Type 0 where
+  itself : {p : Operand} → p ≡ o → IsOperandInCone gates o p
+  of_gate : {g : ℕ} {gate : Gate} {p : Operand} → InGateCone gates o g → Stands gates g gate → IsOneOf gate.operands p
+      → IsOperandInCone gates o p
 
 -- where `all` are the firable sets, h is a counted section of: them; the family of a named operand with or without its
 -- sign; that of a gate of the cone; that of the first so many of its operands, met or joined as the gate says; or it is
 -- a half of the operand's own family
 pub data IsNeeded (all : Family) (gates : List Gate) (o : Operand) (h : Family) : Type 0 where
   of_firable : IsCounted all h → IsNeeded all gates o h
-  of_signed : (p : Operand) → IsNamed gates o p → IsCounted (family_at all gates p) h → IsNeeded all gates o h
-  of_plain : (p : Operand) → IsNamed gates o p → IsCounted (family_at all gates (plain p)) h → IsNeeded all gates o h
-  of_whole : (g : ℕ) → InCone gates o g → IsCounted (family_at all gates (GateIs g true)) h → IsNeeded all gates o h
-  of_first : (g : ℕ) (gate : Gate) (k : ℕ) → InCone gates o g → Stands gates g gate → 0 < k → k ≤ length gate.operands
-      → IsCounted (joint_family all gates gate.both (take k gate.operands)) h → IsNeeded all gates o h
+  of_signed : (p : Operand) → IsOperandInCone gates o p → IsCounted (family_at all gates p) h → IsNeeded all gates o h
+  of_plain : (p : Operand) → IsOperandInCone gates o p → IsCounted (family_at all gates (plain p)) h
+      → IsNeeded all gates o h
+  of_whole : (g : ℕ) → InGateCone gates o g → IsCounted (family_at all gates (GateIs g true)) h → IsNeeded all gates o h
+  of_first : (g : ℕ) (gate : Gate) (k : ℕ) → InGateCone gates o g → Stands gates g gate → 0 < k → k ≤ length
+      gate.operands → IsCounted (joint_family all gates gate.both (take k gate.operands)) h → IsNeeded all gates o h
   of_half : IsHalf (family_at all gates o) h → IsNeeded all gates o h
 
 -- h is needed for the table's conflict operand or for its top operand
 abbrev pub IsNeededByBoth : Family → Table → Family → Type 0
 IsNeededByBoth all table h = IsNeeded all table.gates table.conflict h ⊎ IsNeeded all table.gates table.top h
-
--- the set is firable in the trees, and the table's conflict operand is true at it
-abbrev pub IsConflictAt : List ModeTree → Table → List ℕ → Type 0
-IsConflictAt trees table set = IsTrueAt trees (value_at table.gates table.conflict) set
-
--- a limit of nodes may be reached: where the conflict operand is true at a firable set, more families than the limit
--- are needed for it; where it is true at none, more are needed for it and the top operand together
-pub record NodesMay (trees : List ModeTree) (table : Table) (limit : ℕ) : Type 0 where
-  pub all : Family
-  pub is_all : AreListed (IsFirableOf trees) all
-  pub where_some : (set : List ℕ) → IsConflictAt trees table set
-      → IsMoreThan limit (IsNeeded all table.gates table.conflict)
-  pub where_none : ((set : List ℕ) → IsConflictAt trees table set → ⊥) → IsMoreThan limit (IsNeededByBoth all table)

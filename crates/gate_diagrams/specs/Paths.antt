@@ -5,7 +5,7 @@ use Rattle.std.specs.Ordering.{int_eq}
 use Rattle.ar_base.specs.Lists.{Stands, IsOneOf}
 use Rattle.ar_base.specs.Sets.{Within}
 use Rattle.domains.specs.declared.Value.{Value}
-use Rattle.domains.specs.Values.{rank_of, number_of}
+use Rattle.domains.specs.Values.{rank_of, number_in_rank}
 use Rattle.ar_firing.specs.Forest.{Row, ModeTree}
 use Rattle.zdd_nodes.specs.Nodes.{NodeId, Stored, family, IsNumber, Grows}
 use Rattle.firable_families.specs.Entries.{IsEntry, HasEntries}
@@ -16,7 +16,7 @@ Extends old new = Grows (λ h. Unit {0}) old new
 
 -- a mode as a key of a table
 abbrev pub key_of : Value → ℕ × ℤ
-key_of m = (rank_of m, number_of m)
+key_of m = (rank_of m, number_in_rank m)
 
 -- whether two keys are one
 abbrev pub same_key : ℕ × ℤ → ℕ × ℤ → Bool

@@ -11,7 +11,8 @@ ghost use Rattle.eq_core.specs.Ordered.{AreOrdered, IsOrderedTable};
 ghost use Rattle.eq_core.specs.Values.{IsBelow};
 ghost use Rattle.eq_core.specs.Views.{gate_of, operand_of, table_of};
 ghost use Rattle.firable_families.specs.Firable.{IsFirableOf};
-ghost use Rattle.gate_diagrams.specs.Needed.{family_at, IsNeeded, NodesMay};
+ghost use Rattle.gate_diagrams.specs.Needed.{family_at, IsNeeded};
+ghost use Rattle.gate_diagrams.specs.NodeLimits.{NodesMay};
 ghost use Rattle.gate_diagrams.specs.Answers.{IsAnswer, AreNeeded, store_of};
 
 use crate::draw::draw;

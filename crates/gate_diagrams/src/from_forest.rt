@@ -8,7 +8,7 @@ ghost use Rattle.zdd_families.specs.Families.{Family as Sets};
 ghost use Rattle.eq_core.specs.Ordered.{IsOrderedTable};
 ghost use Rattle.eq_core.specs.Views.{table_of};
 ghost use Rattle.firable_families.specs.Firable.{IsFirableOf};
-ghost use Rattle.gate_diagrams.specs.Needed.{NodesMay};
+ghost use Rattle.gate_diagrams.specs.NodeLimits.{NodesMay};
 ghost use Rattle.gate_diagrams.specs.Answers.{IsAnswer, AreNeeded, store_of};
 
 use crate::answer::{Drawn, answer};

@@ -6,7 +6,7 @@ ghost use Rattle.zdd_families.specs.Sections.{IsCounted};
 ghost use Rattle.zdd_nodes.specs.Nodes.{family, IsNumber, Draws};
 ghost use Rattle.eq_core.specs.Gates.{GateIs};
 ghost use Rattle.eq_core.specs.Views.{all_needed, gate_of, operand_of};
-ghost use Rattle.gate_diagrams.specs.Needed.{family_at, joint_family, IsNamed, IsNeeded};
+ghost use Rattle.gate_diagrams.specs.Needed.{family_at, joint_family, IsOperandInCone, IsNeeded};
 ghost use Rattle.gate_diagrams.specs.Drawing.{IsTable, IsReady};
 
 use eq_core::{Gate, Joint, Operand};
@@ -25,7 +25,7 @@ pub(crate) fn operand(
     requires firable_in { IsNumber ops.old firable.n }
     requires table { IsTable (family ops.old firable.n) (map gate_of gates.now) table.now ops.old
         (operand_of operand) }
-    requires named { IsNamed (map gate_of gates.now) (operand_of root) (operand_of operand) }
+    requires named { IsOperandInCone (map gate_of gates.now) (operand_of root) (operand_of operand) }
     ensures drawn { Draws (IsNeeded (family ops.old firable.n) (map gate_of gates.now)
         (operand_of root))
         (family_at (family ops.old firable.n) (map gate_of gates.now) (operand_of operand)) ops.old

@@ -14,8 +14,8 @@ use Rattle.zdd_families.proofs.Ascending.{IsAscending, is_ascending, ascends_fro
 use Rattle.zdd_families.proofs.Laws.{same-true, same-refl}
 use Rattle.zdd_families.proofs.Members.{holds_law}
 use Rattle.zdd_families.proofs.Minimal.{member_of}
-use Rattle.gate_modules.specs.Modules.{lies, inside, outside, joined, IsPart, IsModule, AreApart}
-use Rattle.gate_modules.specs.Shortened.{Form, touches, is_covered, same_form, once}
+use Rattle.gate_modules.specs.Modules.{lies, inside, outside, joined_sets, IsPartOfUnit, IsModule, AreApart}
+use Rattle.gate_modules.specs.Shortened.{ShortForm, touches, is_covered, same_form, once}
 use Rattle.gate_modules.specs.declared.ranges.Range.{Range}
 use Rattle.gate_modules.proofs.Forming.{passed_one}
 use Rattle.gate_modules.proofs.Splitting.{all_filter}
@@ -84,12 +84,12 @@ has_one_of (t ∷ f) s i = elim (one_cases t f s i) [
 ]
 
 -- ---- forms, each once
-one_form : (a b : Form) → same_form a b ≡ true → a ≡ b
+one_form : (a b : ShortForm) → same_form a b ≡ true → a ≡ b
 one_form a b h =
     let p = and_parts (same a.units b.units) (same a.events b.events) h in
-    ap₂ (λ x y. (let z : Form = record { units = x; events = y } in z)) (same-true a.units b.units p.0) (same-true a.events b.events p.1)
+    ap₂ (λ x y. (let z : ShortForm = record { units = x; events = y } in z)) (same-true a.units b.units p.0) (same-true a.events b.events p.1)
 
-kept_one : (q : Form → Bool) (xs : List Form) (a : Form) → IsOneOf (filter q xs) a → IsOneOf xs a
+kept_one : (q : ShortForm → Bool) (xs : List ShortForm) (a : ShortForm) → IsOneOf (filter q xs) a → IsOneOf xs a
 kept_one q [] a i = i
 kept_one q (x ∷ xs) a i = step (kept_one q xs a) (q x) i
   where
@@ -99,7 +99,8 @@ kept_one q (x ∷ xs) a i = step (kept_one q xs a) (q x) i
         [ inl e ↦ subst (IsOneOf (x ∷ xs)) e (one_first x xs) | inr j ↦ one_rest x xs a (ih j) ]
     step ih false i = one_rest x xs a (ih i)
 
-one_kept : (q : Form → Bool) (xs : List Form) (a : Form) → IsOneOf xs a → q a ≡ true → IsOneOf (filter q xs) a
+one_kept : (q : ShortForm → Bool) (xs : List ShortForm) (a : ShortForm) → IsOneOf xs a → q a ≡ true
+    → IsOneOf (filter q xs) a
 one_kept q [] a i h = i
 one_kept q (x ∷ xs) a i h = step (λ j. one_kept q xs a j h) (q x) refl (one_cases x xs a i)
   where
@@ -110,18 +111,18 @@ one_kept q (x ∷ xs) a i h = step (λ j. one_kept q xs a j h) (q x) refl (one_c
     step ih false e (inl is) = absurd (true≢false (sym h ∙ sym (ap q is) ∙ e))
     step ih false e (inr j) = ih j
 
-pub once_sound : (xs : List Form) (a : Form) → IsOneOf (once xs) a → IsOneOf xs a
+pub once_sound : (xs : List ShortForm) (a : ShortForm) → IsOneOf (once xs) a → IsOneOf xs a
 once_sound [] a i = i
 once_sound (x ∷ xs) a i = elim (one_cases x (filter (λ b. not (same_form x b)) (once xs)) a i) [
   | inl e ↦ subst (IsOneOf (x ∷ xs)) e (one_first x xs)
   | inr j ↦ one_rest x xs a (once_sound xs a (kept_one (λ b. not (same_form x b)) (once xs) a j))
 ]
 
-pub once_whole : (xs : List Form) (a : Form) → IsOneOf xs a → IsOneOf (once xs) a
+pub once_whole : (xs : List ShortForm) (a : ShortForm) → IsOneOf xs a → IsOneOf (once xs) a
 once_whole [] a i = i
 once_whole (x ∷ xs) a i = step (once_whole xs a) (same_form x a) refl (one_cases x xs a i)
   where
-    q : Form → Bool
+    q : ShortForm → Bool
     q b = not (same_form x b)
 
     first : x ≡ a → IsOneOf (x ∷ filter (λ b. not (same_form x b)) (once xs)) a
@@ -200,11 +201,11 @@ free chosen s = filter (λ e. not (is_covered chosen e)) s
 
 module _ (f : Family) where
   -- an event of a part is of its range
-  part_lies : (r : Range) (a : List ℕ) → IsPart f r a → (e : ℕ) → holds e a ≡ true → lies r e ≡ true
+  part_lies : (r : Range) (a : List ℕ) → IsPartOfUnit f r a → (e : ℕ) → holds e a ≡ true → lies r e ≡ true
   part_lies r a p e h = (and_parts (lies r e) (holds e p.set)
       (sym (holds_filter e (lies r) p.set) ∙ ap (holds e) p.is ∙ h)).0
 
-  pub parts_covered : (rs : List Range) (parts : List (List ℕ)) → Along (IsPart f) rs parts → (e : ℕ)
+  pub parts_covered : (rs : List Range) (parts : List (List ℕ)) → Along (IsPartOfUnit f) rs parts → (e : ℕ)
       → list_any (holds e) parts ≡ true → is_covered rs e ≡ true
   parts_covered [] [] none e h = absurd (true≢false (sym h))
   parts_covered [] (y ∷ ys) k e h = elim k [ ]
@@ -225,7 +226,7 @@ module _ (f : Family) where
   exchanged_events false l p h = refl
 
   joined_events : (r : Range) (a s : List ℕ) (e : ℕ)
-      → holds e (joined r a (outside r s)) ≡ (holds e a || (not (lies r e) && holds e s))
+      → holds e (joined_sets r a (outside r s)) ≡ (holds e a || (not (lies r e) && holds e s))
   joined_events r a s e =
       let low = λ (x : ℕ). nat_lt x r.from in
       let high = λ (x : ℕ). not (nat_lt x r.from) in
@@ -237,16 +238,16 @@ module _ (f : Family) where
       ∙ ap (λ z. holds e a || z) (holds_filter e high rest ∙ ap (λ z. not (nat_lt e r.from) && z) in_rest))
       ∙ exchanged_events (nat_lt e r.from) (lies r e) (holds e a) (holds e s)
 
-  exchange : (r : Range) → IsModule f r → (a : List ℕ) → IsPart f r a → (s : List ℕ) → has f s ≡ true
-      → touches s r ≡ true → has f (joined r a (outside r s)) ≡ true
+  exchange : (r : Range) → IsModule f r → (a : List ℕ) → IsPartOfUnit f r a → (s : List ℕ) → has f s ≡ true
+      → touches s r ≡ true → has f (joined_sets r a (outside r s)) ≡ true
   exchange r m a p s h t = m.exchanged a (outside r s) p
       (record { set = s; among = h; touched = filter_some (lies r) s t; is = refl })
 
   still_touches : (r c : Range) → AreApart r c → (a s : List ℕ) → touches s c ≡ true
-      → touches (joined r a (outside r s)) c ≡ true
+      → touches (joined_sets r a (outside r s)) c ≡ true
   still_touches r c apart a s t =
       let w = any_event (lies c) s t in
-      event_any (lies c) (joined r a (outside r s)) w.0
+      event_any (lies c) (joined_sets r a (outside r s)) w.0
       (joined_events r a s w.0 ∙ or_right (holds w.0 a) (not (lies r w.0) && holds w.0 s)
       (and_from (not (lies r w.0)) (holds w.0 s) (ap not (false_from_ne_true (lies r w.0) (λ l. apart w.0 l w.2)))
       w.1)) w.2
@@ -267,7 +268,7 @@ module _ (f : Family) where
     pub among : has f set ≡ true
     pub each : (e : ℕ) → holds e set ≡ (list_any (holds e) parts || (holds e s && not (is_covered rs e)))
 
-  pub exchange_all : (rs : List Range) (parts : List (List ℕ)) → Along (IsPart f) rs parts → Apart rs
+  pub exchange_all : (rs : List Range) (parts : List (List ℕ)) → Along (IsPartOfUnit f) rs parts → Apart rs
       → ((c : Range) → IsOneOf rs c → IsModule f c)
       → (s : List ℕ) → has f s ≡ true → ((c : Range) → IsOneOf rs c → touches s c ≡ true) → Exchanged rs parts s
   exchange_all [] [] none a m s h t = record { set = s; among = h; each = λ e. stays (holds e s) }
@@ -278,14 +279,14 @@ module _ (f : Family) where
   exchange_all [] (y ∷ ys) k a m s h t = elim k [ ]
   exchange_all (x ∷ xs) [] k a m s h t = elim k [ ]
   exchange_all (r ∷ rs) (a ∷ parts) (one_and p ps) ap m s h t =
-      let one = joined r a (outside r s) in
+      let one = joined_sets r a (outside r s) in
       let all = exchange_all rs parts ps ap.1 (λ c i. m c (one_rest r rs c i)) one
       (exchange r (m r (one_first r rs)) a p s h (t r (one_first r rs)))
       (λ c i. still_touches r c (ap.0 c i) a s (t c (one_rest r rs c i))) in
       record { set = all.set; among = all.among; each = λ e. all.each e ∙ opened e }
     where
-      opened : (e : ℕ) → (list_any (holds e) parts || (holds e (joined r a (outside r s)) && not (is_covered rs e)))
-          ≡ (list_any (holds e) (a ∷ parts) || (holds e s && not (is_covered (r ∷ rs) e)))
+      opened : (e : ℕ) → (list_any (holds e) parts || (holds e (joined_sets r a (outside r s)) && not (is_covered rs
+          e))) ≡ (list_any (holds e) (a ∷ parts) || (holds e s && not (is_covered (r ∷ rs) e)))
       opened e =
           subst (λ z. (list_any (holds e) parts || (z && not (is_covered rs e)))
           ≡ (list_any (holds e) (a ∷ parts) || (holds e s && not (is_covered (r ∷ rs) e))))
@@ -294,7 +295,7 @@ module _ (f : Family) where
           (λ i. uncovered r rs ap.0 e (part_lies r a p e i)))
 
   -- ---- the parts are told by the events
-  pub recover : (rs : List Range) (parts : List (List ℕ)) → Along (IsPart f) rs parts → AllByRecursion Ascends f
+  pub recover : (rs : List Range) (parts : List (List ℕ)) → Along (IsPartOfUnit f) rs parts → AllByRecursion Ascends f
       → Apart rs → (s : List ℕ) → Ascends s
       → ((e : ℕ) → is_covered rs e ≡ true → holds e s ≡ list_any (holds e) parts) → parts ≡ map (λ r. inside r s) rs
   recover [] [] none up a s s_up h = refl
@@ -333,8 +334,8 @@ module _ (f : Family) where
           (λ k. not_both (is_covered rs e) c (uncovered r rs apart.0 e (part_lies r a p e k))))
 
   -- a range with a part has an event of what is made of the parts
-  pub part_touches : (rs : List Range) (parts : List (List ℕ)) → Along (IsPart f) rs parts → (c : Range) → IsOneOf rs c
-      → (e : ℕ) × (list_any (holds e) parts ≡ true) × (lies c e ≡ true)
+  pub part_touches : (rs : List Range) (parts : List (List ℕ)) → Along (IsPartOfUnit f) rs parts → (c : Range) → IsOneOf
+      rs c → (e : ℕ) × (list_any (holds e) parts ≡ true) × (lies c e ≡ true)
   part_touches [] [] none c i = absurd (one_none c i)
   part_touches [] (y ∷ ys) k c i = elim k [ ]
   part_touches (x ∷ xs) [] k c i = elim k [ ]

@@ -13,7 +13,7 @@ use Rattle.gate_modules.specs.Choosing.{IsWithinNone, Considers, AreChosenSoFar}
 use Rattle.gate_modules.specs.Choosing.Considers.{within, no_module, is_new}
 use Rattle.gate_modules.specs.Forms.{AreOfDifferentUnits, IsFit, AddsForms}
 use Rattle.gate_modules.specs.Modules.{lies, Covers, AreRanges, IsModule, IsRound, IsChosen, AreChosen}
-use Rattle.gate_modules.specs.Shortened.{UnitSets, Form, short_form, once, IsModuleOf, IsShortened}
+use Rattle.gate_modules.specs.Shortened.{UnitSets, ShortForm, short_form, once, IsModuleOf, IsShortened}
 use Rattle.gate_modules.specs.declared.ranges.Range.{Range}
 use Rattle.gate_modules.proofs.Exchange.{exit_has, together_part, exits_alike, in_lies}
 use Rattle.gate_modules.proofs.Splitting.{has_some}
@@ -180,7 +180,7 @@ module _ (f : Family) (ranges : List Range) (are : AreRanges ranges) where
     pub different : AreOfDifferentUnits chosen
     different = different_units chosen so.sound
 
-    pub shortened : (forms : List Form) → AddsForms chosen [] f [] forms → IsShortened f ranges modules forms
+    pub shortened : (forms : List ShortForm) → AddsForms chosen [] f [] forms → IsShortened f ranges modules forms
     shortened forms e = record {
       chosen = chosen;
       are_chosen = are_chosen;

@@ -6,7 +6,7 @@ use Rattle.zdd_families.specs.Sections.{section}
 use Rattle.zdd_families.proofs.Sections.{section-nil}
 use Rattle.zdd_nodes.specs.Nodes.{Stored, family, IsNumber, IsSoundStore}
 use Rattle.gate_modules.specs.Ends.{Alike, AgreeSome}
-use Rattle.gate_modules.specs.Modules.{joined, IsPart, IsRest, IsModule}
+use Rattle.gate_modules.specs.Modules.{joined_sets, IsPartOfUnit, IsRest, IsModule}
 use Rattle.gate_modules.specs.Walked.{AgreesSome, AreEnds, EntryAgrees}
 use Rattle.gate_modules.specs.Walked.EntryAgrees.{no_part, alike}
 use Rattle.gate_modules.specs.declared.ranges.Range.{Range}
@@ -24,7 +24,7 @@ module _ (s : Stored) (sound : IsSoundStore s) (root : ℕ) (root_in : IsNumber 
 
   -- a section of an entry that is not empty tells of a part
   pub part_of_entry : (e : ℕ) (p a : List ℕ) → family s e ≡ section r.from p (family s root) → a ≢ []
-      → section r.to a (family s e) ≢ [] → IsPart (family s root) r a
+      → section r.to a (family s e) ≢ [] → IsPartOfUnit (family s root) r a
   part_of_entry e p a is n some =
       let q = has_some (exit (family s root) r p a) (λ z. some (ap (section r.to a) is ∙ z)) in
       together_part s sound root root_in r p a q.0 n (exit_has s sound root root_in r p a q.0 n q.1)
@@ -33,7 +33,7 @@ module _ (s : Stored) (sound : IsSoundStore s) (root : ℕ) (root_in : IsNumber 
   module _ (m : IsModule (family s root) r) where
     pub follows : (e x : ℕ) (p b : List ℕ) → family s e ≡ section r.from p (family s root) → b ≢ []
         → section r.to b (family s e) ≡ family s x → family s x ≢ []
-        → (a : List ℕ) → IsPart (family s root) r a → section r.to a (family s e) ≡ family s x
+        → (a : List ℕ) → IsPartOfUnit (family s root) r a → section r.to a (family s e) ≡ family s x
     follows e x p b is n at some a i =
         ap (section r.to a) is
         ∙ exits_alike s sound root root_in r m p b a n (λ z. some (sym at ∙ ap (section r.to b) is ∙ z)) i
@@ -50,7 +50,7 @@ module _ (s : Stored) (sound : IsSoundStore s) (root : ℕ) (root_in : IsNumber 
               (family s asked.node_end.n) a) (sym to) (alike a na);
         }
       where
-        both : (a : List ℕ) → IsPart (family s root) r a
+        both : (a : List ℕ) → IsPartOfUnit (family s root) r a
             → Alike r.to (family s e) (family s e0) (family s asked.end.n) (family s asked.node_end.n) a
         both a i = inr (
           follows e asked.end.n p b is n at (not_empty s sound asked.end.n ends.end_some ends.end_in) a i,
@@ -98,7 +98,7 @@ module _ (s : Stored) (sound : IsSoundStore s) (root : ℕ) (root_in : IsNumber 
         by e is (alike x g) = (e, x, is, g)
 
     -- the parts are those of e0
-    pub part_of_reference : (a : List ℕ) → IsPart (family s root) r a → section r.to a (family s e0) ≡ family s y
+    pub part_of_reference : (a : List ℕ) → IsPartOfUnit (family s root) r a → section r.to a (family s e0) ≡ family s y
     part_of_reference a i =
         let f = part_found s sound root root_in r a i in
         let g = agrees f.p a f.q i.some f.together in
@@ -108,8 +108,8 @@ module _ (s : Stored) (sound : IsSoundStore s) (root : ℕ) (root_in : IsNumber 
           | inr some ↦ some.1
         ]
 
-    pub exchanged : (a b : List ℕ) → IsPart (family s root) r a → IsRest (family s root) r b
-        → has (family s root) (joined r a b) ≡ true
+    pub exchanged : (a b : List ℕ) → IsPartOfUnit (family s root) r a → IsRest (family s root) r b
+        → has (family s root) (joined_sets r a b) ≡ true
     exchanged a b i k =
         let f = rest_found s sound root root_in r b k in
         let g = agrees f.p f.part f.q f.some f.together in
@@ -128,7 +128,7 @@ module _ (s : Stored) (sound : IsSoundStore s) (root : ℕ) (root_in : IsNumber 
         let same : exit (family s root) r f.p a ≡ exit (family s root) r f.p f.part =
         ap (section r.to a) g.2 ∙ other ∙ sym here ∙ sym (ap (section r.to f.part) g.2) in
         let set = exit_has s sound root root_in r f.p a f.q i.some (ap (λ h. has h f.q) same ∙ there) in
-        ap (λ z. has (family s root) (joined r a z)) f.is
+        ap (λ z. has (family s root) (joined_sets r a z)) f.is
         ∙ ap (has (family s root)) (joined_three r f.p a f.q set.three a) ∙ set.whole
 
     pub module_from : (p0 one other : List ℕ) → family s e0 ≡ section r.from p0 (family s root) → one ≢ [] → other ≢ []

@@ -14,7 +14,7 @@ use Rattle.zdd_nodes.specs.Nodes.{Stored, family, IsNumber, IsSoundStore}
 use Rattle.gate_modules.specs.Ends.{IsSectionAt}
 use Rattle.gate_modules.specs.Ends.IsSectionAt.{empty, taken}
 use Rattle.gate_modules.specs.Entries.{AreEntries, AllEnd, IsEntryExit, EntryDiffers}
-use Rattle.gate_modules.specs.Modules.{IsPart, IsModule}
+use Rattle.gate_modules.specs.Modules.{IsPartOfUnit, IsModule}
 use Rattle.gate_modules.specs.Parts.{AreSomeHeads}
 use Rattle.gate_modules.specs.Deciding.{IsModuleWith}
 use Rattle.gate_modules.specs.Walked.{AtLeast, EndsBelow, HasBelow, EntryAgrees}
@@ -109,7 +109,7 @@ module _ (s : Stored) (sound : IsSoundStore s) (root : ℕ) (root_in : IsNumber 
 
     -- in a module each part is one of e0
     part_in_heads : (hs : Family) → AreSomeHeads r.to (family s e0) hs → IsModule (family s root) r → (a : List ℕ)
-        → IsPart (family s root) r a → has hs a ≡ true
+        → IsPartOfUnit (family s root) r a → has hs a ≡ true
     part_in_heads hs h m a i =
         let a0 = section_of e0 y e0_in h0 in
         let some = not_empty s sound y h0.exit.some h0.exit.inside in

@@ -10,7 +10,7 @@ use Rattle.zdd_families.proofs.Minimal.{member_of}
 use Rattle.zdd_families.proofs.OneList.{same_sets}
 use Rattle.zdd_families.proofs.Sections.{AtLeast, section-with, section-low, section-nil}
 use Rattle.zdd_nodes.specs.Nodes.{Stored, family, IsNumber, IsNode, IsSoundStore}
-use Rattle.gate_modules.specs.Modules.{lies, inside, outside, joined, IsPart, IsRest, IsModule}
+use Rattle.gate_modules.specs.Modules.{lies, inside, outside, joined_sets, IsPartOfUnit, IsRest, IsModule}
 use Rattle.gate_modules.specs.declared.ranges.Range.{Range}
 use Rattle.gate_modules.proofs.Sections.{section_end, section_lower, by_start, ByStart}
 use Rattle.gate_modules.proofs.Sections.ByStart.{with_it, without_it}
@@ -75,7 +75,7 @@ module _ (r : Range) (p part q : List ℕ) (t : Three r p part q) where
       (filter_none o part (all_weaker (λ x. lies r x ≡ true) (λ x. o x ≡ false) (λ x e. ap not e) part t.is_in))
       (filter_all o q (all_weaker (λ x. lies r x ≡ false) (λ x. o x ≡ true) (λ x e. ap not e) q high_no)))
 
-  pub joined_three : (other : List ℕ) → joined r other (p ++ q) ≡ p ++ (other ++ q)
+  pub joined_three : (other : List ℕ) → joined_sets r other (p ++ q) ≡ p ++ (other ++ q)
   joined_three other =
       let l = λ (x : ℕ). nat_lt x r.from in
       let h = λ (x : ℕ). not (nat_lt x r.from) in
@@ -222,7 +222,7 @@ module _ (s : Stored) (sound : IsSoundStore s) (root : ℕ) (root_in : IsNumber 
 
   -- a part of the unit is a part of some set
   pub together_part : (p part q : List ℕ) → part ≢ [] → Together (family s root) r p part q
-      → IsPart (family s root) r part
+      → IsPartOfUnit (family s root) r part
   together_part p part q n t = record
       { set = p ++ (part ++ q); among = t.whole; is = inside_three r p part q t.three; some = n }
 
@@ -246,7 +246,7 @@ module _ (s : Stored) (sound : IsSoundStore s) (root : ℕ) (root_in : IsNumber 
       let c = cuts r set (member_of IsAscending (family s root) set (ascending s sound root root_in) h) n in
       (c, record { three = c.three; whole = sym (ap (has (family s root)) c.is) ∙ h })
 
-  pub part_found : (part : List ℕ) → IsPart (family s root) r part → Found part
+  pub part_found : (part : List ℕ) → IsPartOfUnit (family s root) r part → Found part
   part_found part i =
       let t = set_found i.set i.among (λ e. i.some (sym i.is ∙ e)) in
       let e : t.0.part ≡ part = sym (inside_three r t.0.p t.0.part t.0.q t.0.three) ∙ sym (ap (inside r) t.0.is)
@@ -278,15 +278,15 @@ module _ (s : Stored) (sound : IsSoundStore s) (root : ℕ) (root_in : IsNumber 
   exchanged_part : (part other : List ℕ) → AllIn r other → (p q : List ℕ) → Three r p part q → Three r p other q
   exchanged_part part other a p q t = record { low = t.low; is_in = a; high = t.high; not_empty = t.not_empty }
 
-  part_in : (part : List ℕ) → IsPart (family s root) r part → AllIn r part
+  part_in : (part : List ℕ) → IsPartOfUnit (family s root) r part → AllIn r part
   part_in part i = subst (AllIn r) i.is (all_passed (lies r) i.set)
 
   -- in a module each part goes on as another
   pub exits_alike : IsModule (family s root) r → (p part other : List ℕ) → part ≢ []
-      → exit (family s root) r p part ≢ [] → IsPart (family s root) r other
+      → exit (family s root) r p part ≢ [] → IsPartOfUnit (family s root) r other
       → exit (family s root) r p other ≡ exit (family s root) r p part
   exits_alike m p part other n some i =
-      let is_part : IsPart (family s root) r part = let q = has_some (exit (family s root) r p part) some in together_part p part q.0 n (exit_has p part q.0 n q.1) in
+      let is_part : IsPartOfUnit (family s root) r part = let q = has_some (exit (family s root) r p part) some in together_part p part q.0 n (exit_has p part q.0 n q.1) in
       same_sets (exit (family s root) r p other) (exit (family s root) r p part) (in_order other) (in_order part)
       (λ q. both (has (exit (family s root) r p other) q) (has (exit (family s root) r p part) q)
       (moved other part i.some is_part q) (moved part other n i q))
@@ -302,7 +302,7 @@ module _ (s : Stored) (sound : IsSoundStore s) (root : ℕ) (root_in : IsNumber 
           let j = section_number s sound r.to t k.0 k.1 in
           subst IsInOrder (sym (ap (section r.to t) k.2 ∙ j.2)) (sound.families j.0 j.1).in_order
 
-      moved : (a b : List ℕ) → a ≢ [] → IsPart (family s root) r b → (q : List ℕ)
+      moved : (a b : List ℕ) → a ≢ [] → IsPartOfUnit (family s root) r b → (q : List ℕ)
           → has (exit (family s root) r p a) q ≡ true → has (exit (family s root) r p b) q ≡ true
       moved a b na ib q h =
           let t = exit_has p a q na h in

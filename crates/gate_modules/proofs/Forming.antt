@@ -11,7 +11,7 @@ use Rattle.zdd_families.proofs.Laws.{IsAbove_set, same-true, same-above, eqb-ref
 use Rattle.zdd_families.proofs.Behind.{behind_node}
 use Rattle.gate_modules.specs.Forms.{AreOfDifferentUnits}
 use Rattle.gate_modules.specs.Modules.{lies}
-use Rattle.gate_modules.specs.Shortened.{Form, touches, is_covered, short_form, units_where, same_form, once, numbers}
+use Rattle.gate_modules.specs.Shortened.{ShortForm, touches, is_covered, short_form, units_where, same_form, once, event_numbers}
 use Rattle.ar_base.specs.Numbers.{EventId}
 use Rattle.zdd_nodes.specs.Nodes.{Stored, family}
 use Rattle.gate_modules.specs.Walked.{AtLeast}
@@ -106,7 +106,8 @@ there_passes q chosen d r i j =
     ap q (d.units r b.0 i t.0 (sym b.2)) ∙ t.1
 
 -- ---- forms that differ
-pub new_from : (xs : List Form) (y : Form) → AllByRecursion (λ a. same_form a y ≡ false) xs → is_new xs y ≡ true
+pub new_from : (xs : List ShortForm) (y : ShortForm) → AllByRecursion (λ a. same_form a y ≡ false) xs
+    → is_new xs y ≡ true
 new_from [] y h = refl
 new_from (a ∷ xs) y h = ap (λ b. not (b || list_any (λ c. same_form c y) xs)) h.0 ∙ new_from xs y h.1
 
@@ -121,7 +122,7 @@ same_front : (p s t : List ℕ) → same (p ++ s) (p ++ t) ≡ same s t
 same_front [] s t = refl
 same_front (x ∷ p) s t = ap (λ b. b && same (p ++ s) (p ++ t)) (eqb-refl x) ∙ same_front p s t
 
-all_mapped : (P : Form → Type 0) (g : List ℕ → Form) (f : Family) → AllByRecursion (λ s. P (g s)) f
+all_mapped : (P : ShortForm → Type 0) (g : List ℕ → ShortForm) (f : Family) → AllByRecursion (λ s. P (g s)) f
     → AllByRecursion P (map g f)
 all_mapped P g [] h = tt
 all_mapped P g (s ∷ f) h = (h.0, all_mapped P g f h.1)
@@ -137,10 +138,10 @@ every P (s ∷ f) h = (h s, every P f h)
 
 module _ (chosen : List Range) (d : AreOfDifferentUnits chosen) (taken : List ℕ) (v : ℕ) where
   -- the forms of these sets behind the taken events and v, and of those behind the taken events
-  abbrev pub with_v : Family → List Form
+  abbrev pub with_v : Family → List ShortForm
   with_v X = map (short_form chosen) (behind (taken ++ v ∷ []) X)
 
-  abbrev pub without_v : Family → List Form
+  abbrev pub without_v : Family → List ShortForm
   without_v R = map (short_form chosen) (behind taken R)
 
   all_differ : (X R : Family) (A B : List ℕ → Type 0) → AllByRecursion A X → AllByRecursion B R
@@ -275,7 +276,7 @@ module _ (chosen : List Range) (d : AreOfDifferentUnits chosen) (taken : List �
         → short_form chosen (taken ++ (a ++ q)) ≡ short_form chosen ((taken ++ v ∷ []) ++ q)
     form_alike a q n h = ap₂ (λ u e. form u e) (units_alike a q n h) (events_alike a q h)
       where
-        form : List ℕ → List ℕ → Form
+        form : List ℕ → List ℕ → ShortForm
         form u e = record { units = u; events = e }
 
     part_forms : (a : List ℕ) (X : Family) → a ≢ [] → AllIn r a
@@ -307,9 +308,9 @@ module _ (chosen : List Range) (d : AreOfDifferentUnits chosen) (taken : List �
 
 -- an event of the range stands among these
 pub touched_at : (r : Range) (xs : List EventId) (k : ℕ) (d : EventId) → k < length xs → lies r (get_or xs k d).n ≡ true
-    → touches (numbers xs) r ≡ true
+    → touches (event_numbers xs) r ≡ true
 touched_at r [] k d l h = absurd (omega (arith, l))
-touched_at r (x ∷ xs) zero d l h = ap (λ b. b || touches (numbers xs) r) h
+touched_at r (x ∷ xs) zero d l h = ap (λ b. b || touches (event_numbers xs) r) h
 touched_at r (x ∷ xs) (suc k) d l h =
     ap (λ b. lies r x.n || b) (touched_at r xs k d (omega (arith, l)) h) ∙ or_true (lies r x.n)
   where
@@ -318,12 +319,12 @@ touched_at r (x ∷ xs) (suc k) d l h =
     or_true false = refl
 
 -- the forms of a leaf
-pub leaf_forms : (chosen : List Range) (taken : List ℕ) (s : Stored) (n : ℕ) (old new : List Form) → n < 2
+pub leaf_forms : (chosen : List Range) (taken : List ℕ) (s : Stored) (n : ℕ) (old new : List ShortForm) → n < 2
     → (n ≡ 0 → new ≡ old) → (n ≡ 1 → new ≡ old ++ short_form chosen taken ∷ [])
     → new ≡ old ++ once (map (short_form chosen) (behind taken (family s n)))
 leaf_forms chosen taken s zero old new l none one = none refl ∙ sym (append_nil old)
   where
-    append_nil : (xs : List Form) → xs ++ [] ≡ xs
+    append_nil : (xs : List ShortForm) → xs ++ [] ≡ xs
     append_nil [] = refl
     append_nil (x ∷ xs) = ap (λ z. x ∷ z) (append_nil xs)
 leaf_forms chosen taken s (suc zero) old new l none one =

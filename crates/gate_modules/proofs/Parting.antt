@@ -13,7 +13,7 @@ use Rattle.zdd_nodes.specs.Nodes.{Stored, family, IsNumber, IsSoundStore}
 use Rattle.zdd_nodes.proofs.Order.{IsFamily-node, IsFamily-nil, IsFamily-unit}
 use Rattle.gate_modules.specs.Walked.{EndsBelow, HasBelow}
 use Rattle.ar_base.specs.Numbers.{EventId}
-use Rattle.gate_modules.specs.Shortened.{numbers, set_of}
+use Rattle.gate_modules.specs.Shortened.{event_numbers, set_of}
 use Rattle.gate_modules.specs.declared.ranges.EventSet.{EventSet}
 use Rattle.gate_modules.specs.Parts.{AreHeads, AreSomeHeads, AddsHeads, AddsSomeHeads}
 use Rattle.gate_modules.proofs.Sections.{starts, section_lower, section_end, by_start, ByStart}
@@ -167,10 +167,10 @@ module _ (s : Stored) (b : ℕ) where
   }
 
 -- the numbers of the events with one more
-pub events_push : (xs : List EventId) (x : EventId) → numbers (xs ++ x ∷ []) ≡ numbers xs ++ x.n ∷ []
+pub events_push : (xs : List EventId) (x : EventId) → event_numbers (xs ++ x ∷ []) ≡ event_numbers xs ++ x.n ∷ []
 events_push xs x = map-append (λ (e : EventId). e.n) xs (x ∷ [])
 
 -- the sets with one more
 pub sets_push : (xs : List EventSet) (x : EventSet) (events : List EventId) → x.events.items ≡ events
-    → map set_of (xs ++ x ∷ []) ≡ map set_of xs ++ numbers events ∷ []
-sets_push xs x events e = map-append set_of xs (x ∷ []) ∙ ap (λ z. map set_of xs ++ numbers z ∷ []) e
+    → map set_of (xs ++ x ∷ []) ≡ map set_of xs ++ event_numbers events ∷ []
+sets_push xs x events e = map-append set_of xs (x ∷ []) ∙ ap (λ z. map set_of xs ++ event_numbers z ∷ []) e

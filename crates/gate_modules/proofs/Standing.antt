@@ -12,8 +12,8 @@ use Rattle.zdd_families.specs.Families.{Family, has, holds, IsFamily}
 use Rattle.zdd_families.proofs.Minimal.{member_of}
 use Rattle.gate_modules.specs.Choices.{IsSetOf, IsChoice, IsMadeOf, ComesFrom, StandFor}
 use Rattle.gate_modules.specs.Forms.{AreOfDifferentUnits}
-use Rattle.gate_modules.specs.Modules.{lies, inside, IsPart, IsModule, AreRanges}
-use Rattle.gate_modules.specs.Shortened.{UnitSets, Form, touches, is_covered, short_form, once, IsModuleOf, IsShortened}
+use Rattle.gate_modules.specs.Modules.{lies, inside, IsPartOfUnit, IsModule, AreRanges}
+use Rattle.gate_modules.specs.Shortened.{UnitSets, ShortForm, touches, is_covered, short_form, once, IsModuleOf, IsShortened}
 use Rattle.gate_modules.specs.declared.ranges.Range.{Range}
 use Rattle.gate_modules.proofs.Choosing.{different_units}
 use Rattle.gate_modules.proofs.Choices.{holds_filter, any_event, event_any, filter_some, filtered, same_events, has_one_of, once_sound, once_whole, Apart, apart, apart_filter, covered_in_some, covered_touched, free, not_both, and_no, parts_covered, Exchanged, exchange_all, recover, part_touches, inside_events}
@@ -30,24 +30,24 @@ module _ (f : Family) (up : AllByRecursion Ascends f) (chosen : List Range) (mod
   touched s = filter (touches s) chosen
 
   -- ---- the sets of a module are the parts of its range
-  part_of : (c : Range) → IsOneOf chosen c → (set : List ℕ) → IsSetOf modules c.unit.n set → IsPart f c set
+  part_of : (c : Range) → IsOneOf chosen c → (set : List ℕ) → IsSetOf modules c.unit.n set → IsPartOfUnit f c set
   part_of c i set h =
       let r = along_back chosen modules are h.listed.place h.sets_of h.listed.stands in
       let is : r.0 ≡ c = d.units r.0 c (one_here chosen h.listed.place r.0 r.1) i (sym r.2.unit ∙ h.unit_is) in
-      subst (λ z. IsPart f z set) is (r.2.sets.sound h.is_set.place set h.is_set.stands)
+      subst (λ z. IsPartOfUnit f z set) is (r.2.sets.sound h.is_set.place set h.is_set.stands)
 
   parts_of : (rs : List Range) → ((c : Range) → IsOneOf rs c → IsOneOf chosen c) → (parts : List (List ℕ))
-      → Along (IsSetOf modules) (map unit_of rs) parts → Along (IsPart f) rs parts
+      → Along (IsSetOf modules) (map unit_of rs) parts → Along (IsPartOfUnit f) rs parts
   parts_of [] h [] none = none
   parts_of [] h (y ∷ ys) k = elim k [ ]
   parts_of (r ∷ rs) h [] k = elim k [ ]
   parts_of (r ∷ rs) h (a ∷ parts) (one_and p ps) =
       one_and (part_of r (h r (one_first r rs)) a p) (parts_of rs (λ c i. h c (one_rest r rs c i)) parts ps)
 
-  part_ascends : (r : Range) (a : List ℕ) → IsPart f r a → Ascends a
+  part_ascends : (r : Range) (a : List ℕ) → IsPartOfUnit f r a → Ascends a
   part_ascends r a p = subst Ascends p.is (filtered (lies r) p.set (member_of Ascends f p.set up p.among))
 
-  set_of_part : (c : Range) → IsOneOf chosen c → (a : List ℕ) → IsPart f c a → IsSetOf modules c.unit.n a
+  set_of_part : (c : Range) → IsOneOf chosen c → (a : List ℕ) → IsPartOfUnit f c a → IsSetOf modules c.unit.n a
   set_of_part c i a p =
       let m = along_on chosen modules are i.place c i.stands in
       let w = m.2.sets.whole a p in
@@ -84,7 +84,7 @@ module _ (f : Family) (up : AllByRecursion Ascends f) (chosen : List Range) (mod
         (sym (holds_filter e (λ x. not (is_covered chosen x)) s));
   }
 
-  abbrev forms : List Form
+  abbrev forms : List ShortForm
   forms = once (map (short_form chosen) f)
 
   comes_from : (s : List ℕ) → has f s ≡ true → ComesFrom modules forms s
@@ -101,19 +101,20 @@ module _ (f : Family) (up : AllByRecursion Ascends f) (chosen : List Range) (mod
       }
 
   -- a form is that of a set of the family
-  record IsFormOf (form : Form) : Type 0 where
+  record IsFormOf (form : ShortForm) : Type 0 where
     pub set : List ℕ
     pub among : has f set ≡ true
     pub is : short_form chosen set ≡ form
 
-  form_of_set : (form : Form) → IsOneOf forms form → IsFormOf form
+  form_of_set : (form : ShortForm) → IsOneOf forms form → IsFormOf form
   form_of_set form i =
       let j = once_sound (map (short_form chosen) f) form i in
       let t = stands_map_back (short_form chosen) f j.place form j.stands in
       record { set = t.0; among = has_one_of f t.0 (one_here f j.place t.0 t.1); is = t.2 }
 
   -- ---- what is made of a choice
-  module _ (s : List ℕ) (s_in : has f s ≡ true) (parts : List (List ℕ)) (ps : Along (IsPart f) (touched s) parts) where
+  module _ (s : List ℕ) (s_in : has f s ≡ true) (parts : List (List ℕ))
+      (ps : Along (IsPartOfUnit f) (touched s) parts) where
     far_touched : Apart (touched s)
     far_touched = apart_filter (touches s) chosen far
 
@@ -204,17 +205,18 @@ module _ (f : Family) (up : AllByRecursion Ascends f) (chosen : List Range) (mod
               ∙ ap (λ z. z || holds e (free chosen s)) no)
 
       form_is : short_form chosen s ≡ short_form chosen t
-      form_is = ap₂ (λ x y. (let z : Form = record { units = map unit_of x; events = y } in z)) same_ranges same_free
+      form_is = ap₂ (λ x y. (let z : ShortForm = record { units = map unit_of x; events = y } in z)) same_ranges
+          same_free
 
       choice_is : parts ≡ map (λ r. inside r t) (touched t)
       choice_is = parts_are ∙ ap (map (λ r. inside r t)) same_ranges
 
-  made_set : (form : Form) (choice : List (List ℕ)) → IsOneOf forms form → IsChoice modules form choice
+  made_set : (form : ShortForm) (choice : List (List ℕ)) → IsOneOf forms form → IsChoice modules form choice
       → (set : List ℕ) × (has f set ≡ true) × IsMadeOf form choice set
   made_set form choice i c =
       let k = form_of_set form i in
       let ps = parts_of (touched k.set) (λ r j. (passed_one (touches k.set) chosen r j).0) choice
-      (subst (λ (z : Form). Along (IsSetOf modules) z.units choice) (sym k.is) c) in
+      (subst (λ (z : ShortForm). Along (IsSetOf modules) z.units choice) (sym k.is) c) in
       let x = exchanged k.set k.among choice ps in
       (x.set, x.among, subst (λ z. IsMadeOf z choice x.set) k.is (made_of k.set k.among choice ps))
 
@@ -224,8 +226,8 @@ module _ (f : Family) (up : AllByRecursion Ascends f) (chosen : List Range) (mod
   told set a =
       let k = form_of_set a.form a.listed in
       let ps = parts_of (touched k.set) (λ r j. (passed_one (touches k.set) chosen r j).0) a.choice
-      (subst (λ (z : Form). Along (IsSetOf modules) z.units a.choice) (sym k.is) a.is_choice) in
-      let made = subst (λ (z : Form). (e : ℕ) → holds e set ≡ (list_any (holds e) a.choice || holds e z.events))
+      (subst (λ (z : ShortForm). Along (IsSetOf modules) z.units a.choice) (sym k.is) a.is_choice) in
+      let made = subst (λ (z : ShortForm). (e : ℕ) → holds e set ≡ (list_any (holds e) a.choice || holds e z.events))
       (sym k.is) a.is_made.each in (
         sym k.is ∙ form_is k.set k.among a.choice ps set a.is_made.ascends made,
         choice_is k.set k.among a.choice ps set
@@ -240,7 +242,7 @@ module _ (f : Family) (up : AllByRecursion Ascends f) (chosen : List Range) (mod
   }
 
 pub stand_for : (f : Family) → IsFamily f → (ranges : List Range) → AreRanges ranges
-    → (modules : List UnitSets) (short : List Form) → IsShortened f ranges modules short → StandFor f modules short
+    → (modules : List UnitSets) (short : List ShortForm) → IsShortened f ranges modules short → StandFor f modules short
 stand_for f family ranges are modules short is =
     let d = different_units f ranges are is.chosen is.are_chosen.sound in
     subst (StandFor f modules) (sym is.forms_are)

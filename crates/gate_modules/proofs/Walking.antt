@@ -16,7 +16,7 @@ use Rattle.gate_modules.specs.Entries.{IsReached, IsExit, IsEntryExit}
 use Rattle.gate_modules.specs.Entries.IsReached.{here, up, down}
 use Rattle.gate_modules.specs.Forms.{AreOfDifferentUnits, GoesOnAlike, IsFit, AddsForms, IsSkip}
 use Rattle.gate_modules.specs.Modules.{lies}
-use Rattle.gate_modules.specs.Shortened.{Form, touches, is_covered, short_form, once}
+use Rattle.gate_modules.specs.Shortened.{ShortForm, touches, is_covered, short_form, once}
 use Rattle.gate_modules.specs.Walked.{AtLeast, EndsBelow, HasBelow}
 use Rattle.gate_modules.specs.declared.ranges.Range.{Range}
 use Rattle.gate_modules.proofs.Deciding.{event_not_end, first_at_least}
@@ -329,7 +329,7 @@ module _ (s : Stored) (sound : IsSoundStore s) (chosen : List Range) (d : AreOfD
       passed = λ r i h. (halves r.to (fit.passed r i h)).1;
     }
 
-    pub adds_uncovered : (more : List ℕ) → more ≡ taken ++ v ∷ [] → (old mid new : List Form)
+    pub adds_uncovered : (more : List ℕ) → more ≡ taken ++ v ∷ [] → (old mid new : List ShortForm)
         → AddsForms chosen more (family s hi) old mid → AddsForms chosen taken (family s lo) mid new
         → AddsForms chosen taken (family s n) old new
     adds_uncovered more e old mid new a b =
@@ -426,7 +426,7 @@ module _ (s : Stored) (sound : IsSoundStore s) (chosen : List Range) (d : AreOfD
         ∙ once_covered chosen d taken v r r_in v_in untouched (family s x) (family s y) p.heads
         (p.some (event_not_end s r.to n v lo hi has)) p.in_range skip.ends.at_least
 
-    pub adds_covered : (more : List ℕ) → more ≡ taken ++ v ∷ [] → (old mid new : List Form)
+    pub adds_covered : (more : List ℕ) → more ≡ taken ++ v ∷ [] → (old mid new : List ShortForm)
         → AddsForms chosen more (family s x) old mid → AddsForms chosen taken (family s y) mid new
         → AddsForms chosen taken (family s n) old new
     adds_covered more m old mid new a b =

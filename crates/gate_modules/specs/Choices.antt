@@ -4,7 +4,7 @@ use Rattle.std.specs.List.{list_any}
 use Rattle.ar_base.specs.Lists.{IsOneOf, Along}
 use Rattle.ar_base.specs.Sets.{Ascends}
 use Rattle.zdd_families.specs.Families.{Family, has, holds}
-use Rattle.gate_modules.specs.Shortened.{UnitSets, Form}
+use Rattle.gate_modules.specs.Shortened.{UnitSets, ShortForm}
 
 -- the set is one of those of the unit's module
 pub record IsSetOf (modules : List UnitSets) (unit : ℕ) (set : List ℕ) : Type 0 where
@@ -14,17 +14,17 @@ pub record IsSetOf (modules : List UnitSets) (unit : ℕ) (set : List ℕ) : Typ
   pub is_set : IsOneOf sets_of.sets set
 
 -- a choice for the form: for each of its units one of the sets of that unit's module
-abbrev pub IsChoice : List UnitSets → Form → List (List ℕ) → Type 0
+abbrev pub IsChoice : List UnitSets → ShortForm → List (List ℕ) → Type 0
 IsChoice modules form choice = Along (IsSetOf modules) form.units choice
 
 -- the events of the set are those of the chosen sets and those of the form
-pub record IsMadeOf (form : Form) (choice : List (List ℕ)) (set : List ℕ) : Type 0 where
+pub record IsMadeOf (form : ShortForm) (choice : List (List ℕ)) (set : List ℕ) : Type 0 where
   pub ascends : Ascends set
   pub each : (e : ℕ) → holds e set ≡ (list_any (holds e) choice || holds e form.events)
 
 -- one of the forms, and a choice for it, of which the set is made
-pub record ComesFrom (modules : List UnitSets) (forms : List Form) (set : List ℕ) : Type 0 where
-  pub form : Form
+pub record ComesFrom (modules : List UnitSets) (forms : List ShortForm) (set : List ℕ) : Type 0 where
+  pub form : ShortForm
   pub choice : List (List ℕ)
   pub listed : IsOneOf forms form
   pub is_choice : IsChoice modules form choice
@@ -32,8 +32,8 @@ pub record ComesFrom (modules : List UnitSets) (forms : List Form) (set : List �
 
 -- the forms stand for the family: of each choice for one of the forms a set of the family is made, and each set of the
 -- family comes from just one form and one choice
-pub record StandFor (f : Family) (modules : List UnitSets) (forms : List Form) : Type 0 where
-  pub made : (form : Form) (choice : List (List ℕ)) → IsOneOf forms form → IsChoice modules form choice
+pub record StandFor (f : Family) (modules : List UnitSets) (forms : List ShortForm) : Type 0 where
+  pub made : (form : ShortForm) (choice : List (List ℕ)) → IsOneOf forms form → IsChoice modules form choice
       → (set : List ℕ) × (has f set ≡ true) × IsMadeOf form choice set
   pub whole : (set : List ℕ) → has f set ≡ true → ComesFrom modules forms set
   pub one : (set : List ℕ) (a b : ComesFrom modules forms set) → (a.form ≡ b.form) × (a.choice ≡ b.choice)

@@ -7,7 +7,7 @@ use Rattle.zdd_families.specs.Sections.{section}
 use Rattle.zdd_families.specs.Behind.{behind}
 use Rattle.zdd_nodes.specs.Nodes.{Stored, family, IsNumber}
 use Rattle.gate_modules.specs.Modules.{lies}
-use Rattle.gate_modules.specs.Shortened.{Form, touches, short_form, once}
+use Rattle.gate_modules.specs.Shortened.{ShortForm, touches, short_form, once}
 use Rattle.gate_modules.specs.Walked.{AtLeast, EndsBelow}
 use Rattle.gate_modules.specs.Entries.{IsReached}
 use Rattle.gate_modules.specs.declared.ranges.Range.{Range}
@@ -29,7 +29,7 @@ pub record IsFit (chosen : List Range) (taken : List ℕ) (f : Family) : Type 0 
   pub passed : (r : Range) → IsOneOf chosen r → touches taken r ≡ true → AllByRecursion (AtLeast r.to) f
 
 -- the short forms of the sets, each behind the events that were taken before, are added, each once
-abbrev pub AddsForms : List Range → List ℕ → Family → List Form → List Form → Type 0
+abbrev pub AddsForms : List Range → List ℕ → Family → List ShortForm → List ShortForm → Type 0
 AddsForms chosen taken f old new = new ≡ old ++ once (map (short_form chosen) (behind taken f))
 
 -- x follows no event of the number below the bound

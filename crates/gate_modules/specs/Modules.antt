@@ -18,7 +18,7 @@ abbrev pub outside : Range → List ℕ → List ℕ
 outside r set = filter (λ e. not (lies r e)) set
 
 -- a part of the unit: all that some set of the family has of its events, at least one
-pub record IsPart (f : Family) (r : Range) (part : List ℕ) : Type 0 where
+pub record IsPartOfUnit (f : Family) (r : Range) (part : List ℕ) : Type 0 where
   pub set : List ℕ
   pub among : has f set ≡ true
   pub is : inside r set ≡ part
@@ -32,17 +32,18 @@ pub record IsRest (f : Family) (r : Range) (rest : List ℕ) : Type 0 where
   pub is : outside r set ≡ rest
 
 -- the events of both, where the part's are of the range and the rest's are not: first those of the rest below the range
-abbrev pub joined : Range → List ℕ → List ℕ → List ℕ
-joined r part rest = filter (λ e. nat_lt e r.from) rest ++ (part ++ filter (λ e. not (nat_lt e r.from)) rest)
+abbrev pub joined_sets : Range → List ℕ → List ℕ → List ℕ
+joined_sets r part rest = filter (λ e. nat_lt e r.from) rest ++ (part ++ filter (λ e. not (nat_lt e r.from)) rest)
 
 -- the unit is a module: it has two parts or more, and each of its parts goes with each of its rests
 pub record IsModule (f : Family) (r : Range) : Type 0 where
   pub one : List ℕ
   pub other : List ℕ
-  pub one_is : IsPart f r one
-  pub other_is : IsPart f r other
+  pub one_is : IsPartOfUnit f r one
+  pub other_is : IsPartOfUnit f r other
   pub differ : one ≢ other
-  pub exchanged : (part rest : List ℕ) → IsPart f r part → IsRest f r rest → has f (joined r part rest) ≡ true
+  pub exchanged : (part rest : List ℕ) → IsPartOfUnit f r part → IsRest f r rest
+      → has f (joined_sets r part rest) ≡ true
 
 -- Ranges of units
 

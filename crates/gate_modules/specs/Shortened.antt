@@ -4,7 +4,7 @@ use Rattle.std.specs.List.{filter, list_any}
 use Rattle.ar_base.specs.Lists.{Along}
 use Rattle.ar_firing.specs.Listed.{AreListed}
 use Rattle.zdd_families.specs.Families.{Family, same}
-use Rattle.gate_modules.specs.Modules.{lies, IsPart, AreChosen}
+use Rattle.gate_modules.specs.Modules.{lies, IsPartOfUnit, AreChosen}
 use Rattle.ar_base.specs.Numbers.{EventId, UnitId}
 use Rattle.gate_modules.specs.declared.ranges.Range.{Range}
 use Rattle.gate_modules.specs.declared.ranges.EventSet.{EventSet}
@@ -18,7 +18,7 @@ pub record UnitSets : Type 0 where
   pub sets : List (List ℕ)
 
 -- units and further events
-pub record Form : Type 0 where
+pub record ShortForm : Type 0 where
   pub units : List ℕ
   pub events : List ℕ
 
@@ -35,29 +35,30 @@ abbrev pub units_where : (Range → Bool) → List Range → List ℕ
 units_where q chosen = map (λ (r : Range). r.unit.n) (filter q chosen)
 
 -- the short form of a set: the chosen units of which it has an event, and its events that are of no chosen unit
-abbrev pub short_form : List Range → List ℕ → Form
+abbrev pub short_form : List Range → List ℕ → ShortForm
 short_form chosen set = record {
   units = units_where (touches set) chosen;
   events = filter (λ e. not (is_covered chosen e)) set;
 }
 
 -- whether the two forms are one
-abbrev pub same_form : Form → Form → Bool
+abbrev pub same_form : ShortForm → ShortForm → Bool
 same_form a b = same a.units b.units && same a.events b.events
 
 -- each of the forms once, where it stands first
-abbrev pub once : List Form → List Form
+abbrev pub once : List ShortForm → List ShortForm
 once [] = []
 once (a ∷ forms) = a ∷ filter (λ b. not (same_form a b)) (once forms)
 
 -- the unit with its parts, as they are listed
 pub record IsModuleOf (f : Family) (r : Range) (m : UnitSets) : Type 0 where
   pub unit : m.unit ≡ r.unit.n
-  pub sets : AreListed (IsPart f r) m.sets
+  pub sets : AreListed (IsPartOfUnit f r) m.sets
 
 -- the family in short: its chosen units by number, each with its parts, and the short forms of its sets, each once, in
 -- the order of the first set that has it
-pub record IsShortened (f : Family) (ranges : List Range) (modules : List UnitSets) (forms : List Form) : Type 0 where
+pub record IsShortened (f : Family) (ranges : List Range) (modules : List UnitSets)
+    (forms : List ShortForm) : Type 0 where
   pub chosen : List Range
   pub are_chosen : AreChosen f ranges chosen
   pub modules_are : Along (IsModuleOf f) chosen modules
@@ -66,21 +67,21 @@ pub record IsShortened (f : Family) (ranges : List Range) (modules : List UnitSe
 -- Families in short as the code keeps them
 
 -- the numbers of the events
-abbrev pub numbers : List EventId → List ℕ
-numbers events = map (λ (e : EventId). e.n) events
+abbrev pub event_numbers : List EventId → List ℕ
+event_numbers events = map (λ (e : EventId). e.n) events
 
 -- a set of events
 abbrev pub set_of : EventSet → List ℕ
-set_of s = numbers s.events.items
+set_of s = event_numbers s.events.items
 
 -- a module
 abbrev pub module_of : Module → UnitSets
 module_of m = record { unit = m.unit.n; sets = map set_of m.sets.items }
 
 -- a short form
-abbrev pub form_of : ShortSet → Form
-form_of s = record { units = map (λ (u : UnitId). u.n) s.units.items; events = numbers s.events.items }
+abbrev pub short_form_of : ShortSet → ShortForm
+short_form_of s = record { units = map (λ (u : UnitId). u.n) s.units.items; events = event_numbers s.events.items }
 
 -- what is kept is the family in short
 abbrev pub Shortens : Family → List Range → Short → Type 0
-Shortens f ranges s = IsShortened f ranges (map module_of s.modules.items) (map form_of s.sets.items)
+Shortens f ranges s = IsShortened f ranges (map module_of s.modules.items) (map short_form_of s.sets.items)

@@ -4,8 +4,8 @@ ghost use Rattle.std.specs.Prelude.{◌≡◌, ◌<◌, ◌++◌, ◌∷◌, [],
 ghost use Rattle.std.specs.List.{filter};
 ghost use Rattle.zdd_nodes.specs.Nodes.{family, IsNumber};
 ghost use Rattle.gate_modules.specs.Modules.{lies as lies_in};
-ghost use Rattle.gate_modules.specs.Shortened.{numbers, touches as has_touched, is_covered as covered_by};
-ghost use Rattle.gate_modules.specs.Shortened.{short_form, units_where, form_of as form_made};
+ghost use Rattle.gate_modules.specs.Shortened.{event_numbers, touches as has_touched, is_covered as covered_by};
+ghost use Rattle.gate_modules.specs.Shortened.{short_form, units_where, short_form_of as form_made};
 ghost use Rattle.gate_modules.specs.Forms.{AreOfDifferentUnits, IsFit, AddsForms, IsSkip, IsHeld};
 
 use crate::entries::exit;
@@ -28,8 +28,8 @@ pub(crate) fn add_forms(
 ) -> Result<(), Memory>
     requires in_store { IsNumber store.now number.n }
     requires units { AreOfDifferentUnits chosen.now }
-    requires fit { IsFit chosen.now (numbers taken.now) (family store.now number.n) }
-    ensures { OnOk result (AddsForms chosen.now (numbers taken.now) (family store.now number.n)
+    requires fit { IsFit chosen.now (event_numbers taken.now) (family store.now number.n) }
+    ensures { OnOk result (AddsForms chosen.now (event_numbers taken.now) (family store.now number.n)
         (map form_made forms.old.items) (map form_made forms.new.items)) }
 {
     let Some((event, lo, hi)) = store.split(number) else {
@@ -66,7 +66,7 @@ fn add_leaf(
         → map form_made forms.new.items ≡ map form_made forms.old.items) }
     ensures one { OnOk result (number.n ≡ 1
         → map form_made forms.new.items ≡ map form_made forms.old.items
-        ++ short_form chosen.now (numbers taken.now) ∷ []) }
+        ++ short_form chosen.now (event_numbers taken.now) ∷ []) }
 {
     if number.n == 0 {
         return Ok(());
@@ -89,7 +89,7 @@ fn skip(store: &Store, to: u32, number: NodeId) -> NodeId
 
 // The short form of these events.
 fn form_of(alloc: Global, chosen: &[Range], taken: &[EventId]) -> Result<ShortSet, Memory>
-    ensures { IfOk result (λ f. form_made f ≡ short_form chosen.now (numbers taken.now)) }
+    ensures { IfOk result (λ f. form_made f ≡ short_form chosen.now (event_numbers taken.now)) }
 {
     let units = units_of(alloc, chosen, taken)?;
     let events = free_events(alloc, chosen, taken)?;
@@ -100,7 +100,7 @@ fn form_of(alloc: Global, chosen: &[Range], taken: &[EventId]) -> Result<ShortSe
 fn units_of(alloc: Global, chosen: &[Range], taken: &[EventId]) -> Result<Vec<UnitId>, Memory>
     ensures { IfOk result
         (λ units. map (λ u. u.n) units.items
-        ≡ units_where (has_touched (numbers taken.now)) chosen.now) }
+        ≡ units_where (has_touched (event_numbers taken.now)) chosen.now) }
 {
     let mut units = Vec::new(alloc);
     for range in chosen {
@@ -114,8 +114,8 @@ fn units_of(alloc: Global, chosen: &[Range], taken: &[EventId]) -> Result<Vec<Un
 // Those of the events that are of none of these ranges.
 fn free_events(alloc: Global, chosen: &[Range], taken: &[EventId]) -> Result<Vec<EventId>, Memory>
     ensures { IfOk result
-        (λ events. numbers events.items ≡ filter (λ e. not (covered_by chosen.now e))
-        (numbers taken.now)) }
+        (λ events. event_numbers events.items ≡ filter (λ e. not (covered_by chosen.now e))
+        (event_numbers taken.now)) }
 {
     let mut events = Vec::new(alloc);
     for event in taken {
@@ -153,7 +153,7 @@ fn holder(chosen: &[Range], event: EventId) -> Option<Range>
 
 // Whether one of the events is of the range.
 fn touches(taken: &[EventId], range: Range) -> bool
-    ensures { result ≡ has_touched (numbers taken.now) range }
+    ensures { result ≡ has_touched (event_numbers taken.now) range }
 {
     for event in taken {
         if lies(range, *event) {

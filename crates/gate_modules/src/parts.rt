@@ -2,7 +2,7 @@
 
 ghost use Rattle.std.specs.Prelude.{◌≡◌, ◌++◌, ◌∷◌, [], IfOk, OnOk, map};
 ghost use Rattle.zdd_nodes.specs.Nodes.{family, IsNumber};
-ghost use Rattle.gate_modules.specs.Shortened.{numbers, set_of};
+ghost use Rattle.gate_modules.specs.Shortened.{event_numbers, set_of};
 ghost use Rattle.gate_modules.specs.Parts.{AddsHeads, AddsSomeHeads, AreSomeHeads};
 
 use crate::ranges::EventSet;
@@ -62,7 +62,7 @@ fn add_parts(
 ) -> Result<(), Memory>
     requires { IsNumber store.now number.n }
     ensures { OnOk result
-        (AddsHeads store.now to number.n (numbers taken.now) (map set_of sets.old.items)
+        (AddsHeads store.now to number.n (event_numbers taken.now) (map set_of sets.old.items)
         (map set_of sets.new.items)) }
 {
     match below(store, to, number) {

@@ -5,7 +5,7 @@ ghost use Rattle.zdd_nodes.specs.Nodes.{family as family_of, IsNumber, IsSoundSt
 ghost use Rattle.gate_modules.specs.Choices.{StandFor};
 ghost use Rattle.gate_modules.specs.Choosing.{IsWithin, IsWithinNone, Considers, AreChosenSoFar};
 ghost use Rattle.gate_modules.specs.Modules.{AreRanges, Covers};
-ghost use Rattle.gate_modules.specs.Shortened.{Shortens, form_of, module_of};
+ghost use Rattle.gate_modules.specs.Shortened.{Shortens, short_form_of, module_of};
 ghost use Rattle.gate_modules.specs.Walked.{AreTwins};
 
 use crate::forms::add_forms;
@@ -27,7 +27,7 @@ pub fn shorten(alloc: Global, family: &Family, ranges: &[Range]) -> Result<Short
     ensures short { IfOk result (λ s.
         Shortens (family_of family.now.store family.now.root.n) ranges.now s) }
     ensures stands { IfOk result (λ s. StandFor (family_of family.now.store family.now.root.n)
-        (map module_of s.modules.items) (map form_of s.sets.items)) }
+        (map module_of s.modules.items) (map short_form_of s.sets.items)) }
 {
     let mut chosen = Vec::new(alloc);
     let mut modules = Vec::new(alloc);

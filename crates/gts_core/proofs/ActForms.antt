@@ -25,13 +25,13 @@ use Rattle.ar_base.specs.Numbers.{VarId}
 use Rattle.ar_base.proofs.Items.{along_append}
 use Rattle.gts_core.specs.View.{numbered, assign_of}
 use Rattle.gts_core.specs.Copies.{IsCopy}
-use Rattle.gts_core.specs.Bound.{Conditions, act_step, assigns_under, AreNumbers, AreAssigns, place_step, places_of_act, places_in, Gives, GiveAll, AreConditionCopies, conditions_in}
+use Rattle.gts_core.specs.Bound.{NumberedConditions, act_step, assigns_under, AreNumbers, AreAssigns, place_step, places_of_act, places_in, GivesAssigns, GiveAll, AreConditionCopies, conditions_in}
 use Rattle.gts_core.proofs.Numbering.{IsNumber, renames_numbered, copy_numbered}
 
 arm : (act : Act) (x : Act-F Act) → out-Act act ≡ x
-    → assigns_under act ≡ act_step (map-Act Act (Conditions → List (s.Assign ℕ)) assigns_under x)
-arm act x e = fold_out-Act (Conditions → List (s.Assign ℕ)) act_step act
-    ∙ ap (λ (y : Act-F Act). act_step (map-Act Act (Conditions → List (s.Assign ℕ)) assigns_under y)) e
+    → assigns_under act ≡ act_step (map-Act Act (NumberedConditions → List (s.Assign ℕ)) assigns_under x)
+arm act x e = fold_out-Act (NumberedConditions → List (s.Assign ℕ)) act_step act
+    ∙ ap (λ (y : Act-F Act). act_step (map-Act Act (NumberedConditions → List (s.Assign ℕ)) assigns_under y)) e
 
 pub opened_skip : out-Act Skip ≡ form.Skip
 unfolding roll-Act out-Act denote.Hole.Carrier.roll
@@ -41,28 +41,28 @@ pub opened_set : (x : VarId) (e : Expr VarId) (p : Place) → out-Act (Set x e p
 unfolding roll-Act out-Act denote.Hole.Carrier.roll
 opened_set x e p = out-roll-Act (form.Set x e p)
 
-at_conditions : {f g : Conditions → List (s.Assign ℕ)} → f ≡ g → (cs : Conditions) → f cs ≡ g cs
+at_conditions : {f g : NumberedConditions → List (s.Assign ℕ)} → f ≡ g → (cs : NumberedConditions) → f cs ≡ g cs
 at_conditions e cs = ap (λ h. h cs) e
 
-skip_is : (act : Act) → act ≡ Skip → (cs : Conditions) → assigns_under act cs ≡ []
+skip_is : (act : Act) → act ≡ Skip → (cs : NumberedConditions) → assigns_under act cs ≡ []
 skip_is act e cs = at_conditions (arm act form.Skip (ap out-Act e ∙ opened_skip)) cs
 
-set_is : (act : Act) (x : VarId) (e : Expr VarId) (p : Place) → act ≡ Set x e p → (cs : Conditions)
+set_is : (act : Act) (x : VarId) (e : Expr VarId) (p : Place) → act ≡ Set x e p → (cs : NumberedConditions)
     → assigns_under act cs ≡ record { target = x.n; conditions = cs; value = numbered e } ∷ []
 set_is act x e p j cs = at_conditions (arm act (form.Set x e p) (ap out-Act j ∙ opened_set x e p)) cs
 
-if_is : (act : Act) (t : Expr VarId) (a b : Box Act Global) → act ≡ If t a b → (cs : Conditions)
+if_is : (act : Act) (t : Expr VarId) (a b : Box Act Global) → act ≡ If t a b → (cs : NumberedConditions)
     → assigns_under act cs ≡ assigns_under a.value (cs ++ (numbered t, true) ∷ []) ++ assigns_under b.value
     (cs ++ (numbered t, false) ∷ [])
 if_is act t a b j cs = at_conditions (arm act (form.If t a b) (ap out-Act j ∙ outs-If t a b)) cs
 
-each_is : (acts : List Act) (cs : Conditions)
-    → flat_map (λ (f : Conditions → List (s.Assign ℕ)). f cs) (map assigns_under acts)
+each_is : (acts : List Act) (cs : NumberedConditions)
+    → flat_map (λ (f : NumberedConditions → List (s.Assign ℕ)). f cs) (map assigns_under acts)
     ≡ flat_map (λ (a : Act). assigns_under a cs) acts
 each_is [] cs = refl
 each_is (a ∷ acts) cs = ap (λ z. assigns_under a cs ++ z) (each_is acts cs)
 
-all_is : (act : Act) (es : Vec Act Global) → act ≡ All es → (cs : Conditions)
+all_is : (act : Act) (es : Vec Act Global) → act ≡ All es → (cs : NumberedConditions)
     → assigns_under act cs ≡ flat_map (λ (a : Act). assigns_under a cs) es.items
 all_is act es j cs = at_conditions (arm act (form.All es) (ap out-Act j ∙ outs-All es)) cs ∙ each_is es.items cs
 
@@ -103,15 +103,15 @@ same_numbered : (e : Expr VarId) → Renames (λ (m n : ℕ). m ≡ n) (out-Expr
 same_numbered e = renames_joined (turned IsNumber) IsNumber (λ (m n : ℕ). m ≡ n) (λ m x n j k. sym j ∙ k)
     (renames_turned IsNumber (renames_numbered e)) (renames_numbered e)
 
-numbers_copied : {cs : Conditions} {when copies : List (Expr VarId × Bool)} → AreConditionCopies when copies
+numbers_copied : {cs : NumberedConditions} {when copies : List (Expr VarId × Bool)} → AreConditionCopies when copies
     → AreNumbers cs when → AreNumbers cs copies
 numbers_copied i.none k = k
 numbers_copied (i.one_and {e = x} {f = y} r rs) (i.one_and q qs) =
     i.one_and (renames_joined (λ (m n : ℕ). m ≡ n) (λ (m n : ℕ). m ≡ n) (λ (m n : ℕ). m ≡ n) (λ a b c j k. j ∙ k) q
     (copy_numbered x y r)) (numbers_copied rs qs)
 
-numbers_more : (cs : Conditions) (when : List (Expr VarId × Bool)) (t : Expr VarId) (b : Bool) → AreNumbers cs when
-    → AreNumbers (cs ++ (numbered t, b) ∷ []) (when ++ (t, b) ∷ [])
+numbers_more : (cs : NumberedConditions) (when : List (Expr VarId × Bool)) (t : Expr VarId) (b : Bool) → AreNumbers cs
+    when → AreNumbers (cs ++ (numbered t, b) ∷ []) (when ++ (t, b) ∷ [])
 numbers_more [] [] t b i.none = i.one_and (same_numbered t) i.none
 numbers_more (c ∷ cs) ((e, d) ∷ when) t b (i.one_and q qs) = i.one_and q (numbers_more cs when t b qs)
 numbers_more [] (e ∷ when) t b k = elim k [ ]
@@ -143,10 +143,10 @@ borrowed_next when n x y ys zs h e k c j =
 -- an instruction under one more borrowed condition
 pub gives_under : (act : Act) (when stack pushed : List (Bor (Expr VarId) × Bool)) (t : Bor (Expr VarId)) (b : Bool)
     (x : Act) (old new : List Assign) → stack ≡ when → pushed ≡ stack ++ (t, b) ∷ [] → x ≡ act
-    → Gives x (conditions_in pushed) old new → Gives act (conditions_in when ++ (t.now, b) ∷ []) old new
+    → GivesAssigns x (conditions_in pushed) old new → GivesAssigns act (conditions_in when ++ (t.now, b) ∷ []) old new
 gives_under act when stack pushed t b x old new i j e g =
-    subst (λ z. Gives z (conditions_in when ++ (t.now, b) ∷ []) old new) e
-    (subst (λ z. Gives x z old new) (ap conditions_in j ∙ (conditions_more stack (t, b)
+    subst (λ z. GivesAssigns z (conditions_in when ++ (t.now, b) ∷ []) old new) e
+    (subst (λ z. GivesAssigns x z old new) (ap conditions_in j ∙ (conditions_more stack (t, b)
     ∙ ap (λ w. conditions_in w ++ (t.now, b) ∷ []) i)) g)
 
 -- a stack with one more and one less
@@ -177,7 +177,7 @@ both_added old mid new first second j k = k ∙ (ap (λ z. z ++ second) j ∙ as
 
 -- what each form gives
 module _ (act : Act) (when : List (Expr VarId × Bool)) (old : List Assign) where
-  pub gives_skip : act ≡ Skip → Gives act when old old
+  pub gives_skip : act ≡ Skip → GivesAssigns act when old old
   gives_skip e = record {
     added = [];
     is = sym (append-nil old);
@@ -187,7 +187,7 @@ module _ (act : Act) (when : List (Expr VarId × Bool)) (old : List Assign) wher
 
   pub gives_set : (x : VarId) (e f : Expr VarId) (p : Place) (copies : Vec (Expr VarId × Bool) Global)
       (new : List Assign) → act ≡ Set x e p → AreConditionCopies when copies.items → IsCopy e f
-      → new ≡ old ++ record { target = x; when = copies; value = f; at = p } ∷ [] → Gives act when old new
+      → new ≡ old ++ record { target = x; when = copies; value = f; at = p } ∷ [] → GivesAssigns act when old new
   gives_set x e f p copies new j c d k = record {
     added = record { target = x; when = copies; value = f; at = p } ∷ [];
     is = k;
@@ -198,8 +198,8 @@ module _ (act : Act) (when : List (Expr VarId × Bool)) (old : List Assign) wher
   }
 
   pub gives_if : (t : Expr VarId) (a b : Box Act Global) (mid new : List Assign) → act ≡ If t a b
-      → Gives a.value (when ++ (t, true) ∷ []) old mid → Gives b.value (when ++ (t, false) ∷ []) mid new
-      → Gives act when old new
+      → GivesAssigns a.value (when ++ (t, true) ∷ []) old mid → GivesAssigns b.value (when ++ (t, false) ∷ []) mid new
+      → GivesAssigns act when old new
   gives_if t a b mid new j g h = record {
     added = g.added ++ h.added;
     is = both_added old mid new g.added h.added g.is h.is;
@@ -211,7 +211,7 @@ module _ (act : Act) (when : List (Expr VarId × Bool)) (old : List Assign) wher
   }
 
   pub gives_all : (es : Vec Act Global) (acts : List Act) (new : List Assign) → act ≡ All es → acts ≡ es.items
-      → GiveAll acts when old new → Gives act when old new
+      → GiveAll acts when old new → GivesAssigns act when old new
   gives_all es acts new j k g = record {
     added = g.added;
     is = g.is;
@@ -225,7 +225,7 @@ give_none when old = record { added = []; is = sym (append-nil old); are = λ cs
 
 pub give_next : (acts : List Act) (n : ℕ) (act : Act) (when : List (Expr VarId × Bool)) (old mid new : List Assign)
     → n < length acts → act ≡ get_or acts n act → GiveAll (take n acts) when old mid
-    → Gives act when mid new → GiveAll (take (n + 1) acts) when old new
+    → GivesAssigns act when mid new → GiveAll (take (n + 1) acts) when old new
 give_next acts n act when old mid new h e g k =
     subst (λ z. GiveAll z when old new) (sym (take_more acts n act h ∙ ap (λ z. take n acts ++ z ∷ []) (sym e)))
     (record {
@@ -242,11 +242,11 @@ give_next acts n act when old mid new h e g k =
     })
 
 pub give_whole : (act : Act) (when : List (Expr VarId × Bool)) (old new : List Assign) → when ≡ [] → old ≡ []
-    → Gives act when old new → AreAssigns (assigns_under act []) new
+    → GivesAssigns act when old new → AreAssigns (assigns_under act []) new
 give_whole act when old new e j g =
     subst (λ z. AreAssigns (assigns_under act []) z) (sym (g.is ∙ ap (λ z. z ++ g.added) j))
     (g.are [] (subst (λ z. AreNumbers [] z) (sym e) i.none))
 
 pub give_places : (act : Act) (when : List (Expr VarId × Bool)) (old new : List Assign) → old ≡ []
-    → Gives act when old new → places_in new ≡ places_of_act act
+    → GivesAssigns act when old new → places_in new ≡ places_of_act act
 give_places act when old new j g = ap places_in (g.is ∙ ap (λ z. z ++ g.added) j) ∙ g.places

@@ -18,7 +18,7 @@ use Rattle.ar_meaning.specs.Facts.{Allows}
 use Rattle.ar_meaning.specs.Dependence.{IsFlow, Names, flow_count}
 use Rattle.ar_meaning.proofs.Dependence.{tests_one}
 use Rattle.gts_core.specs.View.{numbered, condition_of, assign_of, variable_of, net_of}
-use Rattle.gts_core.specs.Sound.{kind_of_domain, kind_of_found, kind_at, IsTyped, IsAssignTo, IsSound}
+use Rattle.gts_core.specs.Sound.{kind_of_domain, kind_of_found, variable_kind_at, IsTyped, IsAssignTo, IsSound}
 use Rattle.gts_core.specs.Lawful.{kind_by_number, IsTypedAssign, IsLawful}
 use Rattle.gts_core.specs.declared.system.Assign.{Assign}
 use Rattle.gts_core.specs.declared.system.Observer.{Observer}
@@ -32,8 +32,8 @@ module _ (p : GtsParts) where
   -- a typed expression over plain numbers has its kind
   pub typed_kind : (e : Expr VarId) (k : ValueKind) → IsTyped p e k
       → HasKind (kind_by_number p) (out-Expr ℕ (numbered e)) k
-  typed_kind e k t = kind_renamed VarId ℕ (kind_at p) (kind_by_number p) IsNumber (λ x n i. ap (kind_by_number p) i)
-      t.typed (renames_numbered e)
+  typed_kind e k t = kind_renamed VarId ℕ (variable_kind_at p) (kind_by_number p) IsNumber (λ x n i. ap (kind_by_number
+      p) i) t.typed (renames_numbered e)
 
   -- and names variables of the system
   typed_inside : (e : Expr VarId) (k : ValueKind) → IsTyped p e k → (n : ℕ) → Mentions n (out-Expr ℕ (numbered e))

@@ -16,12 +16,12 @@ use Rattle.typed_expr.specs.declared.expr.ValueKind.{ValueKind}
 use Rattle.typed_expr.specs.declared.expr.ValueKind.TheVariants as kind
 use Rattle.typed_expr.proofs.Facts.{yields_named, yields_more}
 use Rattle.typed_expr.proofs.Valued.{one-fact}
-use Rattle.ar_meaning.specs.Facts.{Passes, none, one_and, HasValue}
+use Rattle.ar_meaning.specs.Facts.{PassesConditions, none, one_and, HasValue}
 use Rattle.ar_meaning.specs.Found.{IsAnswer}
 use Rattle.ar_meaning.proofs.ByNumber as number
 use Rattle.ar_base.specs.Numbers.{VarId}
 use Rattle.gts_core.specs.View.{numbered, condition_of, net_of, variable_of}
-use Rattle.gts_core.specs.Sound.{kind_of_domain, kind_of_found, kind_at, IsTyped}
+use Rattle.gts_core.specs.Sound.{kind_of_domain, kind_of_found, variable_kind_at, IsTyped}
 use Rattle.gts_core.specs.declared.system.Variable.{Variable}
 use Rattle.gts_core.specs.declared.system.GtsParts.{GtsParts}
 use Rattle.gts_core.proofs.Numbering.{yields_numbered, yields_back}
@@ -92,7 +92,7 @@ module _ (p : GtsParts) (t : List Value) (total : IsTotal p t) where
       (λ x w f. subst (λ (z : Value). Contains (value_at t x.n ∷ []) z)
       (read_value t x.n w (number.value_at (net_of p) (are_numbered p) t x.n w f))
       (contains-head (value_at t x.n) [])) back in
-      (one-fact (λ (x : VarId). value_at t x.n) (kind_at p)
+      (one-fact (λ (x : VarId). value_at t x.n) (variable_kind_at p)
       (λ x. kinds_agree p.variables.items t total.long total.in_domain x.n) e k typed.typed v).0 one
 
   -- the value is yielded
@@ -100,7 +100,7 @@ module _ (p : GtsParts) (t : List Value) (total : IsTotal p t) where
       → Yields (HasValue (net_of p) t) (out-Expr ℕ (numbered e)) (value_in t e)
   value_yielded e k typed =
       let one : Yields (facts_of (λ (x : VarId). value_at t x.n ∷ [])) (out-Expr VarId e) (value_in t e) =
-      (one-fact (λ (x : VarId). value_at t x.n) (kind_at p)
+      (one-fact (λ (x : VarId). value_at t x.n) (variable_kind_at p)
       (λ x. kinds_agree p.variables.items t total.long total.in_domain x.n) e k typed.typed (value_in t e)).1
       refl in
       yields_numbered (λ (x : VarId) (w : Value). HasValue (net_of p) t x.n w) (HasValue (net_of p) t) e (value_in t e)
@@ -124,19 +124,19 @@ module _ (p : GtsParts) (t : List Value) (total : IsTotal p t) where
 
   pub passes_answer : (cs : List (Expr VarId × Bool))
       → ((c : Expr VarId × Bool) → IsOneOf cs c → IsTyped p c.0 kind.Truth)
-      → IsAnswer (list_all (is_met t) cs) (Passes (HasValue (net_of p) t) (map condition_of cs))
+      → IsAnswer (list_all (is_met t) cs) (PassesConditions (HasValue (net_of p) t) (map condition_of cs))
   passes_answer [] typed = none
   passes_answer (c ∷ cs) typed =
       and_answer (is_met t c) (list_all (is_met t) cs)
       (Yields (HasValue (net_of p) t) (out-Expr ℕ (numbered c.0)) (Truth c.1))
-      (Passes (HasValue (net_of p) t) (map condition_of cs))
-      (Passes (HasValue (net_of p) t) (map condition_of (c ∷ cs))) (λ y q. one_and y q) first rest
+      (PassesConditions (HasValue (net_of p) t) (map condition_of cs))
+      (PassesConditions (HasValue (net_of p) t) (map condition_of (c ∷ cs))) (λ y q. one_and y q) first rest
       (met_answer c.0 (typed c (one_first c cs)) c.1) (passes_answer cs (λ d h. typed d (one_rest c cs d h)))
     where
-      first : Passes (HasValue (net_of p) t) (map condition_of (c ∷ cs))
+      first : PassesConditions (HasValue (net_of p) t) (map condition_of (c ∷ cs))
           → Yields (HasValue (net_of p) t) (out-Expr ℕ (numbered c.0)) (Truth c.1)
       first (one_and y q) = y
 
-      rest : Passes (HasValue (net_of p) t) (map condition_of (c ∷ cs))
-          → Passes (HasValue (net_of p) t) (map condition_of cs)
+      rest : PassesConditions (HasValue (net_of p) t) (map condition_of (c ∷ cs))
+          → PassesConditions (HasValue (net_of p) t) (map condition_of cs)
       rest (one_and y q) = q

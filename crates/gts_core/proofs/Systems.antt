@@ -7,7 +7,7 @@ use Rattle.typed_expr.specs.declared.expr.Expr.{Expr}
 use Rattle.ar_meaning.specs.Systems.{System, Net, Event as Meant, Way as Ways}
 use Rattle.ar_meaning.proofs.OneRun.{means_same}
 use Rattle.ar_base.specs.Numbers.{WayId}
-use Rattle.gts_core.specs.View.{IsWayAt, IsEvent, Views, net_of, bodies_of, observers_of}
+use Rattle.gts_core.specs.View.{IsWayAt, IsEventView, Views, net_of, way_bodies, observers_of}
 use Rattle.gts_core.specs.Sound.{IsSound}
 use Rattle.gts_core.specs.declared.system.Event.{Event}
 use Rattle.gts_core.specs.declared.system.GtsParts.{GtsParts}
@@ -29,7 +29,7 @@ along_one R single (l.one_and {a = x} {b = b} r rs) (l.one_and {b = c} s ss) = l
 
 module _ (p : GtsParts) where
   -- an event that stands for an event of the parts
-  some_event : IsSound p → (n : ℕ) (e : Event) → Stands p.events.items n e → (m : Meant ℕ) × IsEvent p e m
+  some_event : IsSound p → (n : ℕ) (e : Event) → Stands p.events.items n e → (m : Meant ℕ) × IsEventView p e m
   some_event sound n e s =
       let ways = along_some (λ (id : WayId) (w : Ways ℕ). IsWayAt p id.n w) e.ways.items (λ k id t.
       let listed = sound.event_ways n k e id s t in
@@ -41,9 +41,9 @@ module _ (p : GtsParts) where
       )
 
   -- it is the only one
-  one_event : (e : Event) (a b : Meant ℕ) → IsEvent p e a → IsEvent p e b → a ≡ b
+  one_event : (e : Event) (a b : Meant ℕ) → IsEventView p e a → IsEventView p e b → a ≡ b
   one_event e a b f g = go a.unit b.unit a.hidden b.hidden a.ways b.ways (f.unit ∙ sym g.unit) (f.hidden ∙ sym g.hidden)
-      (along_one (λ (id : WayId) (w : Ways ℕ). IsWayAt p id.n w) (λ id v w i j. means_same (bodies_of p) i j) f.ways
+      (along_one (λ (id : WayId) (w : Ways ℕ). IsWayAt p id.n w) (λ id v w i j. means_same (way_bodies p) i j) f.ways
       g.ways)
     where
       go : (u v : ℕ) (h k : Bool) (ws xs : List (Ways ℕ)) → u ≡ v → h ≡ k → ws ≡ xs
@@ -53,7 +53,7 @@ module _ (p : GtsParts) where
   -- sound parts stand for a system
   pub some_system : IsSound p → (system : System ℕ) × Views p system
   some_system sound =
-      let events = along_some (IsEvent p) p.events.items (some_event sound) in (
+      let events = along_some (IsEventView p) p.events.items (some_event sound) in (
         record { net = net_of p; events = events.0; observers = observers_of p },
         record
             { net = refl; events = events.1; observers = refl },
@@ -62,7 +62,7 @@ module _ (p : GtsParts) where
   -- parts stand for one system
   pub one_system : (a b : System ℕ) → Views p a → Views p b → a ≡ b
   one_system a b f g = go a.net b.net a.events b.events a.observers b.observers (f.net ∙ sym g.net)
-      (along_one (IsEvent p) one_event f.events g.events) (f.observers ∙ sym g.observers)
+      (along_one (IsEventView p) one_event f.events g.events) (f.observers ∙ sym g.observers)
     where
       go : (m n : Net ℕ) (es fs : List (Meant ℕ)) (os qs : List (Expr ℕ)) → m ≡ n → es ≡ fs → os ≡ qs
           → ◌≡◌ {A = System ℕ} (record { net = m; events = es; observers = os })

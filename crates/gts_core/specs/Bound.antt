@@ -6,7 +6,7 @@ use Rattle.typed_expr.specs.declared.expr.Expr.{Expr}
 use Rattle.ar_meaning.specs.Systems as s
 use Rattle.ar_base.specs.Lists.{Along}
 use Rattle.ar_meaning.specs.Image.{Conditions_rename, Assign_renames}
-use Rattle.ar_meaning.specs.Expand.{Declared, Member, One, Synchronises}
+use Rattle.ar_meaning.specs.Expand.{EventDeclaration, Member, One, Synchronises}
 use Rattle.ar_base.specs.declared.numbers.Id.{Id}
 use Rattle.ar_base.specs.declared.numbers.EventKind.{EventKind}
 use Rattle.ar_base.specs.Numbers.{VarId}
@@ -22,20 +22,20 @@ use Rattle.gts_core.specs.declared.bound.DeclaredWay.{DeclaredWay}
 use Rattle.gts_core.specs.declared.bound.DeclaredWay.TheVariants.{Local, Sync}
 
 -- conditions from the outermost inward, each with the truth value that it must have
-abbrev pub Conditions : Type 0
-Conditions = List (Expr ℕ × Bool)
+abbrev pub NumberedConditions : Type 0
+NumberedConditions = List (Expr ℕ × Bool)
 
 -- the assignments of one form under these conditions, where those of the instructions in it are given
-abbrev pub act_step : Act-F (Conditions → List (s.Assign ℕ)) → Conditions → List (s.Assign ℕ)
+abbrev pub act_step : Act-F (NumberedConditions → List (s.Assign ℕ)) → NumberedConditions → List (s.Assign ℕ)
 act_step Skip when = []
 act_step (Set x e p) when = record { target = x.n; conditions = when; value = numbered e } ∷ []
 act_step (If test first second) when =
     first.value (when ++ (numbered test, true) ∷ []) ++ second.value (when ++ (numbered test, false) ∷ [])
-act_step (All acts) when = flat_map (λ (f : Conditions → List (s.Assign ℕ)). f when) acts.items
+act_step (All acts) when = flat_map (λ (f : NumberedConditions → List (s.Assign ℕ)). f when) acts.items
 
 -- the assignments of an instruction that stands under these conditions
-abbrev pub assigns_under : Act → Conditions → List (s.Assign ℕ)
-assigns_under = fold-Act (Conditions → List (s.Assign ℕ)) act_step
+abbrev pub assigns_under : Act → NumberedConditions → List (s.Assign ℕ)
+assigns_under = fold-Act (NumberedConditions → List (s.Assign ℕ)) act_step
 
 -- the assignments of an instruction
 abbrev pub assigns_of_act : Act → List (s.Assign ℕ)
@@ -66,16 +66,16 @@ member_of (Local guard action) = One (record { guard = numbered guard; action = 
 member_of (Sync parts at) = Synchronises (map event_part_of parts.items)
 
 -- a declared event, with its number as what stands for it
-abbrev pub declared_of : ℕ → DeclaredEvent → Declared (s.Transition ℕ) ℕ
+abbrev pub declared_of : ℕ → DeclaredEvent → EventDeclaration (s.Transition ℕ) ℕ
 declared_of n e = record { key = n; unit = e.unit.n; hidden = e.hidden; members = map member_of e.ways.items }
 
 -- the declared events from number n on
-abbrev pub declared_from : ℕ → List DeclaredEvent → List (Declared (s.Transition ℕ) ℕ)
+abbrev pub declared_from : ℕ → List DeclaredEvent → List (EventDeclaration (s.Transition ℕ) ℕ)
 declared_from n [] = []
 declared_from n (e ∷ es) = declared_of n e ∷ declared_from (n + 1) es
 
 -- what stands for each condition over plain numbers, item by item
-abbrev pub AreNumbers : Conditions → List (Expr VarId × Bool) → Type 0
+abbrev pub AreNumbers : NumberedConditions → List (Expr VarId × Bool) → Type 0
 AreNumbers cs when = Conditions_rename (λ m n. m ≡ n) cs (map condition_of when)
 
 -- the assignments stand, item by item, for these over plain numbers
@@ -83,17 +83,18 @@ abbrev pub AreAssigns : List (s.Assign ℕ) → List Assign → Type 0
 AreAssigns xs ys = Along (Assign_renames (λ m n. m ≡ n)) xs (map assign_of ys)
 
 -- the new assignments are the old ones and then those of the instruction under these conditions
-pub record Gives (act : Act) (when : List (Expr VarId × Bool)) (old new : List Assign) : Type 0 where
+pub record GivesAssigns (act : Act) (when : List (Expr VarId × Bool)) (old new : List Assign) : Type 0 where
   pub added : List Assign
   pub is : new ≡ old ++ added
-  pub are : (cs : Conditions) → AreNumbers cs when → AreAssigns (assigns_under act cs) added
+  pub are : (cs : NumberedConditions) → AreNumbers cs when → AreAssigns (assigns_under act cs) added
   pub places : places_in added ≡ places_of_act act
 
 -- the same of instructions one after the other
 pub record GiveAll (acts : List Act) (when : List (Expr VarId × Bool)) (old new : List Assign) : Type 0 where
   pub added : List Assign
   pub is : new ≡ old ++ added
-  pub are : (cs : Conditions) → AreNumbers cs when → AreAssigns (flat_map (λ (a : Act). assigns_under a cs) acts) added
+  pub are : (cs : NumberedConditions) → AreNumbers cs when → AreAssigns
+      (flat_map (λ (a : Act). assigns_under a cs) acts) added
   pub places : places_in added ≡ flat_map places_of_act acts
 
 -- copies of conditions, item by item

@@ -22,13 +22,13 @@ use Rattle.gts_core.specs.declared.system.Observer.{Observer}
 use Rattle.gts_core.specs.declared.system.GtsParts.{GtsParts}
 
 -- the path of a variable that was looked up
-abbrev pub path_of : Option FlatVariable → List ℕ
-path_of (Some x) = x.path
-path_of None = []
+abbrev pub path_of_found : Option FlatVariable → List ℕ
+path_of_found (Some x) = x.path
+path_of_found None = []
 
 -- the path of the variable of this number
 abbrev pub path_at : GtsParts → ℕ → List ℕ
-path_at p n = path_of (slice_get p.variables.items n)
+path_at p n = path_of_found (slice_get p.variables.items n)
 
 -- what stands before a part of a sum
 abbrev pub sign : Bool → Bool → List ℕ
@@ -97,8 +97,8 @@ domain_text p (domain.Range low high) =
     codes "[" ++ signed_decimal low ++ codes ", " ++ signed_decimal high ++ codes "]"
 
 -- a line for a variable
-abbrev pub variable_line : GtsParts → FlatVariable → List ℕ
-variable_line p x =
+abbrev pub flat_variable_line : GtsParts → FlatVariable → List ℕ
+flat_variable_line p x =
     (if x.is_state then codes "state " else codes "flow ") ++ x.path ++ codes " " ++ domain_text p x.domain ++ codes
     " = " ++ value_text p.symbols.items x.value ++ codes "\n"
 
@@ -164,11 +164,11 @@ assert_lines p n [] = []
 assert_lines p n (a ∷ more) = assert_line p (n + 1) a ++ assert_lines p (n + 1) more
 
 -- a line for an observer
-abbrev pub observer_line : GtsParts → Observer → List ℕ
-observer_line p o = codes "observer " ++ o.path ++ codes " = " ++ expr_text p o.value ++ codes "\n"
+abbrev pub flat_observer_line : GtsParts → Observer → List ℕ
+flat_observer_line p o = codes "observer " ++ o.path ++ codes " = " ++ expr_text p o.value ++ codes "\n"
 
 -- variables come first, then ways by event and number, then assignments, then observers
 abbrev pub flat_text : GtsParts → List ℕ
-flat_text p = concat (map (variable_line p) p.variables.items) ++ concat
+flat_text p = concat (map (flat_variable_line p) p.variables.items) ++ concat
     (map (event_lines p) p.events.items) ++ assert_lines p 0 p.assigns.items ++ concat
-    (map (observer_line p) p.observers.items)
+    (map (flat_observer_line p) p.observers.items)

@@ -68,12 +68,12 @@ abbrev pub of_body : WayBody → Body (s.Transition ℕ)
 of_body (Local guard action) = Acts (record { guard = numbered guard; action = map assign_of action.items })
 of_body (Sync parts) = Joins (map part_of parts.items)
 
-abbrev pub body_of : Way → Body (s.Transition ℕ)
-body_of w = of_body w.body
+abbrev pub body_of_way : Way → Body (s.Transition ℕ)
+body_of_way w = of_body w.body
 
 -- the ways of the system by number
-abbrev pub bodies_of : GtsParts → List (Body (s.Transition ℕ))
-bodies_of p = map body_of p.ways.items
+abbrev pub way_bodies : GtsParts → List (Body (s.Transition ℕ))
+way_bodies p = map body_of_way p.ways.items
 
 -- the variables and the assertions of the system
 abbrev pub net_of : GtsParts → s.Net ℕ
@@ -81,10 +81,10 @@ net_of p = record { variables = variables_from 0 p.variables.items; assertions =
 
 -- the number stands for the way
 abbrev pub IsWayAt : GtsParts → ℕ → s.Way ℕ → Type 0
-IsWayAt p n w = Means_way (bodies_of p) n w
+IsWayAt p n w = Means_way (way_bodies p) n w
 
 -- an event with the ways that its numbers stand for
-pub record IsEvent (p : GtsParts) (e : Event) (event : s.Event ℕ) : Type 0 where
+pub record IsEventView (p : GtsParts) (e : Event) (event : s.Event ℕ) : Type 0 where
   pub unit : event.unit ≡ e.unit.n
   pub hidden : event.hidden ≡ e.hidden
   pub ways : Along (λ (n : WayId) (w : s.Way ℕ). IsWayAt p n.n w) e.ways.items event.ways
@@ -96,5 +96,5 @@ observers_of p = map (λ (o : Observer). numbered o.value) p.observers.items
 -- the system that the parts stand for
 pub record Views (p : GtsParts) (system : s.System ℕ) : Type 0 where
   pub net : system.net ≡ net_of p
-  pub events : Along (IsEvent p) p.events.items system.events
+  pub events : Along (IsEventView p) p.events.items system.events
   pub observers : system.observers ≡ observers_of p

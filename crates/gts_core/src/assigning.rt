@@ -1,7 +1,7 @@
 //! The assignments of instructions.
 
 ghost use Rattle.std.specs.Prelude.{◌≡◌, OnOk, IfOk};
-ghost use Rattle.gts_core.specs.Bound.{assigns_of_act, places_of_act, places_in, AreAssigns, Gives, GiveAll, AreConditionCopies, conditions_in};
+ghost use Rattle.gts_core.specs.Bound.{assigns_of_act, places_of_act, places_in, AreAssigns, GivesAssigns, GiveAll, AreConditionCopies, conditions_in};
 
 use crate::bound::Act;
 use crate::copies::copy_expression;
@@ -31,7 +31,7 @@ fn assigned<'a>(
     when: &mut Vec<(&'a Expr<VarId>, bool)>,
     out: &mut Vec<Assign>,
 ) -> Result<(), Memory>
-    ensures given { OnOk result (Gives act.now (conditions_in when.old.items) out.old.items out.new.items) }
+    ensures given { OnOk result (GivesAssigns act.now (conditions_in when.old.items) out.old.items out.new.items) }
     ensures kept { OnOk result (when.new.items ≡ when.old.items) }
 {
     match act {

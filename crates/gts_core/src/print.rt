@@ -6,7 +6,7 @@ ghost use Rattle.ar_base.specs.Numbers.{WayId};
 ghost use Rattle.ar_io.specs.Writing.{Writes};
 ghost use Rattle.std.specs.List.{concat};
 ghost use Rattle.ar_base.specs.Texts.{text_at, separated};
-ghost use Rattle.gts_core.specs.Printed.{expr_text, domain_text, variable_line, condition_text, set_text, action_text, event_path, label_of, label_found, part_text, body_text, way_line, line_found, event_lines, assert_line, assert_lines, observer_line, flat_text};
+ghost use Rattle.gts_core.specs.Printed.{expr_text, domain_text, flat_variable_line, condition_text, set_text, action_text, event_path, label_of, label_found, part_text, body_text, way_line, line_found, event_lines, assert_line, assert_lines, flat_observer_line, flat_text};
 
 use crate::expressions::expression;
 use crate::pieces::{count, either, path_at, put, text_at, value, whole};
@@ -30,7 +30,7 @@ pub(crate) fn system<K: Sink>(out: &mut K, parts: &GtsParts) -> Result<(), SinkF
 // The lines for the variables.
 fn variables<K: Sink>(out: &mut K, parts: &GtsParts, all: &[Variable]) -> Result<(), SinkFailed>
     ensures { Writes (K.state out.old) (K.state out.new)
-        (concat (map (variable_line parts.now) all.now)) result }
+        (concat (map (flat_variable_line parts.now) all.now)) result }
 {
     for x in all {
         variable(out, parts, x)?;
@@ -40,7 +40,7 @@ fn variables<K: Sink>(out: &mut K, parts: &GtsParts, all: &[Variable]) -> Result
 
 // The line for a variable.
 fn variable<K: Sink>(out: &mut K, parts: &GtsParts, x: &Variable) -> Result<(), SinkFailed>
-    ensures { Writes (K.state out.old) (K.state out.new) (variable_line parts.now x.now) result }
+    ensures { Writes (K.state out.old) (K.state out.new) (flat_variable_line parts.now x.now) result }
 {
     put(out, either(x.is_state, "state ", "flow "))?;
     put(out, x.path.as_str())?;
@@ -339,7 +339,7 @@ fn assert_line<K: Sink>(
 // The lines for the observers.
 fn observers<K: Sink>(out: &mut K, parts: &GtsParts, all: &[Observer]) -> Result<(), SinkFailed>
     ensures { Writes (K.state out.old) (K.state out.new)
-        (concat (map (observer_line parts.now) all.now)) result }
+        (concat (map (flat_observer_line parts.now) all.now)) result }
 {
     for o in all {
         observer(out, parts, o)?;
@@ -349,7 +349,7 @@ fn observers<K: Sink>(out: &mut K, parts: &GtsParts, all: &[Observer]) -> Result
 
 // The line for an observer.
 fn observer<K: Sink>(out: &mut K, parts: &GtsParts, o: &Observer) -> Result<(), SinkFailed>
-    ensures { Writes (K.state out.old) (K.state out.new) (observer_line parts.now o.now) result }
+    ensures { Writes (K.state out.old) (K.state out.new) (flat_observer_line parts.now o.now) result }
 {
     put(out, "observer ")?;
     put(out, o.path.as_str())?;

@@ -6,7 +6,7 @@ use Rattle.typed_expr.specs.declared.expr.Expr.{Expr}
 use Rattle.ar_meaning.specs.Systems.{Assign, Transition, Way, Event, System, Branches}
 use Rattle.ar_meaning.specs.Image.{Expr_renames, Conditions_rename, Assign_renames, Transition_renames, leaves, joints, Branches_along, no_branch, branch, Way_renames, Event_renames}
 use Rattle.ar_meaning.specs.Image as i
-use Rattle.sync_expand.specs.Expanding.{most_ways, branch_count, part_count, parts_in, way_parts}
+use Rattle.sync_expand.specs.Counting.{most_ways, branch_count, part_count, parts_in, way_parts}
 use Rattle.gts_flatten.specs.Sizes.{nodes_in, condition_nodes, assigns_nodes, way_nodes, ways_nodes, events_nodes, system_nodes}
 use Rattle.gts_flatten.proofs.Renamed.{renamed_nodes}
 

@@ -23,6 +23,7 @@ use Rattle.source_meaning.specs.Rules as rule
 use Rattle.source_meaning.specs.Systems.{Declarations}
 use Rattle.source_meaning.specs.declared.bound.Bound.{Bound}
 use Rattle.sync_expand.specs.Expanding as bound
+use Rattle.sync_expand.specs.Counting.{way_rules}
 use Rattle.sync_expand.proofs.DeclaredLemmas.{declared_back, declared_key, synchronised}
 use Rattle.gts_flatten.specs.Elaborating as source
 
@@ -50,7 +51,7 @@ module _ (d : Declarations) (b : Bound) (from : IsBoundFrom d b)
   )
 
   -- from bound events
-  broken_source : (p : Place) → bound.BreaksSynchronisation b.events.items p → source.BreaksSynchronisation d p
+  broken_source : (p : Place) → bound.BreaksNumberedSynchronisation b.events.items p → source.BreaksSynchronisation d p
   broken_source p h =
       let t = along_back (events d.model d.units) b.events.items from.sync_places h.event h.declared h.stands in
       let f = along_back (ways_declared d.model t.0) h.declared.ways.items t.2 h.number (Sync h.parts p) h.is_way in
@@ -71,7 +72,7 @@ module _ (d : Declarations) (b : Bound) (from : IsBoundFrom d b)
       }
 
   -- from the source
-  source_broken : (p : Place) → source.BreaksSynchronisation d p → bound.BreaksSynchronisation b.events.items p
+  source_broken : (p : Place) → source.BreaksSynchronisation d p → bound.BreaksNumberedSynchronisation b.events.items p
   source_broken p h =
       let n = h.is_event.place in
       let e = along_on (events d.model d.units) b.events.items from.sync_places n h.event h.is_event.stands in
@@ -89,7 +90,7 @@ module _ (d : Declarations) (b : Bound) (from : IsBoundFrom d b)
       go : (n : ℕ) (e : DeclaredEvent) → Stands b.events.items n e → (w : DeclaredWay) → Stands e.ways.items h.place w
           → HasPlace h.form w → LeadsBack (declared_from 0 b.events.items) n h.place
           → {parts : Vec (Bool × EventId) Global} {at : Place}
-          → w ≡ Sync parts at → bound.BreaksSynchronisation b.events.items p
+          → w ≡ Sync parts at → bound.BreaksNumberedSynchronisation b.events.items p
       go n e s w t (local {guard = g} {a = a}) l i = absurd cc
       go n e s w t (sync {parts = parts} {at = at} x is) l i = record {
         event = n;
@@ -101,17 +102,18 @@ module _ (d : Declarations) (b : Bound) (from : IsBoundFrom d b)
         back = l;
       }
 
-  breaks_source : (r : ℕ) (p : Place) → bound.Breaks b.events.items r p → source.Breaks d r p
+  breaks_source : (r : ℕ) (p : Place) → bound.BreaksNumberedWayRule b.events.items r p → source.BreaksWayRule d r p
   breaks_source r p (bound.l14 h) = source.l14 (broken_source p h)
 
-  breaks_bound : (r : ℕ) (p : Place) → source.Breaks d r p → bound.Breaks b.events.items r p
+  breaks_bound : (r : ℕ) (p : Place) → source.BreaksWayRule d r p → bound.BreaksNumberedWayRule b.events.items r p
   breaks_bound r p (source.l14 h) = bound.l14 (source_broken p h)
 
-  pub kept_source : AreKept bound.way_rules (bound.Breaks b.events.items) → AreKept bound.way_rules (source.Breaks d)
+  pub kept_source : AreKept way_rules (bound.BreaksNumberedWayRule b.events.items)
+      → AreKept way_rules (source.BreaksWayRule d)
   kept_source k = record { kept = λ r p o h. k.kept r p o (breaks_bound r p h) }
 
-  pub broken_in_source : (r : ℕ) (p : Place) → IsBroken bound.way_rules (bound.Breaks b.events.items) r p
-      → IsBroken bound.way_rules (source.Breaks d) r p
+  pub broken_in_source : (r : ℕ) (p : Place) → IsBroken way_rules (bound.BreaksNumberedWayRule b.events.items) r p
+      → IsBroken way_rules (source.BreaksWayRule d) r p
   broken_in_source r p k = record {
     is_one = k.is_one;
     breaks_there = breaks_source r p k.breaks_there;

@@ -7,13 +7,14 @@ use Rattle.std.proofs.lemmas.List.{length-map}
 use Rattle.ar_base.specs.Lists.{Stands}
 use Rattle.ar_base.specs.Numbers.{WayId}
 use Rattle.ar_base.proofs.Standing.{stands_one, stands_some, stands_within, stands_split, stands_map}
-use Rattle.ar_meaning.specs.Expand.{Declared, Member, One, Synchronises}
+use Rattle.ar_meaning.specs.Expand.{EventDeclaration, Member, One, Synchronises}
 use Rattle.ar_meaning.specs.Numbered.{Body, Joins}
 use Rattle.gts_core.specs.Bound.{declared_from}
 use Rattle.gts_core.specs.declared.bound.DeclaredEvent.{DeclaredEvent}
 use Rattle.gts_core.specs.declared.system.Event.{Event}
 use Rattle.sync_expand.specs.Counts.{AreCounts, way_count}
-use Rattle.sync_expand.specs.Plans.{first_of, ways_at, bodies_by, choices_by, planned_of, planned_ways}
+use Rattle.sync_expand.specs.Plans.{first_of, ways_at, bodies_by, choices_by, planned_ways}
+use Rattle.sync_expand.specs.Planned.{planned_of}
 use Rattle.sync_expand.specs.declared.plans.WayPlan.{WayPlan}
 use Rattle.sync_expand.proofs.Capping.{read_number}
 use Rattle.sync_expand.proofs.Choosing.{choices_length}
@@ -37,7 +38,7 @@ bodies_long {M = M} act counts k (Synchronises parts ∷ ms) =
     let a = length-append (map joined (choices_by counts parts)) (bodies_by act counts (k + 1) ms) in
     omega (arith, i, c, m, a)
 
-pub long_counts : {L : Type 0} (counts : List ℕ) (ds : List (Declared L ℕ)) → AreCounts ds counts
+pub long_counts : {L : Type 0} (counts : List ℕ) (ds : List (EventDeclaration L ℕ)) → AreCounts ds counts
     → AreLong counts counts ds
 long_counts {L = L} counts ds a = record {
   same = a.long;

@@ -6,7 +6,7 @@ use Rattle.ar_base.specs.Lists.{Stands, IsOneOf, Along}
 use Rattle.ar_base.specs.Lists as l
 use Rattle.ar_base.proofs.Standing.{stands_one, one_first, one_rest}
 use Rattle.ar_meaning.specs.Systems.{System, Transition, Tree, Joint, Branches, Event}
-use Rattle.ar_meaning.specs.Expand.{Declared, Member, AreKeyed, Ways, event, Members_give, no_member, one, synchronises, IsExpanded}
+use Rattle.ar_meaning.specs.Expand.{EventDeclaration, Member, AreKeyedEvents, Ways, event, Members_give, no_member, one, synchronises, IsExpanded}
 use Rattle.gts_core.specs.Bound.{assigns_under, declared_from, declared_of, member_of}
 use Rattle.gts_core.specs.View.{numbered}
 use Rattle.gts_core.specs.declared.bound.Act.{Act}
@@ -28,26 +28,26 @@ joints_nodes : (bss : List (Branches (Transition ℕ))) (ts : List (Tree (Transi
 joints_nodes [] ts = refl
 joints_nodes (bs ∷ bss) ts = let i = joints_nodes bss ts in omega (arith, i)
 
-given_nodes : {ds : List (Declared (Transition ℕ) ℕ)} {ms : List (Member (Transition ℕ) ℕ)}
+given_nodes : {ds : List (EventDeclaration (Transition ℕ) ℕ)} {ms : List (Member (Transition ℕ) ℕ)}
     {ts : List (Tree (Transition ℕ))} → Members_give ds ms ts → ways_nodes ts ≡ members_nodes ms
 given_nodes no_member = refl
 given_nodes (one {l = t} d) = let i = given_nodes d in omega (arith, i)
 given_nodes (synchronises {bss = bss} {ts = ts} p d) = let i = given_nodes d in let j = joints_nodes bss ts in omega (arith, i, j)
 
 -- an event has the nodes of its members
-own_nodes : (ds : List (Declared (Transition ℕ) ℕ)) → AreKeyed ds → (d : Declared (Transition ℕ) ℕ) → IsOneOf ds d
-    → (ts : List (Tree (Transition ℕ))) → Ways ds d.key ts → ways_nodes ts ≡ members_nodes d.members
+own_nodes : (ds : List (EventDeclaration (Transition ℕ) ℕ)) → AreKeyedEvents ds → (d : EventDeclaration (Transition ℕ)
+    ℕ) → IsOneOf ds d → (ts : List (Tree (Transition ℕ))) → Ways ds d.key ts → ways_nodes ts ≡ members_nodes d.members
 own_nodes ds keyed d o ts w = by w
   where
     by : Ways ds d.key ts → ways_nodes ts ≡ members_nodes d.members
     by (event {d = x} k s e m) =
         let here = keyed.one k o.place x d s o.stands e in
         let same : x ≡ d = stands_one ds o.place x d (subst (λ (i : ℕ). Stands ds i x) here s) o.stands in
-        given_nodes m ∙ ap (λ (y : Declared (Transition ℕ) ℕ). members_nodes y.members) same
+        given_nodes m ∙ ap (λ (y : EventDeclaration (Transition ℕ) ℕ). members_nodes y.members) same
 
-all_own : (ds : List (Declared (Transition ℕ) ℕ)) → AreKeyed ds
-    → {xs : List (Declared (Transition ℕ) ℕ)} {es : List (Event ℕ)}
-    → ((d : Declared (Transition ℕ) ℕ) → IsOneOf xs d → IsOneOf ds d) → Along (IsExpanded ds) xs es
+all_own : (ds : List (EventDeclaration (Transition ℕ) ℕ)) → AreKeyedEvents ds
+    → {xs : List (EventDeclaration (Transition ℕ) ℕ)} {es : List (Event ℕ)}
+    → ((d : EventDeclaration (Transition ℕ) ℕ) → IsOneOf xs d → IsOneOf ds d) → Along (IsExpanded ds) xs es
     → events_nodes es ≡ declared_nodes xs
 all_own ds keyed of l.none = refl
 all_own ds keyed of (l.one_and {a = d} {b = e} {xs = xs} x rest) =
@@ -89,7 +89,7 @@ ways_next ws i w old n new s a b c =
     let k = members_append (map member_of (take i ws)) (member_of w ∷ []) in
     omega (arith, t, j, k, a, b, c)
 
-declared_append : (ds es : List (Declared (Transition ℕ) ℕ))
+declared_append : (ds es : List (EventDeclaration (Transition ℕ) ℕ))
     → declared_nodes (ds ++ es) ≡ declared_nodes ds + declared_nodes es
 declared_append [] es = omega arith
 declared_append (d ∷ ds) es = let i = declared_append ds es in omega (arith, i)
@@ -109,7 +109,7 @@ events_next events i d old n new s a b c =
 pub events_end : (events : List DeclaredEvent) (i : ℕ) (n : ℕ) → length events ≤ i
     → n ≡ min 1000001 (declared_nodes (take i (declared_from 0 events)))
     → n ≡ min 1000001 (declared_nodes (declared_from 0 events))
-events_end events i n l e = e ∙ ap (λ (ds : List (Declared (Transition ℕ) ℕ)). min 1000001 (declared_nodes ds)) (take_all i (declared_from 0 events) (let d = declared_length 0 events in omega (arith, l, d)))
+events_end events i n l e = e ∙ ap (λ (ds : List (EventDeclaration (Transition ℕ) ℕ)). min 1000001 (declared_nodes ds)) (take_all i (declared_from 0 events) (let d = declared_length 0 events in omega (arith, l, d)))
 
 observers_append : (os ps : List Observer) → observers_nodes (os ++ ps) ≡ observers_nodes os + observers_nodes ps
 observers_append [] ps = omega arith

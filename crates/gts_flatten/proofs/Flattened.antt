@@ -8,14 +8,14 @@ use Rattle.ar_base.proofs.Items.{along_by}
 use Rattle.typed_expr.specs.declared.expr.Expr.{Expr}
 use Rattle.ar_meaning.specs.Systems.{System, Event as SystemEvent, Way as SystemWay, Transition}
 use Rattle.ar_meaning.specs.Systems as s
-use Rattle.ar_meaning.specs.Expand.{Declared}
+use Rattle.ar_meaning.specs.Expand.{EventDeclaration}
 use Rattle.ar_meaning.specs.Image.{Expr_renames, Variable_renames, Assign_renames, Way_renames, Event_renames, IsImage}
 use Rattle.ar_meaning.specs.Numbered.{Acts, Joins, Means_way}
 use Rattle.ar_meaning.specs.TraceText.{Naming}
 use Rattle.ar_meaning.proofs.FlatSystems.{copied_system}
 use Rattle.ar_meaning.proofs.OneRun.{means_same}
 use Rattle.gts_core.specs.Bound.{declared_from}
-use Rattle.gts_core.specs.View.{Views, IsEvent, bodies_of, net_of, variables_from, observers_of, numbered, part_of}
+use Rattle.gts_core.specs.View.{Views, IsEventView, way_bodies, net_of, variables_from, observers_of, numbered, part_of}
 use Rattle.gts_core.specs.Sound.{IsSound}
 use Rattle.gts_core.specs.declared.bound.DeclaredEvent.{DeclaredEvent}
 use Rattle.gts_core.specs.declared.bound.DeclaredWay.{DeclaredWay}
@@ -31,12 +31,14 @@ use Rattle.gts_core.proofs.Systems.{some_system}
 use Rattle.hierarchy.specs.Units.{Thing}
 use Rattle.hierarchy.specs.Listing.{variables, events}
 use Rattle.hierarchy.specs.Models.{RootedModel}
-use Rattle.source_meaning.specs.Binding.{IsBoundFrom, HasKind, kind}
+use Rattle.source_meaning.specs.Binding.{IsBoundFrom}
+use Rattle.source_meaning.specs.Numbering.{HasObserverKind, kind}
 use Rattle.source_meaning.specs.SoundBound.{IsSoundBound}
 use Rattle.source_meaning.specs.Systems.{Declarations}
 use Rattle.source_meaning.specs.declared.bound.Bound.{Bound}
 use Rattle.sync_expand.specs.Expanding.{AreWays}
-use Rattle.sync_expand.specs.Plans.{planned_of, planned_body, planned_ways, PlannedWay}
+use Rattle.sync_expand.specs.Plans.{planned_ways, PlannedWay}
+use Rattle.sync_expand.specs.Planned.{planned_of, planned_body}
 use Rattle.sync_expand.specs.declared.plans.PlanBody.{PlanBody}
 use Rattle.sync_expand.specs.declared.plans.WayPlan.{WayPlan}
 use Rattle.sync_expand.proofs.DeclaredLemmas.{declared_back, declared_length}
@@ -83,8 +85,8 @@ observer_paths : {xs ys : List Observer} → Along IsSameObserver xs ys
 observer_paths none = refl
 observer_paths (one_and h hs) = let p = h.path in let r = observer_paths hs in cc
 
-kinds_copied : {m : RootedModel} {ts : List Thing} {xs ys : List Observer} → Along (HasKind m) ts xs
-    → Along IsSameObserver xs ys → Along (HasKind m) ts ys
+kinds_copied : {m : RootedModel} {ts : List Thing} {xs ys : List Observer} → Along (HasObserverKind m) ts xs
+    → Along IsSameObserver xs ys → Along (HasObserverKind m) ts ys
 kinds_copied none none = none
 kinds_copied (one_and (kind type e is of) ks) (one_and h hs) =
     one_and (kind type e is (of ∙ ap Some (sym h.kind))) (kinds_copied ks hs)
@@ -138,7 +140,7 @@ module _ (d : Declarations) (b : Bound) (from : IsBoundFrom d b) (different : Ar
       (stands_map (λ (e : SystemEvent ℕ). e.ways) m.flat.events n g h)
 
   ways_copied : (n : ℕ) (e : Event) (g f : SystemEvent ℕ) → Stands p.events.items n e → Stands m.flat.events n g
-      → IsEvent p e f → Along (Way_renames same) g.ways f.ways
+      → IsEventView p e f → Along (Way_renames same) g.ways f.ways
   ways_copied n e g f he hg i = along_by (Way_renames same) g.ways f.ways long each
     where
       own : Stands ways n g.ways
@@ -157,26 +159,26 @@ module _ (d : Declarations) (b : Bound) (from : IsBoundFrom d b) (different : Ar
           let w = along_back e.ways.items f.ways i.ways k u hu in
           let q = id_at b ways are plan is bound_sound p made n k e w.0 he w.1 in
           let c = copied_at b ways are plan is bound_sound p made n k g.ways t own ht in
-          let one : c.tree ≡ u = means_same (bodies_of p) c.means
-          (subst (λ (z : ℕ). Means_way (bodies_of p) z u) q.0 w.2) in
+          let one : c.tree ≡ u = means_same (way_bodies p) c.means
+          (subst (λ (z : ℕ). Means_way (way_bodies p) z u) q.0 w.2) in
           subst (λ (z : SystemWay ℕ). Way_renames same t z) one c.along
 
   event_copied : (n : ℕ) (e : Event) (g f : SystemEvent ℕ) → Stands p.events.items n e → Stands m.flat.events n g
-      → IsEvent p e f → Event_renames same g f
+      → IsEventView p e f → Event_renames same g f
   event_copied n e g f he hg i =
       let es = declared_from 0 b.events.items in
       let x = along_back es m.flat.events m.expanded n g hg in
       let y = declared_back 0 b.events.items n x.0 x.1 in
       let c = made.events.each n y.0 e y.1 he in
       record {
-        unit = sym x.2.unit ∙ (ap (λ (z : Declared (Transition ℕ) ℕ). z.unit) y.2
+        unit = sym x.2.unit ∙ (ap (λ (z : EventDeclaration (Transition ℕ) ℕ). z.unit) y.2
             ∙ (sym (ap (λ z. z.n) c.unit) ∙ sym i.unit));
-        hidden = sym x.2.hidden ∙ (ap (λ (z : Declared (Transition ℕ) ℕ). z.hidden) y.2
+        hidden = sym x.2.hidden ∙ (ap (λ (z : EventDeclaration (Transition ℕ) ℕ). z.hidden) y.2
             ∙ (sym c.hidden ∙ sym i.hidden));
         ways = ways_copied n e g f he hg i;
       }
 
-  events_copied : (fs : List (SystemEvent ℕ)) → Along (IsEvent p) p.events.items fs
+  events_copied : (fs : List (SystemEvent ℕ)) → Along (IsEventView p) p.events.items fs
       → Along (Event_renames same) m.flat.events fs
   events_copied fs v =
       let es = declared_from 0 b.events.items in

@@ -6,7 +6,7 @@ use Rattle.ar_base.specs.Lists.{Stands}
 use Rattle.ar_base.specs.Numbers.{WayId}
 use Rattle.ar_base.proofs.Standing.{stands_one, stands_none, stands_get, stands_within, stands_split}
 use Rattle.ar_base.proofs.Comparing.{lt_or_same}
-use Rattle.ar_meaning.specs.Expand.{Declared}
+use Rattle.ar_meaning.specs.Expand.{EventDeclaration}
 use Rattle.ar_meaning.specs.Numbered.{Body}
 use Rattle.sync_expand.specs.Plans.{PlannedWay, first_of, bodies_by, numbered_from, planned_ways, ways_of_event}
 use Rattle.sync_expand.specs.declared.plans.WayPlan.{WayPlan}
@@ -84,10 +84,11 @@ module _ (plan : List WayPlan) (event first : ℕ) where
 -- Where planned ways stand
 
 -- the way is the one of number k + 1 of the event at place e
-pub record IsPlaced {L : Type 0} (counts : List ℕ) (ds : List (Declared L ℕ)) (j : ℕ) (w : PlannedWay) : Type 0 where
+pub record IsPlaced {L : Type 0} (counts : List ℕ) (ds : List (EventDeclaration L ℕ)) (j : ℕ)
+    (w : PlannedWay) : Type 0 where
   pub event : ℕ
   pub place : ℕ
-  pub declared : Declared L ℕ
+  pub declared : EventDeclaration L ℕ
   pub stands : Stands ds event declared
   pub there : j ≡ first_of counts event + place
   pub below : place < slice_index counts event
@@ -104,23 +105,23 @@ numbered_at e k (b ∷ bs) zero w s =
 numbered_at e k (b ∷ bs) (suc i) w s = let r = numbered_at e (k + 1) bs i w s in (r.0, let f = r.1 in omega (arith, f))
 
 -- so many ways has each event
-pub record AreLong {L : Type 0} (counts rest : List ℕ) (ds : List (Declared L ℕ)) : Type 0 where
+pub record AreLong {L : Type 0} (counts rest : List ℕ) (ds : List (EventDeclaration L ℕ)) : Type 0 where
   pub same : length rest ≡ length ds
-  pub each : (n : ℕ) (d : Declared L ℕ) → Stands ds n d
+  pub each : (n : ℕ) (d : EventDeclaration L ℕ) → Stands ds n d
       → length (bodies_by {L = L} {M = ℕ} (λ k l. k) counts 0 d.members) ≡ slice_index rest n
 
 module _ {L : Type 0} (counts : List ℕ) where
-  rest_long : (c : ℕ) (rest : List ℕ) (d : Declared L ℕ) (ds : List (Declared L ℕ)) → AreLong counts (c ∷ rest) (d ∷ ds)
-      → AreLong counts rest ds
+  rest_long : (c : ℕ) (rest : List ℕ) (d : EventDeclaration L ℕ) (ds : List (EventDeclaration L ℕ)) → AreLong counts (c
+      ∷ rest) (d ∷ ds) → AreLong counts rest ds
   rest_long c rest d ds l = record { same = (let e = l.same in omega (arith, e)); each = λ n x t. l.each (suc n) x t }
 
-  first_long : (c : ℕ) (rest : List ℕ) (d : Declared L ℕ) (ds : List (Declared L ℕ))
+  first_long : (c : ℕ) (rest : List ℕ) (d : EventDeclaration L ℕ) (ds : List (EventDeclaration L ℕ))
       → AreLong counts (c ∷ rest) (d ∷ ds) → length (ways_of_event counts d) ≡ c
   first_long c rest d ds l = numbered_length d.key 1 (bodies_by {L = L} {M = ℕ} (λ k x. k) counts 0 d.members)
       ∙ l.each 0 d refl
 
   -- so many ways are planned
-  pub planned_long : (rest : List ℕ) (ds : List (Declared L ℕ)) → AreLong counts rest ds
+  pub planned_long : (rest : List ℕ) (ds : List (EventDeclaration L ℕ)) → AreLong counts rest ds
       → length (planned_ways counts ds) ≡ sum rest
   planned_long [] [] l = refl
   planned_long (c ∷ rest) [] l = let e = l.same in absurd (omega (arith, e))
@@ -133,7 +134,7 @@ module _ {L : Type 0} (counts : List ℕ) where
       omega (arith, i, f, a, s)
 
   -- where a planned way stands
-  pub placed_at : (rest : List ℕ) (ds : List (Declared L ℕ)) → AreLong counts rest ds → (j : ℕ) (w : PlannedWay)
+  pub placed_at : (rest : List ℕ) (ds : List (EventDeclaration L ℕ)) → AreLong counts rest ds → (j : ℕ) (w : PlannedWay)
       → Stands (planned_ways counts ds) j w → IsPlaced rest ds j w
   placed_at rest [] l j w s = absurd (stands_none j w s)
   placed_at [] (d ∷ ds) l j w s = let e = l.same in absurd (omega (arith, e))

@@ -18,8 +18,8 @@ use Rattle.ar_meaning.specs.Numbered.{Means_way, joint, leaf, Mean_parts, part, 
 use Rattle.gts_core.specs.Bound.{declared_from, assigns_of_act}
 use Rattle.gts_core.specs.Copies.{IsCopy}
 use Rattle.gts_core.proofs.SameDomains.{domain_there, value_there, value_back}
-use Rattle.gts_core.specs.Sound.{IsSound, AreShort, IsVariable, IsNamed, IsTyped, IsAssignTo, IsListed, IsOwn}
-use Rattle.gts_core.specs.View.{of_body, body_of, bodies_of, part_of, assign_of}
+use Rattle.gts_core.specs.Sound.{IsSound, AreShort, IsVariableOf, IsNamedValue, IsTyped, IsAssignTo, IsListedWay, IsOwn}
+use Rattle.gts_core.specs.View.{of_body, body_of_way, way_bodies, part_of, assign_of}
 use Rattle.gts_core.specs.declared.bound.DeclaredWay.{DeclaredWay}
 use Rattle.gts_core.specs.declared.bound.DeclaredWay.TheVariants as declared
 use Rattle.gts_core.specs.declared.system.Assign.{Assign}
@@ -33,8 +33,10 @@ use Rattle.gts_core.specs.declared.system.WayBody.TheVariants.{Local, Sync}
 use Rattle.source_meaning.specs.SoundBound.{IsSoundBound, IsOver}
 use Rattle.source_meaning.specs.declared.bound.Bound.{Bound}
 use Rattle.sync_expand.specs.Counts.{AreCounts}
-use Rattle.sync_expand.specs.Expanding.{AreWays, most_ways}
-use Rattle.sync_expand.specs.Plans.{first_of, ways_at, planned_of, planned_ways, all_bodies, PlannedWay, IsResolved}
+use Rattle.sync_expand.specs.Expanding.{AreWays}
+use Rattle.sync_expand.specs.Counting.{most_ways}
+use Rattle.sync_expand.specs.Plans.{first_of, ways_at, planned_ways, PlannedWay}
+use Rattle.sync_expand.specs.Planned.{planned_of, all_bodies, IsResolved}
 use Rattle.sync_expand.specs.declared.plans.PlanBody.{PlanBody}
 use Rattle.sync_expand.specs.declared.plans.PlanBody.TheVariants as planned
 use Rattle.sync_expand.specs.declared.plans.WayPlan.{WayPlan}
@@ -98,12 +100,12 @@ module _ (b : Bound) (ways : List (List (SystemWay ℕ))) (are : AreWays (declar
     symbols_long : length p.symbols.items ≡ length over.symbols.items
     symbols_long = ap length made.symbols
 
-    named_there : (v : Value) → IsNamed over v → IsNamed p v
+    named_there : (v : Value) → IsNamedValue over v → IsNamedValue p v
     named_there (value.Truth t) h = tt
     named_there (value.Whole n) h = tt
     named_there (value.Symbol k) h = let l = symbols_long in omega (arith, h, l)
 
-    variables_sound : (n : ℕ) (x : Variable) → Stands p.variables.items n x → IsVariable p x
+    variables_sound : (n : ℕ) (x : Variable) → Stands p.variables.items n x → IsVariableOf p x
     variables_sound n x h =
         let o = along_back b.variables.items p.variables.items made.variables n x h in
         let v = s.variables over is_over n o.0 o.1 in
@@ -151,7 +153,7 @@ module _ (b : Bound) (ways : List (List (SystemWay ℕ))) (are : AreWays (declar
     events_long = let m = made.events.long in let l = counts_long in omega (arith, m, l)
 
     event_ways : (n k : ℕ) (e : Event) (id : WayId) → Stands p.events.items n e → Stands e.ways.items k id
-        → IsListed p n k id
+        → IsListedWay p n k id
     event_ways n k e id h i =
         let a = id_at n k e id h i in
         let in_events = stands_within p.events.items n e h in
@@ -196,11 +198,11 @@ module _ (b : Bound) (ways : List (List (SystemWay ℕ))) (are : AreWays (declar
       pub stands : Stands ways event own
       pub there : Stands own place way
       pub number : n ≡ first_of (map length ways) event + place
-      pub copy : HasTree (Transition_renames same) (bodies_of p) n way
+      pub copy : HasTree (Transition_renames same) (way_bodies p) n way
 
     pub copied_at : (event place : ℕ) (own : List (SystemWay ℕ)) (way : SystemWay ℕ) → Stands ways event own
         → Stands own place way
-        → HasTree (Transition_renames same) (bodies_of p) (first_of (map length ways) event + place) way
+        → HasTree (Transition_renames same) (way_bodies p) (first_of (map length ways) event + place) way
     copied_at event place own way i j =
         let es = declared_from 0 b.events.items in
         let resolved = plan_resolved es (map length ways) es
@@ -208,7 +210,7 @@ module _ (b : Bound) (ways : List (List (SystemWay ℕ))) (are : AreWays (declar
         let rows = bodies_along b.events.items made.ways
         (subst (λ (z : List PlannedWay). Along (IsResolved es) z (all_bodies (map length ways) es)) (sym is)
         resolved) in
-        tree_there (Transition_renames same) (all_bodies (map length ways) es) (bodies_of p) rows
+        tree_there (Transition_renames same) (all_bodies (map length ways) es) (way_bodies p) rows
         (way_means es (declared_keyed b.events.items) (declared_key b.events.items) ways are way event place own i
         j)
 
@@ -229,26 +231,26 @@ module _ (b : Bound) (ways : List (List (SystemWay ℕ))) (are : AreWays (declar
           stands = own.1;
           there = t.1;
           number = q.3;
-          copy = subst (λ (z : ℕ). HasTree (Transition_renames same) (bodies_of p) z t.0) (sym q.3)
+          copy = subst (λ (z : ℕ). HasTree (Transition_renames same) (way_bodies p) z t.0) (sym q.3)
               (copied_at q.0 q.1 own.0 t.0 own.1 t.1);
         }
 
     trees : (n : ℕ) → n < length p.ways.items
-        → (w : SystemWay ℕ) × Means_way (bodies_of p) n w × (height w ≤ length p.ways.items)
+        → (w : SystemWay ℕ) × Means_way (way_bodies p) n w × (height w ≤ length p.ways.items)
     trees n l =
         let c = copied_way n l in
-        let h = height_within (bodies_of p) n c.copy.tree c.copy.means in
-        let m = length-map p.ways.items body_of in
+        let h = height_within (way_bodies p) n c.copy.tree c.copy.means in
+        let m = length-map p.ways.items body_of_way in
         (c.copy.tree, c.copy.means, omega (arith, h, m))
 
-    part_within : {ps : List (Bool × ℕ)} {bs : _} → Mean_parts (bodies_of p) ps bs → (k : ℕ) (x : Bool × ℕ)
+    part_within : {ps : List (Bool × ℕ)} {bs : _} → Mean_parts (way_bodies p) ps bs → (k : ℕ) (x : Bool × ℕ)
         → Stands ps k x → x.1 < length p.ways.items
     part_within no_part k x h = absurd (stands_none k x h)
     part_within (part {must = must} {n = n} w m) zero x h = let e : (must, n) ≡ x = cc in subst (λ (z : Bool × ℕ). z.1 < length p.ways.items) e (means_within w)
       where
-        means_within : {t : SystemWay ℕ} → Means_way (bodies_of p) n t → n < length p.ways.items
-        means_within (leaf {l = l} i) = let w = stands_within (bodies_of p) n _ i in let m = length-map p.ways.items body_of in omega (arith, w, m)
-        means_within (joint {parts = ps} i j) = let w = stands_within (bodies_of p) n _ i in let m = length-map p.ways.items body_of in omega (arith, w, m)
+        means_within : {t : SystemWay ℕ} → Means_way (way_bodies p) n t → n < length p.ways.items
+        means_within (leaf {l = l} i) = let w = stands_within (way_bodies p) n _ i in let m = length-map p.ways.items body_of_way in omega (arith, w, m)
+        means_within (joint {parts = ps} i j) = let w = stands_within (way_bodies p) n _ i in let m = length-map p.ways.items body_of_way in omega (arith, w, m)
     part_within (part w m) (suc k) x h = part_within m k x h
 
     -- Bodies
@@ -296,11 +298,11 @@ module _ (b : Bound) (ways : List (List (SystemWay ℕ))) (are : AreWays (declar
         typed_action row.0.event.n (place_of row.0.body) guard action
         (made_body row.0.event.n guard action row.2.body i) a o
 
-    parts_of_tree : (n : ℕ) (t : SystemWay ℕ) (ps : List (Bool × ℕ)) → Means_way (bodies_of p) n t
-        → Stands (bodies_of p) n (Joins ps) → (k : ℕ) (x : Bool × ℕ) → Stands ps k x → x.1 < length p.ways.items
-    parts_of_tree n t ps (leaf i) j k x h = absurd (let e = stands_one (bodies_of p) n _ _ i j in cc)
+    parts_of_tree : (n : ℕ) (t : SystemWay ℕ) (ps : List (Bool × ℕ)) → Means_way (way_bodies p) n t
+        → Stands (way_bodies p) n (Joins ps) → (k : ℕ) (x : Bool × ℕ) → Stands ps k x → x.1 < length p.ways.items
+    parts_of_tree n t ps (leaf i) j k x h = absurd (let e = stands_one (way_bodies p) n _ _ i j in cc)
     parts_of_tree n t ps (joint {parts = qs} i m) j k x h =
-        let e : Joins qs ≡ Joins ps = stands_one (bodies_of p) n _ _ i j in
+        let e : Joins qs ≡ Joins ps = stands_one (way_bodies p) n _ _ i j in
         let f : qs ≡ ps = cc in
         part_within m k x (subst (λ (z : List (Bool × ℕ)). Stands z k x) (sym f) h)
 
@@ -308,8 +310,8 @@ module _ (b : Bound) (ways : List (List (SystemWay ℕ))) (are : AreWays (declar
         → (x : Bool × WayId) → IsOneOf ps.items x → x.1.n < length p.ways.items
     parts n w ps h i x o =
         let c = copied_way n (stands_within p.ways.items n w h) in
-        let here = subst (λ (z : WayBody). Stands (bodies_of p) n (of_body z)) i
-        (stands_map body_of p.ways.items n w h) in
+        let here = subst (λ (z : WayBody). Stands (way_bodies p) n (of_body z)) i
+        (stands_map body_of_way p.ways.items n w h) in
         parts_of_tree n c.copy.tree (map part_of ps.items) c.copy.means here o.place (part_of x)
         (stands_map part_of ps.items o.place x o.stands)
 

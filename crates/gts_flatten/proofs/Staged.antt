@@ -12,7 +12,7 @@ use Rattle.typed_expr.specs.declared.expr.Expr.TheOpen.{Expr-F}
 use Rattle.typed_expr.specs.declared.expr.Expr.TheOpen as form
 use Rattle.typed_expr.specs.declared.expr.Expr.TheFolds.{map-Expr}
 use Rattle.ar_meaning.specs.Systems.{System, Event, Way, Transition, Assign}
-use Rattle.ar_meaning.specs.Expand.{Declared, IsExpanded, Ways}
+use Rattle.ar_meaning.specs.Expand.{EventDeclaration, IsExpanded, Ways}
 use Rattle.ar_meaning.specs.FlatOf.{IsNumber, IsFlatOf}
 use Rattle.ar_meaning.specs.Image.{Expr_renames}
 use Rattle.ar_meaning.proofs.ImageWays.{events_back}
@@ -22,7 +22,7 @@ use Rattle.gts_core.specs.declared.bound.DeclaredEvent.{DeclaredEvent}
 use Rattle.gts_core.specs.declared.bound.DeclaredWay.TheVariants.{Sync}
 use Rattle.gts_core.specs.declared.system.GtsParts.{GtsParts}
 use Rattle.gts_core.specs.declared.system.Observer.{Observer}
-use Rattle.hierarchy.specs.Models.{RootedModel, IsKept}
+use Rattle.hierarchy.specs.Models.{RootedModel, KeepsTextRules}
 use Rattle.hierarchy.specs.Units.{UnitPath, Thing}
 use Rattle.hierarchy.specs.Walks.{is_event}
 use Rattle.hierarchy.specs.Listing.{AreUnits, variables, events}
@@ -31,7 +31,8 @@ use Rattle.source_meaning.specs.SoundBound.{IsSoundBound}
 use Rattle.source_meaning.specs.Systems.{Declarations, AreOf, HasDeclarations}
 use Rattle.source_meaning.proofs.Different.{things_different}
 use Rattle.source_meaning.specs.declared.bound.Bound.{Bound}
-use Rattle.sync_expand.specs.Expanding.{AreWays, AreExpandable, Expands, have, most_ways, way_parts}
+use Rattle.sync_expand.specs.Expanding.{AreWays, AreExpandable, Expands, have}
+use Rattle.sync_expand.specs.Counting.{most_ways, way_parts}
 use Rattle.gts_flatten.specs.Bounds.{IsSystemOf}
 use Rattle.gts_flatten.specs.Elaborating.{Elaborated, Flattens, HasSystem, has, most_ways_counted, way_parts_counted, nodes_counted}
 use Rattle.gts_flatten.specs.Flat.{IsFlat}
@@ -41,13 +42,13 @@ use Rattle.gts_flatten.proofs.Renamed.{opened}
 use Rattle.gts_flatten.proofs.Breaches.{kept_source, broken_in_source}
 
 -- events with these ways
-record WithWays (es ds : List (Declared (Transition ℕ) ℕ)) (ways : List (List (Way ℕ))) : Type 0 where
+record WithWays (es ds : List (EventDeclaration (Transition ℕ) ℕ)) (ways : List (List (Way ℕ))) : Type 0 where
   events : List (Event ℕ)
   are : Along (IsExpanded es) ds events
   have_ways : map (λ (e : Event ℕ). e.ways) events ≡ ways
 
-with_ways : (es : List (Declared (Transition ℕ) ℕ)) {ds : List (Declared (Transition ℕ) ℕ)} {ways : List (List (Way ℕ))}
-    → Along (λ d ts. Ways es d.key ts) ds ways
+with_ways : (es : List (EventDeclaration (Transition ℕ) ℕ)) {ds : List (EventDeclaration (Transition ℕ) ℕ)} {ways : List
+    (List (Way ℕ))} → Along (λ d ts. Ways es d.key ts) ds ways
     → WithWays es ds ways
 with_ways es none = record { events = []; are = none; have_ways = refl }
 with_ways es (one_and {a = d} {b = ts} w ws) =
@@ -252,8 +253,8 @@ expandable b s = record {
 }
 
 -- no event stands twice
-pub events_different : (m : RootedModel) (units : List UnitPath) (d : Declarations) → IsKept m → AreUnits m units
-    → AreOf m units d → AreDifferent (events d.model d.units)
+pub events_different : (m : RootedModel) (units : List UnitPath) (d : Declarations) → KeepsTextRules m → AreUnits m
+    units → AreOf m units d → AreDifferent (events d.model d.units)
 events_different m units d k are of =
     subst (λ (z : RootedModel). AreDifferent (events z d.units)) (sym of.model)
     (subst (λ (z : List UnitPath). AreDifferent (events m z)) (sym of.units_are)

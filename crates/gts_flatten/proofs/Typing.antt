@@ -9,7 +9,7 @@ use Rattle.domains.specs.declared.Value.TheVariants as value
 use Rattle.typed_expr.specs.Kinds.{HasKind}
 use Rattle.typed_expr.specs.Mentions.{Mentions}
 use Rattle.typed_expr.specs.Pairs.{turned}
-use Rattle.typed_expr.specs.Possible.{IsPart}
+use Rattle.typed_expr.specs.Possible.{IsSubexpression}
 use Rattle.typed_expr.specs.Renames.{Renames}
 use Rattle.typed_expr.specs.Renames as r
 use Rattle.typed_expr.specs.Yields.{Level}
@@ -22,10 +22,10 @@ use Rattle.ar_meaning.specs.Systems as s
 use Rattle.ar_meaning.specs.Image.{Conditions_rename, Assign_renames}
 use Rattle.ar_meaning.specs.Image as i
 use Rattle.ar_firing.proofs.Widths.{part_there}
-use Rattle.gts_core.specs.Bound.{Conditions, assigns_under, AreAssigns}
+use Rattle.gts_core.specs.Bound.{NumberedConditions, assigns_under, AreAssigns}
 use Rattle.gts_core.specs.Copies.{IsCopy}
 use Rattle.gts_core.specs.Lawful.{kind_by_number}
-use Rattle.gts_core.specs.Sound.{kind_of_domain, kind_of_found, kind_at, IsNamed, IsTyped, IsAssignTo}
+use Rattle.gts_core.specs.Sound.{kind_of_domain, kind_of_found, variable_kind_at, IsNamedValue, IsTyped, IsAssignTo}
 use Rattle.gts_core.specs.View.{numbered, condition_of, assign_of}
 use Rattle.gts_core.specs.declared.bound.Act.{Act, out-Act}
 use Rattle.gts_core.specs.declared.bound.Act.TheOpen as act
@@ -51,14 +51,14 @@ same m n = m ≡ n
 pub record IsTypedBy (p : GtsParts) (e : Expr ℕ) (k : ValueKind) : Type 0 where
   pub typed : HasKind (kind_by_number p) (out-Expr ℕ e) k
   pub variables : (n : ℕ) → Mentions n (out-Expr ℕ e) → n < length p.variables.items
-  pub names : (v : Value) → IsPart (Constant v) (out-Expr ℕ e) → IsNamed p v
+  pub names : (v : Value) → IsSubexpression (Constant v) (out-Expr ℕ e) → IsNamedValue p v
 
 -- a constant stands where a related one does
-constant_there : {V W : Type 0} (R : V → W → Type 0) {e : Level V} {f : Level W} (v : Value) → IsPart (Constant v) e
-    → Renames R e f → IsPart (Constant v) f
+constant_there : {V W : Type 0} (R : V → W → Type 0) {e : Level V} {f : Level W} (v : Value) → IsSubexpression (Constant
+    v) e → Renames R e f → IsSubexpression (Constant v) f
 constant_there {V = V} {W = W} R {e = e} {f = f} v p q = let o = part_there R p q in go o.is_part o.renames
   where
-    go : {g : Level W} → IsPart g f → Renames R (Constant v) g → IsPart (Constant v) f
+    go : {g : Level W} → IsSubexpression g f → Renames R (Constant v) g → IsSubexpression (Constant v) f
     go h r.constant = h
 
 module _ (p : GtsParts) where
@@ -73,7 +73,7 @@ module _ (p : GtsParts) where
 
   pub by_variable : (e : Expr VarId) (k : ValueKind) → IsTypedBy p (numbered e) k → IsTyped p e k
   by_variable e k t = record {
-    typed = kind_renamed ℕ VarId (kind_by_number p) (kind_at p) (turned IsNumber)
+    typed = kind_renamed ℕ VarId (kind_by_number p) (variable_kind_at p) (turned IsNumber)
         (λ n x j. sym (ap (kind_by_number p) j)) t.typed (renames_turned IsNumber (renames_numbered e));
     variables = λ x m. let o = mentions_carry IsNumber x m (renames_numbered e) in subst (λ (z : ℕ). z < length p.variables.items) (sym o.related) (t.variables o.other o.stands);
     symbols = λ v h. t.names v (constant_there IsNumber v h (renames_numbered e));
@@ -96,8 +96,8 @@ pub record IsSoundAssign (q : GtsParts) (to_state : Bool) (a : s.Assign ℕ) : T
   pub conditions : (c : Expr ℕ × Bool) → IsOneOf a.conditions c → IsTypedBy q c.0 kind.Truth
 
 module _ (q : GtsParts) (to_state : Bool) where
-  more : (cs : Conditions) (e : Expr ℕ) (b : Bool) → ((c : Expr ℕ × Bool) → IsOneOf cs c → IsTypedBy q c.0 kind.Truth)
-      → IsTypedBy q e kind.Truth
+  more : (cs : NumberedConditions) (e : Expr ℕ) (b : Bool) → ((c : Expr ℕ × Bool) → IsOneOf cs c → IsTypedBy q c.0
+      kind.Truth) → IsTypedBy q e kind.Truth
       → (c : Expr ℕ × Bool) → IsOneOf (cs ++ (e, b) ∷ []) c → IsTypedBy q c.0 kind.Truth
   more cs e b each t c h =
       let last : List (Expr ℕ × Bool) = [] in
@@ -107,7 +107,7 @@ module _ (q : GtsParts) (to_state : Bool) where
             [ inl k ↦ subst (λ (z : Expr ℕ × Bool). IsTypedBy q z.0 kind.Truth) k t | inr k ↦ absurd (one_none c k) ]
       ]
 
-  sound_under : {x : Act-F Act} → IsSoundAct q to_state x → (b : Act) → out-Act b ≡ x → (cs : Conditions)
+  sound_under : {x : Act-F Act} → IsSoundAct q to_state x → (b : Act) → out-Act b ≡ x → (cs : NumberedConditions)
       → ((c : Expr ℕ × Bool) → IsOneOf cs c → IsTypedBy q c.0 kind.Truth) → (a : s.Assign ℕ)
       → IsOneOf (assigns_under b cs) a → IsSoundAssign q to_state a
   sound_under sound.skip b e cs each a h = absurd (one_none a (subst (λ z. IsOneOf z a) (under b act.Skip e cs) h))
@@ -150,8 +150,8 @@ module _ (q : GtsParts) (to_state : Bool) where
   sound_all bs a each h = let one = joined_one (λ (b : Act). assigns_under b []) bs a h in sound_assigns one.0 a (each one.0 one.1) one.2
 
 -- a condition stands where its copy does
-condition_back : (cs : Conditions) (ds : List (Expr VarId × Bool)) → Conditions_rename same cs (map condition_of ds)
-    → (d : Expr VarId × Bool) → IsOneOf ds d
+condition_back : (cs : NumberedConditions) (ds : List (Expr VarId × Bool)) → Conditions_rename same cs (map condition_of
+    ds) → (d : Expr VarId × Bool) → IsOneOf ds d
     → (e : Expr ℕ) × IsOneOf cs (e, d.1) × Renames same (out-Expr ℕ e) (out-Expr ℕ (numbered d.0))
 condition_back [] [] i.none d h = absurd (one_none d h)
 condition_back [] (x ∷ ds) k d h = elim k [ ]
@@ -164,7 +164,7 @@ condition_back ((e, b) ∷ cs) ((f, g) ∷ ds) (i.one_and k ks) d h = elim (one_
 
 module _ (q p : GtsParts) (names_long : length p.symbols.items ≡ length q.symbols.items)
     (copied : Along IsSameVariable q.variables.items p.variables.items) where
-  named : (v : Value) → IsNamed q v → IsNamed p v
+  named : (v : Value) → IsNamedValue q v → IsNamedValue p v
   named (value.Truth b) h = tt
   named (value.Whole n) h = tt
   named (value.Symbol k) h = omega (arith, h, names_long)

@@ -4,11 +4,11 @@ use Rattle.std.proofs.lemmas.Bool.{cases_lt}
 use Rattle.ar_base.specs.Lists.{Stands, Along, none, one_and}
 use Rattle.ar_base.proofs.Standing.{stands_one, stands_map}
 use Rattle.ar_meaning.specs.Systems.{Transition}
-use Rattle.ar_meaning.specs.Expand.{Declared, One}
+use Rattle.ar_meaning.specs.Expand.{EventDeclaration, One}
 use Rattle.ar_meaning.specs.Image.{Transition_renames}
 use Rattle.ar_meaning.specs.Numbered.{Body, Acts, Joins}
 use Rattle.gts_core.specs.Bound.{declared_from, declared_of, member_of, assigns_of_act}
-use Rattle.gts_core.specs.View.{numbered, of_body, body_of, part_of}
+use Rattle.gts_core.specs.View.{numbered, of_body, body_of_way, part_of}
 use Rattle.gts_core.specs.declared.bound.DeclaredEvent.{DeclaredEvent}
 use Rattle.gts_core.specs.declared.bound.DeclaredWay.{DeclaredWay}
 use Rattle.gts_core.specs.declared.bound.DeclaredWay.TheVariants as declared
@@ -16,8 +16,9 @@ use Rattle.gts_core.specs.declared.system.Way.{Way}
 use Rattle.gts_core.specs.declared.system.WayBody.{WayBody}
 use Rattle.gts_core.specs.declared.system.WayBody.TheVariants.{Local}
 use Rattle.gts_core.proofs.Numbering.{copy_numbered}
-use Rattle.sync_expand.specs.Plans.{first_of, planned_of, planned_body, PlannedWay, IsResolved}
-use Rattle.sync_expand.specs.Plans as plans
+use Rattle.sync_expand.specs.Plans.{first_of, PlannedWay}
+use Rattle.sync_expand.specs.Planned.{planned_of, planned_body, IsResolved}
+use Rattle.sync_expand.specs.Planned as plans
 use Rattle.sync_expand.specs.declared.plans.PlanBody.{PlanBody}
 use Rattle.sync_expand.specs.declared.plans.WayPlan.{WayPlan}
 use Rattle.sync_expand.proofs.DeclaredLemmas.{declared_stands}
@@ -34,7 +35,7 @@ same m n = m ≡ n
 -- What ways are made of
 
 module _ (events : List DeclaredEvent) where
-  transition_along : (e place : ℕ) (l : Transition ℕ) (d : Declared (Transition ℕ) ℕ) (x : DeclaredEvent)
+  transition_along : (e place : ℕ) (l : Transition ℕ) (d : EventDeclaration (Transition ℕ) ℕ) (x : DeclaredEvent)
       (way : DeclaredWay) (wb : WayBody) → Stands (declared_from 0 events) e d
       → Stands d.members place (One l) → Stands events e x → Stands x.ways.items place way → IsTransitionOf way wb
       → Body_along (Transition_renames same) (Acts l) (of_body wb)
@@ -43,7 +44,7 @@ module _ (events : List DeclaredEvent) where
       let made : Transition ℕ = record { guard = numbered guard; action = assigns_of_act action } in
       let one : d ≡ declared_of (0 + e) x =
       stands_one (declared_from 0 events) e d (declared_of (0 + e) x) s (declared_stands 0 events e x t) in
-      let there = subst (λ (z : Declared (Transition ℕ) ℕ). Stands z.members place (One l)) one m in
+      let there = subst (λ (z : EventDeclaration (Transition ℕ) ℕ). Stands z.members place (One l)) one m in
       let here = stands_map member_of x.ways.items place (declared.Local guard action) u in
       let both : One l ≡ One made = stands_one (map member_of x.ways.items) place (One l) (One made) there here in
       let is : l ≡ made = cc in
@@ -67,7 +68,7 @@ module _ (events : List DeclaredEvent) where
 
   pub bodies_along : {ps : List WayPlan} {ws : List Way} {bodies : List (Body (Transition ℕ))}
       → Along (IsMadeWay events) ps ws → Along (IsResolved (declared_from 0 events)) (map planned_of ps) bodies
-      → Along (Body_along (Transition_renames same)) bodies (map body_of ws)
+      → Along (Body_along (Transition_renames same)) bodies (map body_of_way ws)
   bodies_along none none = none
   bodies_along (one_and {a = p} {b = w} k ks) (one_and {b = body} r rs) =
       one_and (body_along p.event.n p.body w.body body (planned_of p) refl refl r k.body) (bodies_along ks rs)

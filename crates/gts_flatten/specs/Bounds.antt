@@ -4,7 +4,7 @@ use Rattle.std.specs.Prelude.{◌≡◌, ℕ, ◌+◌, List, [], ◌∷◌, map}
 use Rattle.std.specs.List.{flat_map}
 use Rattle.ar_base.specs.Lists.{Along}
 use Rattle.ar_meaning.specs.Systems.{System, Transition}
-use Rattle.ar_meaning.specs.Expand.{Declared, Member, One, Synchronises, IsExpanded}
+use Rattle.ar_meaning.specs.Expand.{EventDeclaration, Member, One, Synchronises, IsExpanded}
 use Rattle.gts_core.specs.Bound.{assigns_of_act, declared_from}
 use Rattle.gts_core.specs.View.{numbered}
 use Rattle.gts_core.specs.declared.bound.Act.{Act}
@@ -31,7 +31,7 @@ members_nodes [] = 0
 members_nodes (m ∷ ms) = member_nodes m + members_nodes ms
 
 -- the nodes of the transitions of declared events
-abbrev pub declared_nodes : List (Declared (Transition ℕ) ℕ) → ℕ
+abbrev pub declared_nodes : List (EventDeclaration (Transition ℕ) ℕ) → ℕ
 declared_nodes [] = 0
 declared_nodes (d ∷ ds) = members_nodes d.members + declared_nodes ds
 

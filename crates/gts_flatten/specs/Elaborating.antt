@@ -14,7 +14,7 @@ use Rattle.hierarchy.specs.Units.{Thing}
 use Rattle.hierarchy.specs.Listing.{events, ways_declared}
 use Rattle.source_meaning.specs.Rules.{IsWayOf}
 use Rattle.source_meaning.specs.Systems.{Declarations, HasDeclarations}
-use Rattle.sync_expand.specs.Expanding.{way_rules, most_ways, way_parts}
+use Rattle.sync_expand.specs.Counting.{way_rules, most_ways, way_parts}
 use Rattle.gts_flatten.specs.Sizes.{system_nodes}
 
 -- declarations with the system that they mean
@@ -36,8 +36,8 @@ pub record BreaksSynchronisation (d : Declarations) (p : Place) : Type 0 where
   pub back : LeadsBack d.events event place
 
 -- rule n is broken at this place
-pub data Breaks (d : Declarations) : ℕ → Place → Type 0 where
-  l14 : {p : Place} → BreaksSynchronisation d p → Breaks d 14 p
+pub data BreaksWayRule (d : Declarations) : ℕ → Place → Type 0 where
+  l14 : {p : Place} → BreaksSynchronisation d p → BreaksWayRule d 14 p
 
 -- The limits
 
@@ -62,6 +62,6 @@ pub data HasSystem (d : Declarations) : Result Elaborated RuleFault → Type 0 w
 -- rule L14, the system with the ways of its events, then the limits of an event's ways, of the parts of all ways and of
 -- the nodes
 abbrev pub Flattens : Declarations → Result Elaborated RuleFault → Type 0
-Flattens = Then (Keeps way_rules Breaks)
+Flattens = Then (Keeps way_rules BreaksWayRule)
     (Then HasSystem (Then (Fits TheWays most_ways_counted)
     (Then (Fits WayParts way_parts_counted) (Fits ExpressionNodes nodes_counted))))

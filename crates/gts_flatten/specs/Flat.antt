@@ -6,7 +6,7 @@ use Rattle.ar_base.specs.Lists.{Along}
 use Rattle.ar_base.specs.Numbers.{VarId, WayId}
 use Rattle.typed_expr.specs.declared.expr.Expr.{Expr}
 use Rattle.ar_meaning.specs.Systems.{System, Transition, Event as SystemEvent}
-use Rattle.ar_meaning.specs.Expand.{Declared}
+use Rattle.ar_meaning.specs.Expand.{EventDeclaration}
 use Rattle.ar_meaning.specs.ExpandImage.{Declared_renames}
 use Rattle.ar_meaning.specs.FlatOf.{IsFlatOf}
 use Rattle.ar_meaning.specs.Numbered.{Body, Acts, Joins}
@@ -23,7 +23,7 @@ use Rattle.gts_core.specs.declared.system.WayBody.TheVariants.{Local, Sync}
 use Rattle.hierarchy.specs.Units.{Thing}
 use Rattle.hierarchy.specs.Listing.{variables, events, observers}
 use Rattle.hierarchy.specs.Paths.{name_text, unit_path, thing_path}
-use Rattle.source_meaning.specs.Binding.{IsVariableNumber, IsEventNumber, HasKind}
+use Rattle.source_meaning.specs.Numbering.{IsVariableNumber, IsEventNumber, HasObserverKind}
 use Rattle.source_meaning.specs.Systems.{Declarations}
 use Rattle.sync_expand.specs.Plans.{PlannedWay, planned_ways}
 use Rattle.gts_flatten.specs.Elaborating.{Elaborated}
@@ -67,7 +67,7 @@ pub record IsPlannedWay (planned : PlannedWay) (w : Way) : Type 0 where
 -- the ways stand event by event, those of an event in order, and each part of a synchronised way is the number of its
 -- way among all of these: the number of its event's first way and its place among the event's ways
 pub record AreWaysOf (x : Elaborated) (ways : List Way) : Type 0 where
-  pub numbered : List (Declared (Transition ℕ) ℕ)
+  pub numbered : List (EventDeclaration (Transition ℕ) ℕ)
   pub are_numbered : Along (Declared_renames (IsVariableNumber x.declarations) (IsEventNumber x.declarations))
       x.declarations.events numbered
   pub planned : Along IsPlannedWay (planned_ways (map (λ (e : SystemEvent Thing). length e.ways) x.system.events)
@@ -84,5 +84,5 @@ pub record IsFlat (x : Elaborated) (p : GtsParts) : Type 0 where
   pub ways : AreWaysOf x p.ways.items
   pub names : naming_of_parts p ≡ naming_of x.declarations
   pub units_are : p.units.items ≡ map (unit_path x.declarations.model) x.declarations.units
-  pub kinds : Along (HasKind x.declarations.model) (observers x.declarations.model x.declarations.units)
+  pub kinds : Along (HasObserverKind x.declarations.model) (observers x.declarations.model x.declarations.units)
       p.observers.items

@@ -2,7 +2,7 @@
 
 ghost use Rattle.std.specs.Prelude.{◌≡◌, min};
 ghost use Rattle.std.specs.List.{flat_map};
-ghost use Rattle.gts_core.specs.Bound.{Conditions, assigns_under};
+ghost use Rattle.gts_core.specs.Bound.{NumberedConditions, assigns_under};
 ghost use Rattle.gts_flatten.specs.Sizes.{assigns_nodes, condition_nodes};
 
 use crate::sizes::{nodes, sum};
@@ -13,7 +13,7 @@ use gts_core::Act;
 /// `above` nodes.
 #[cycle(act_nodes)]
 pub(crate) fn act_nodes(act: &Act, above: u64) -> u64
-    ensures { (cs : Conditions) → above ≡ min 1000001 (condition_nodes cs)
+    ensures { (cs : NumberedConditions) → above ≡ min 1000001 (condition_nodes cs)
         → result ≡ min 1000001 (assigns_nodes (assigns_under act.now cs)) }
 {
     match act {
@@ -32,7 +32,7 @@ pub(crate) fn act_nodes(act: &Act, above: u64) -> u64
 // The same of instructions one after the other.
 #[cycle(act_nodes)]
 pub(crate) fn acts_nodes(acts: &[Act], above: u64) -> u64
-    ensures { (cs : Conditions) → above ≡ min 1000001 (condition_nodes cs)
+    ensures { (cs : NumberedConditions) → above ≡ min 1000001 (condition_nodes cs)
         → result ≡ min 1000001 (assigns_nodes (flat_map (λ a. assigns_under a cs) acts.now)) }
 {
     let mut total = 0;

@@ -3,14 +3,15 @@
 ghost use Rattle.std.specs.Prelude.{◌≡◌, ◌<◌, ◌^◌, ℕ, List, map, length, IfOk};
 ghost use Rattle.ar_base.specs.Stages.{Meets};
 ghost use Rattle.hierarchy.specs.Listing.{AreUnits};
-ghost use Rattle.hierarchy.specs.Models.{RootedModel, IsKept};
+ghost use Rattle.hierarchy.specs.Models.{RootedModel, KeepsTextRules};
 ghost use Rattle.hierarchy.specs.Units.{UnitPath};
 ghost use Rattle.gts_core.specs.Bound.{declared_from};
 ghost use Rattle.source_meaning.specs.Binding.{IsBoundFrom};
 ghost use Rattle.source_meaning.specs.SoundBound.{IsSoundBound};
 ghost use Rattle.source_meaning.specs.Systems.{Declarations, AreOf};
 ghost use Rattle.sync_expand.specs.Counts.{AreCounts};
-ghost use Rattle.sync_expand.specs.Plans.{planned_of, planned_ways};
+ghost use Rattle.sync_expand.specs.Plans.{planned_ways};
+ghost use Rattle.sync_expand.specs.Planned.{planned_of};
 ghost use Rattle.gts_flatten.specs.Elaborating.{Flattens};
 ghost use Rattle.gts_flatten.specs.Flat.{IsFlat};
 ghost use Rattle.gts_flatten.specs.Making.{AreMadeOf};
@@ -57,7 +58,7 @@ fn parts_of(alloc: Global, bound: &Bound, plan: &[WayPlan]) -> Result<GtsParts, 
 /// `expression nodes` that is passed, in this order.
 pub fn flatten(alloc: Global, bound: &Bound) -> Result<Gts, RuleFault>
     requires { IsSoundBound bound.now }
-    ensures { (m : RootedModel) (units : List UnitPath) (d : Declarations) → IsKept m
+    ensures { (m : RootedModel) (units : List UnitPath) (d : Declarations) → KeepsTextRules m
         → AreUnits m units
         → AreOf m units d → IsBoundFrom d bound.now → Meets Flattens IsFlat d result }
 {

@@ -5,7 +5,8 @@ ghost use Rattle.std.specs.List.{flat_map};
 ghost use Rattle.ar_base.specs.Lists.{Along};
 ghost use Rattle.gts_core.specs.Bound.{assigns_of_act, places_of_act, places_in, declared_from, AreAssigns};
 ghost use Rattle.sync_expand.specs.Counts.{AreCounts};
-ghost use Rattle.sync_expand.specs.Plans.{planned_of, planned_ways, ways_at};
+ghost use Rattle.sync_expand.specs.Plans.{planned_ways, ways_at};
+ghost use Rattle.sync_expand.specs.Planned.{planned_of};
 ghost use Rattle.gts_flatten.specs.Making.{IsTransitionAt, IsMadeOf, IsMadeWay, IsMadeEvent, AreMadeEvents};
 ghost use Rattle.gts_flatten.specs.Placing.{IsWayAt, IsRun};
 

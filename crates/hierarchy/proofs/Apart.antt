@@ -6,13 +6,13 @@ use Rattle.ar_base.proofs.Standing.{stands_none, stands_one}
 use Rattle.ar_base.proofs.Comparing.{side}
 use Rattle.class_table.specs.Members.{Site, NamedMember, named_at, member_named}
 use Rattle.class_table.specs.Rules.{l4}
-use Rattle.hierarchy.specs.Models.{RootedModel, IsKept}
+use Rattle.hierarchy.specs.Models.{RootedModel, KeepsTextRules}
 use Rattle.hierarchy.specs.Units.{UnitPath, body_of, names_at}
 use Rattle.hierarchy.specs.Listing.{AreUnits}
 use Rattle.hierarchy.proofs.Finding.{same_or_not}
 use Rattle.hierarchy.proofs.Places.{AreApart, lists_different}
 
-apart_at : {m : RootedModel} → IsKept m → (b : ℕ) (sites : List Site) → Stands m.members b sites
+apart_at : {m : RootedModel} → KeepsTextRules m → (b : ℕ) (sites : List Site) → Stands m.members b sites
     → (i j : ℕ) (g h : NamedMember) → i < j → Stands (named_at m.declared sites) i g
     → Stands (named_at m.declared sites) j h → g.name ≡ h.name → ⊥
 apart_at k b sites s i j g h l p q e =
@@ -32,7 +32,7 @@ apart_at k b sites s i j g h l p q e =
       place = refl;
     }))
 
-apart_in : {m : RootedModel} → IsKept m → (b : ℕ) (o : Option (List Site)) → slice_get m.members b ≡ o
+apart_in : {m : RootedModel} → KeepsTextRules m → (b : ℕ) (o : Option (List Site)) → slice_get m.members b ≡ o
     → AreApart (named_at m.declared (unwrap_or o []))
 apart_in k b None e = record { apart = λ i j g h p q n. absurd (stands_none i g p) }
 apart_in {m = m} k b (Some sites) e = record { apart = λ i j g h p q n. go i j g h p q n (side i j) (side j i) }
@@ -44,11 +44,12 @@ apart_in {m = m} k b (Some sites) e = record { apart = λ i j g h p q n. go i j 
     go i j g h p q n (inr l) x = absurd (apart_at k b sites e j i h g l q p (sym n))
 
 -- no two members of a unit have one name
-pub members_apart : {m : RootedModel} → IsKept m → (w : UnitPath) → AreApart (names_at m w)
+pub members_apart : {m : RootedModel} → KeepsTextRules m → (w : UnitPath) → AreApart (names_at m w)
 members_apart {m = m} k w = apart_in k (body_of m w) (slice_get m.members (body_of m w)) refl
 
 -- no unit is listed twice
-pub units_different : {m : RootedModel} {units : List UnitPath} → IsKept m → AreUnits m units → AreDifferent units
+pub units_different : {m : RootedModel} {units : List UnitPath} → KeepsTextRules m → AreUnits m units
+    → AreDifferent units
 units_different k d = lists_different d (members_apart k)
 
 named_rest : (h g : NamedMember) (i : ℕ) (hs : List NamedMember)

@@ -10,11 +10,11 @@ use Rattle.ar_base.proofs.Items.{last_one}
 use Rattle.ar_syntax.specs.declared.paths.PathStart.{PathStart}
 use Rattle.ar_syntax.specs.declared.paths.PathStart.TheVariants.{Owner}
 use Rattle.class_table.specs.Members.{NamedMember, MemberKind, Inner, Clone, Alias, Variable, Parameter, Kept, Event, Observer}
-use Rattle.hierarchy.specs.Models.{RootedModel, IsKept}
+use Rattle.hierarchy.specs.Models.{RootedModel, KeepsTextRules}
 use Rattle.hierarchy.specs.Units.{UnitPath, Thing, name_at, kind_at, start_of, numbers}
 use Rattle.hierarchy.specs.Walks.{Reaches, NameLeads, NamesLead, LeadsFrom, IsUnitAt, IsThingAt, absent, on, arrives}
 use Rattle.hierarchy.specs.Listing.{AreUnits, unit, is_inner, things_in}
-use Rattle.hierarchy.specs.Tie.{IsOwner, of_main, of_unit, IsUnit, is_alias, entry_in, IsTreeOf, AnswersUnit, AnswersThing, IsNode}
+use Rattle.hierarchy.specs.Tie.{IsOwner, of_main, of_unit, IsUnitNode, is_alias, entry_in, IsTreeOf, AnswersUnit, AnswersThing, IsNode}
 use Rattle.hierarchy.specs.Finding.{unit_number, StartsAt, IsStep, FindsNode, HasOwner}
 use Rattle.hierarchy.specs.declared.tree.UnitNode.{UnitNode}
 use Rattle.hierarchy.specs.declared.tree.MemNode.{MemNode}
@@ -59,7 +59,7 @@ pub named_so : (m : RootedModel) (u : UnitPath) (x : ℕ) {k : MemberKind} (o : 
 named_so m u x None e q = cc
 named_so m u x (Some g) e q = (g, e, cc)
 
-module _ {m : RootedModel} {units : List UnitPath} {u : UnitPath} {d : UnitNode} (is : IsUnit m units u d) where
+module _ {m : RootedModel} {units : List UnitPath} {u : UnitPath} {d : UnitNode} (is : IsUnitNode m units u d) where
   -- the numbers under a name are those of the units to which it leads
   module _ (x : ℕ) where
     step_found : (a b : Option ℕ) → entry_in d.inner.items x ≡ a → entry_in d.aliases.items x ≡ b → (n : ℕ)
@@ -134,7 +134,7 @@ starts_nowhere (Some u) e t h = cc
 
 -- Things
 
-module _ {m : RootedModel} {units : List UnitPath} (k : IsKept m) (are : AreUnits m units)
+module _ {m : RootedModel} {units : List UnitPath} (k : KeepsTextRules m) (are : AreUnits m units)
     (test : MemberKind → Bool) where
   -- the things of these units
   abbrev pub all_things : List Thing
@@ -230,13 +230,13 @@ owner_at {units = units} {tree = tree} {n = n} {u = u} t s h d q =
 -- the node of a unit
 pub node_at : {m : RootedModel} {units : List UnitPath} {tree : Tree} {n : ℕ} {u : UnitPath} → IsTreeOf m units tree
     → Stands units n u → n < length tree.units.items → (d : UnitNode) → d ≡ slice_index_or tree.units.items n d
-    → IsUnit m units u d
+    → IsUnitNode m units u d
 node_at {m = m} {units = units} {tree = tree} {n = n} {u = u} t s h d q =
     let a = along_on units tree.units.items t.units_are n u s in
     let e : a.0 ≡ slice_index_or tree.units.items n d =
     stands_one tree.units.items n a.0 (slice_index_or tree.units.items n d) a.1
     (stands_get tree.units.items n d h) in
-    subst (λ (z : UnitNode). IsUnit m units u z) (e ∙ sym q) a.2
+    subst (λ (z : UnitNode). IsUnitNode m units u z) (e ∙ sym q) a.2
 
 -- a unit's number is that of a node
 pub unit_within : {m : RootedModel} {units : List UnitPath} {tree : Tree} {n : ℕ} {u : UnitPath} → IsTreeOf m units tree

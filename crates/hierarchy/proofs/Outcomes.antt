@@ -4,14 +4,14 @@ use Rattle.ar_syntax.specs.declared.paths.Path.{Path}
 use Rattle.ar_syntax.specs.declared.paths.PathStart.TheVariants.{Owner}
 use Rattle.class_table.specs.Members.{MemberKind, Clone}
 use Rattle.hierarchy.specs.Models.{RootedModel}
-use Rattle.hierarchy.specs.Units.{Level, UnitPath, Thing, start_of, has, bodies_of, body_of, set_at_of}
-use Rattle.hierarchy.specs.Walks.{Outcome, Reaches, Nothing, Loops, NameLeads, NamesLead, inner, clones, embeds, clones_again, embeds_again, no_unit, absent, nowhere, arrives, on, stops, loops, cloned}
+use Rattle.hierarchy.specs.Units.{UnitLevel, UnitPath, Thing, start_of, has_number, bodies_of, body_of, set_at_of}
+use Rattle.hierarchy.specs.Walks.{WalkOutcome, Reaches, Nothing, Loops, NameLeads, NamesLead, inner, clones, embeds, clones_again, embeds_again, no_unit, absent, nowhere, arrives, on, stops, loops, cloned}
 
 pub unit_of_reaches : {v w : UnitPath} → Reaches v ≡ Reaches w → v ≡ w
 unit_of_reaches e = cc
 
 mutual
-  pub leads_same : {m : RootedModel} {f : List Thing} {u : UnitPath} {x : ℕ} {w : Option MemberKind} {o r : Outcome}
+  pub leads_same : {m : RootedModel} {f : List Thing} {u : UnitPath} {x : ℕ} {w : Option MemberKind} {o r : WalkOutcome}
       → NameLeads m f u x w o → NameLeads m f u x w r → o ≡ r
   leads_same inner inner = refl
   leads_same inner (no_unit y) = cc
@@ -35,7 +35,7 @@ mutual
   leads_same (no_unit y) (no_unit y') = refl
   leads_same absent absent = refl
 
-  pub walks_same : {m : RootedModel} {f : List Thing} {u : Option UnitPath} {xs : List ℕ} {o r : Outcome}
+  pub walks_same : {m : RootedModel} {f : List Thing} {u : Option UnitPath} {xs : List ℕ} {o r : WalkOutcome}
       → NamesLead m f u xs o → NamesLead m f u xs r → o ≡ r
   walks_same nowhere nowhere = refl
   walks_same arrives arrives = refl
@@ -52,15 +52,16 @@ mutual
 
 -- The owner of a clone
 
-owner_by : (b : Bool) {u v : UnitPath} (l : Level) → Reaches v ≡ (if b then Loops else Reaches (l ∷ u))
+owner_by : (b : Bool) {u v : UnitPath} (l : UnitLevel) → Reaches v ≡ (if b then Loops else Reaches (l ∷ u))
     → start_of Owner v ≡ Some u
 owner_by true l e = cc
 owner_by false {u = u} l e = ap (start_of Owner) (unit_of_reaches e)
 
-cloned_owner : (m : RootedModel) {u v : UnitPath} (x : ℕ) (o : Outcome) → Reaches v ≡ cloned m u x o
+cloned_owner : (m : RootedModel) {u v : UnitPath} (x : ℕ) (o : WalkOutcome) → Reaches v ≡ cloned m u x o
     → start_of Owner v ≡ Some u
 cloned_owner m {u = u} x (Reaches t) e =
-    owner_by (has (bodies_of m u) (body_of m t)) (record { name = x; body = body_of m t; set_at = set_at_of t }) e
+    owner_by (has_number (bodies_of m u) (body_of m t)) (record { name = x; body = body_of m t; set_at = set_at_of t })
+    e
 cloned_owner m x Nothing e = cc
 cloned_owner m x Loops e = cc
 

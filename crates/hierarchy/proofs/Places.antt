@@ -5,9 +5,9 @@ use Rattle.ar_base.specs.Lists.{Stands, IsOneOf, AreDifferent}
 use Rattle.ar_base.proofs.Standing.{stands_one, stands_split, stands_none, one_here, one_none, one_cases, one_first, one_rest, one_left, one_right}
 use Rattle.class_table.specs.Members.{NamedMember, MemberKind, Inner, Clone, Alias, Variable, Parameter, Kept, Event, Observer}
 use Rattle.hierarchy.specs.Models.{RootedModel}
-use Rattle.hierarchy.specs.Units.{Level, UnitPath, Thing, has, bodies_of, body_of, set_at_of, names_at}
-use Rattle.hierarchy.specs.Walks.{Outcome, Reaches, Nothing, Loops, NameLeads, inner, clones, cloned}
-use Rattle.hierarchy.specs.Listing.{Makes, MakesNone, Lists, Insides, unit, none, makes, passes, is_inner}
+use Rattle.hierarchy.specs.Units.{UnitLevel, UnitPath, Thing, has_number, bodies_of, body_of, set_at_of, names_at}
+use Rattle.hierarchy.specs.Walks.{WalkOutcome, Reaches, Nothing, Loops, NameLeads, inner, clones, cloned}
+use Rattle.hierarchy.specs.Listing.{MakesUnit, MakesNone, ListsUnits, Insides, unit, none, makes, passes, is_inner}
 use Rattle.hierarchy.proofs.Lists.{makes_one, makes_or_none}
 use Rattle.hierarchy.proofs.Outcomes.{unit_of_reaches}
 
@@ -17,19 +17,19 @@ pub record AreApart (gs : List NamedMember) : Type 0 where
 
 mutual
   -- what a member of a unit of the list makes is in the list
-  pub lists_closed : {m : RootedModel} {u : UnitPath} {us : List UnitPath} → Lists m true u us
-      → (w v : UnitPath) (i : ℕ) (g : NamedMember) → IsOneOf us w → Stands (names_at m w) i g → Makes m w g v
+  pub lists_closed : {m : RootedModel} {u : UnitPath} {us : List UnitPath} → ListsUnits m true u us
+      → (w v : UnitPath) (i : ℕ) (g : NamedMember) → IsOneOf us w → Stands (names_at m w) i g → MakesUnit m w g v
       → IsOneOf us v
   lists_closed {m = m} {u = u} (unit {us = us} d) w v i g j h k =
       elim (one_cases u us w j) [
         | inl q ↦ one_rest u us v (insides_made d v i g (subst (λ w. Stands (names_at m w) i g) (sym q) h)
-            (subst (λ w. Makes m w g v) (sym q) k))
+            (subst (λ w. MakesUnit m w g v) (sym q) k))
         | inr q ↦ one_rest u us v (insides_closed d w v i g q h k)
       ]
 
   pub insides_closed : {m : RootedModel} {u : UnitPath} {gs : List NamedMember} {us : List UnitPath}
       → Insides m true u gs us → (w v : UnitPath) (i : ℕ) (g : NamedMember) → IsOneOf us w → Stands (names_at m w) i g
-      → Makes m w g v → IsOneOf us v
+      → MakesUnit m w g v → IsOneOf us v
   insides_closed none w v i g j h k = absurd (one_none w j)
   insides_closed (makes {us = us} {vs = vs} k' d ds) w v i g j h k =
       elim (stands_split us vs j.place w j.stands) [
@@ -39,18 +39,19 @@ mutual
   insides_closed (passes n ds) w v i g j h k = insides_closed ds w v i g j h k
 
   pub insides_made : {m : RootedModel} {u : UnitPath} {gs : List NamedMember} {us : List UnitPath}
-      → Insides m true u gs us → (v : UnitPath) (i : ℕ) (g : NamedMember) → Stands gs i g → Makes m u g v → IsOneOf us v
+      → Insides m true u gs us → (v : UnitPath) (i : ℕ) (g : NamedMember) → Stands gs i g → MakesUnit m u g v
+      → IsOneOf us v
   insides_made none v i g h k = absurd (stands_none i g h)
   insides_made {m = m} {u = u} {gs = g' ∷ gs} (makes {v = w} {us = us} {vs = vs} k' d ds) v zero g h k =
       let q : g' ≡ g = stands_one (g' ∷ gs) 0 g' g refl h in
-      let r : w ≡ v = makes_one g (subst (λ g. Makes m u g w) q k') k in
+      let r : w ≡ v = makes_one g (subst (λ g. MakesUnit m u g w) q k') k in
       one_left us vs v (subst (λ z. IsOneOf us z) r (lists_first d))
   insides_made (makes {us = us} {vs = vs} k' d ds) v (suc i) g h k = one_right us vs v (insides_made ds v i g h k)
   insides_made {m = m} {u = u} {gs = g' ∷ gs} (passes n ds) v zero g h k =
       absurd (makes_or_none k (subst (λ g. MakesNone m u g) (stands_one (g' ∷ gs) 0 g' g refl h) n))
   insides_made (passes n ds) v (suc i) g h k = insides_made ds v i g h k
 
-  pub lists_first : {m : RootedModel} {u : UnitPath} {us : List UnitPath} → Lists m true u us → IsOneOf us u
+  pub lists_first : {m : RootedModel} {u : UnitPath} {us : List UnitPath} → ListsUnits m true u us → IsOneOf us u
   lists_first {u = u} (unit {us = us} d) = one_first u us
 
 -- a unit that is made by a member of a unit of the list
@@ -60,7 +61,7 @@ pub record IsMadeIn (m : RootedModel) (us : List UnitPath) (w : UnitPath) : Type
   pub place : ℕ
   pub member : NamedMember
   pub stands : Stands (names_at m owner) place member
-  pub made : Makes m owner member w
+  pub made : MakesUnit m owner member w
 
 made_left : {m : RootedModel} {us : List UnitPath} {w : UnitPath} (vs : List UnitPath) → IsMadeIn m us w
     → IsMadeIn m (us ++ vs) w
@@ -86,10 +87,10 @@ made_right {vs = vs} us i = record {
 
 -- a unit that is made by one of these members of u, or in the list
 abbrev pub IsMadeBy : RootedModel → UnitPath → List NamedMember → List UnitPath → UnitPath → Type 0
-IsMadeBy m u gs us w = ((i : ℕ) × (g : NamedMember) × Stands gs i g × Makes m u g w) ⊎ IsMadeIn m us w
+IsMadeBy m u gs us w = ((i : ℕ) × (g : NamedMember) × Stands gs i g × MakesUnit m u g w) ⊎ IsMadeIn m us w
 
 mutual
-  pub lists_origin : {m : RootedModel} {u : UnitPath} {us : List UnitPath} → Lists m true u us → (w : UnitPath)
+  pub lists_origin : {m : RootedModel} {u : UnitPath} {us : List UnitPath} → ListsUnits m true u us → (w : UnitPath)
       → IsOneOf us w → (w ≡ u) ⊎ IsMadeIn m us w
   lists_origin {m = m} {u = u} (unit {us = us} d) w j =
       elim (one_cases u us w j) [
@@ -120,7 +121,7 @@ mutual
   insides_origin {m = m} {u = u} (makes {v = v} {g = g} {us = us} {vs = vs} k d ds) w j =
       elim (stands_split us vs j.place w j.stands) [
         | inl p ↦ elim (lists_origin d w (one_here us j.place w p)) [
-          | inl q ↦ inl (0, g, refl, subst (λ w. Makes m u g w) (sym q) k)
+          | inl q ↦ inl (0, g, refl, subst (λ w. MakesUnit m u g w) (sym q) k)
           | inr q ↦ inr (made_left vs q)
         ]
         | inr p ↦ elim (insides_origin ds w (one_here vs p.0 w p.2)) [
@@ -133,13 +134,13 @@ mutual
 
 -- w is u, or stands somewhere in it
 pub record IsUnder (u w : UnitPath) : Type 0 where
-  pub levels : List Level
+  pub levels : List UnitLevel
   pub is : w ≡ levels ++ u
 
 under_same : (u : UnitPath) → IsUnder u u
 under_same u = record { levels = []; is = refl }
 
-under_next : {u w : UnitPath} (l : Level) → IsUnder (l ∷ u) w → IsUnder u w
+under_next : {u w : UnitPath} (l : UnitLevel) → IsUnder (l ∷ u) w → IsUnder u w
 under_next {u = u} l i = record { levels = i.levels ++ l ∷ []; is = i.is ∙ sym (append_assoc i.levels (l ∷ []) u) }
 
 suffix_same : (xs ys us vs : UnitPath) → xs ++ us ≡ ys ++ vs → length us ≡ length vs → us ≡ vs
@@ -150,19 +151,19 @@ suffix_same (x ∷ xs) (y ∷ ys) us vs e l = let r : xs ++ us ≡ ys ++ vs = cc
 
 -- the unit that a member makes stands in the member's unit, under the member's name
 pub record IsNamed (u v : UnitPath) (x : ℕ) : Type 0 where
-  pub level : Level
+  pub level : UnitLevel
   pub is : v ≡ level ∷ u
   pub name : level.name ≡ x
 
-clone_named : (m : RootedModel) (u v : UnitPath) (x : ℕ) (r : Outcome) → Reaches v ≡ cloned m u x r → IsNamed u v x
+clone_named : (m : RootedModel) (u v : UnitPath) (x : ℕ) (r : WalkOutcome) → Reaches v ≡ cloned m u x r → IsNamed u v x
 clone_named m u v x Nothing e = cc
 clone_named m u v x Loops e = cc
-clone_named m u v x (Reaches t) e = go (has (bodies_of m u) (body_of m t)) refl
+clone_named m u v x (Reaches t) e = go (has_number (bodies_of m u) (body_of m t)) refl
   where
     no : Reaches v ≡ Loops → IsNamed u v x
     no e = cc
 
-    go : (b : Bool) → has (bodies_of m u) (body_of m t) ≡ b → IsNamed u v x
+    go : (b : Bool) → has_number (bodies_of m u) (body_of m t) ≡ b → IsNamed u v x
     go true h = no (rw h at e)
     go false h = let k = rw h at e in record { level = record { name = x; body = body_of m t; set_at = set_at_of t }; is = unit_of_reaches k; name = refl }
 
@@ -178,7 +179,7 @@ leads_named m f u v x Kept o d = cc o
 leads_named m f u v x Event o d = cc o
 leads_named m f u v x (Observer t e) o d = cc o
 
-pub made_named : (m : RootedModel) (u v : UnitPath) (g : NamedMember) → Makes m u g v → IsNamed u v g.name
+pub made_named : (m : RootedModel) (u v : UnitPath) (g : NamedMember) → MakesUnit m u g v → IsNamed u v g.name
 made_named m u v g k = leads_named m [] u v g.name g.kind k.inner k.leads
 
 pub apart_rest : {g : NamedMember} {gs : List NamedMember} → AreApart (g ∷ gs) → AreApart gs
@@ -190,11 +191,11 @@ record IsUnderMade (m : RootedModel) (u : UnitPath) (gs : List NamedMember) (w :
   member : NamedMember
   stands : Stands gs place member
   made_unit : UnitPath
-  made : Makes m u member made_unit
+  made : MakesUnit m u member made_unit
   under : IsUnder made_unit w
 
 mutual
-  pub lists_under : {m : RootedModel} {u : UnitPath} {us : List UnitPath} → Lists m true u us → (w : UnitPath)
+  pub lists_under : {m : RootedModel} {u : UnitPath} {us : List UnitPath} → ListsUnits m true u us → (w : UnitPath)
       → IsOneOf us w → IsUnder u w
   lists_under {m = m} {u = u} (unit {us = us} d) w j = elim (one_cases u us w j) [
     | inl q ↦ subst (λ w. IsUnder u w) q (under_same u)
@@ -228,7 +229,7 @@ mutual
   insides_under (passes n ds) w j = let i = insides_under ds w j in record { place = suc i.place; member = i.member; stands = i.stands; made_unit = i.made_unit; made = i.made; under = i.under }
 
 -- w stands in the units of two members: they are one
-pub two_members : (m : RootedModel) (u v z w : UnitPath) (g n : NamedMember) → Makes m u g v → Makes m u n z
+pub two_members : (m : RootedModel) (u v z w : UnitPath) (g n : NamedMember) → MakesUnit m u g v → MakesUnit m u n z
     → IsUnder v w → IsUnder z w → g.name ≡ n.name
 two_members m u v z w g n k h i j =
     let a = made_named m u v g k in let b = made_named m u z n h in
@@ -236,7 +237,7 @@ two_members m u v z w g n k h i j =
     let same : v ≡ z = suffix_same i.levels j.levels v z (sym i.is ∙ j.is) (omega arith) in
     let lv : a.level ∷ u ≡ b.level ∷ u = sym a.is ∙ same ∙ b.is in
     let ll : a.level ≡ b.level = cc in
-    sym a.name ∙ ap (λ (l : Level). l.name) ll ∙ b.name
+    sym a.name ∙ ap (λ (l : UnitLevel). l.name) ll ∙ b.name
 
 not_inside : (m : RootedModel) (u : UnitPath) {gs : List NamedMember} {us : List UnitPath} → Insides m true u gs us
     → IsOneOf us u → ⊥
@@ -266,7 +267,7 @@ different_both us vs a b n = record
     go i j w (inr p) (inr q) = let h = b.one p.0 q.0 w p.2 q.2 in let x = p.1 in let y = q.1 in omega arith
 
 mutual
-  pub lists_different : {m : RootedModel} {u : UnitPath} {us : List UnitPath} → Lists m true u us
+  pub lists_different : {m : RootedModel} {u : UnitPath} {us : List UnitPath} → ListsUnits m true u us
       → ((w : UnitPath) → AreApart (names_at m w)) → AreDifferent us
   lists_different {m = m} {u = u} (unit {us = us} d) a =
       different_cons u us (not_inside m u d) (insides_different d a (a u))

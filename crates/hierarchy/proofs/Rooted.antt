@@ -7,8 +7,8 @@ use Rattle.ar_base.proofs.Standing.{stands_map_back, along_length}
 use Rattle.ar_syntax.specs.declared.items.Model.{Model}
 use Rattle.class_table.specs.Declaring.{Declared}
 use Rattle.class_table.specs.Members.{Site, Members}
-use Rattle.class_table.specs.Rules.{Breaks, text_rules}
-use Rattle.class_table.specs.Tables.{IsTableOf, IsMain}
+use Rattle.class_table.specs.Rules.{BreaksTextRule, text_rules}
+use Rattle.class_table.specs.Tables.{IsTableOfModel, IsMain}
 use Rattle.class_table.specs.Tabling.{Tabulates, table}
 use Rattle.class_table.specs.declared.tables.Classes.{Classes}
 use Rattle.hierarchy.specs.Models.{RootedModel, IsRootedIn, IsKeptTable, sites_kept}
@@ -17,13 +17,13 @@ use Rattle.hierarchy.specs.Models.{RootedModel, IsRootedIn, IsKeptTable, sites_k
 model_of : Declared → Classes → RootedModel
 model_of d c = record { declared = d; members = map sites_kept c.bodies.items; main = c.main.n; names = c.names }
 
-members_kept : {model : Model} {main : Option (List ℕ)} {d : Declared} {c : Classes} → IsTableOf model main d c
+members_kept : {model : Model} {main : Option (List ℕ)} {d : Declared} {c : Classes} → IsTableOfModel model main d c
     → (b : ℕ) (sites : List Site) → Stands (map sites_kept c.bodies.items) b sites → Members d b sites
 members_kept {d = d} {c = c} t b sites s =
     let r = stands_map_back sites_kept c.bodies.items b sites s in
     subst (λ (xs : List Site). Members d b xs) r.2 (t.members b r.0 r.1)
 
-rooted_in : {model : Model} {main : Option (List ℕ)} {d : Declared} {c : Classes} → IsTableOf model main d c
+rooted_in : {model : Model} {main : Option (List ℕ)} {d : Declared} {c : Classes} → IsTableOfModel model main d c
     → IsRootedIn model main (model_of d c)
 unfolding model_of
 rooted_in {main = main} {d = d} {c = c} t = record {
@@ -34,8 +34,8 @@ rooted_in {main = main} {d = d} {c = c} t = record {
   members = members_kept t;
 }
 
-kept_table : {model : Model} {main : Option (List ℕ)} {d : Declared} {c : Classes} → IsTableOf model main d c
-    → AreKept text_rules (Breaks model main d) → IsKeptTable (model_of d c) c
+kept_table : {model : Model} {main : Option (List ℕ)} {d : Declared} {c : Classes} → IsTableOfModel model main d c
+    → AreKept text_rules (BreaksTextRule model main d) → IsKeptTable (model_of d c) c
 unfolding model_of
 kept_table {model = model} {main = main} t k = record {
   table = record { holds = t.holds; names = refl; main = refl; members = refl };

@@ -4,9 +4,9 @@ use Rattle.std.specs.List.{flat_map, filter}
 use Rattle.ar_base.specs.Lists.{Stands, IsOneOf}
 use Rattle.ar_base.proofs.Standing.{stands_split, stands_none, stands_within, stands_map, stands_map_back, one_here, one_left, one_right, one_cases, one_first, one_rest, one_none}
 use Rattle.class_table.specs.Members.{NamedMember, MemberKind}
-use Rattle.hierarchy.specs.Models.{RootedModel, IsKept}
+use Rattle.hierarchy.specs.Models.{RootedModel, KeepsTextRules}
 use Rattle.hierarchy.specs.Units.{UnitPath, Thing, names_at, name_at}
-use Rattle.hierarchy.specs.Walks.{thing, Has}
+use Rattle.hierarchy.specs.Walks.{thing, PassesTest}
 use Rattle.hierarchy.specs.Listing.{things_in}
 use Rattle.hierarchy.proofs.Apart.{members_apart, named_here, named_back}
 
@@ -114,7 +114,7 @@ module _ (m : RootedModel) (test : MemberKind → Bool) where
       ap (λ (z : Thing). z.unit) (sym s.2)
 
   -- a thing that is listed in a unit is one for which the test is true
-  pub listed_has : IsKept m → (u : UnitPath) (t : Thing) → IsOneOf (things_in test m u) t → Has m test t
+  pub listed_has : KeepsTextRules m → (u : UnitPath) (t : Thing) → IsOneOf (things_in test m u) t → PassesTest m test t
   listed_has k u t o =
       let s = stands_map_back (λ (g : NamedMember). thing u g.name)
       (filter (λ (g : NamedMember). test g.kind) (names_at m u)) o.place t o.stands in
@@ -122,11 +122,11 @@ module _ (m : RootedModel) (test : MemberKind → Bool) where
       let b = filter_back (λ (g : NamedMember). test g.kind) (names_at m u) g
       (record { place = o.place; stands = s.1 }) in
       let n : name_at m u g.name ≡ Some g = named_here (names_at m u) b.0.place g (members_apart k u) b.0.stands in
-      subst (λ (z : Thing). Has m test z) s.2
+      subst (λ (z : Thing). PassesTest m test z) s.2
       (record { kind = g.kind; is = ap (option_map (λ (h : NamedMember). h.kind)) n; passes = b.1 })
 
   -- a thing for which the test is true is listed in its unit
-  pub has_listed : (t : Thing) → Has m test t → IsOneOf (things_in test m t.unit) t
+  pub has_listed : (t : Thing) → PassesTest m test t → IsOneOf (things_in test m t.unit) t
   has_listed t h = go (name_at m t.unit t.name) refl h.is
     where
       go : (o : Option NamedMember) → name_at m t.unit t.name ≡ o

@@ -5,4 +5,5 @@ pub mod Listing
 pub mod Settings
 pub mod Paths
 pub mod Tie
+pub mod TypeDomains
 pub mod Finding

@@ -22,7 +22,7 @@ is_inner (Clone p) = true
 is_inner _ = false
 
 -- what gives this name makes the unit v in the unit u
-pub record Makes (m : RootedModel) (u : UnitPath) (g : NamedMember) (v : UnitPath) : Type 0 where
+pub record MakesUnit (m : RootedModel) (u : UnitPath) (g : NamedMember) (v : UnitPath) : Type 0 where
   pub inner : is_inner g.kind ≡ true
   pub leads : NameLeads m [] u g.name (Some g.kind) (Reaches v)
 
@@ -34,30 +34,30 @@ pub data MakesNone (m : RootedModel) (u : UnitPath) (g : NamedMember) : Type 0 w
 
 mutual
   -- a unit and those below it, depth first: all of them, or, at false, the first of them
-  pub data Lists (m : RootedModel) : Bool → UnitPath → List UnitPath → Type 0 where
+  pub data ListsUnits (m : RootedModel) : Bool → UnitPath → List UnitPath → Type 0 where
     unit : {whole : Bool} {u : UnitPath} {us : List UnitPath} → Insides m whole u (names_at m u) us
-        → Lists m whole u (u ∷ us)
+        → ListsUnits m whole u (u ∷ us)
 
   -- what these members make in the unit u, each unit with those below it
   pub data Insides (m : RootedModel) : Bool → UnitPath → List NamedMember → List UnitPath → Type 0 where
     none : {u : UnitPath} → Insides m true u [] []
     cut : {u : UnitPath} {gs : List NamedMember} → Insides m false u gs []
     makes : {whole : Bool} {u v : UnitPath} {g : NamedMember} {gs : List NamedMember} {us vs : List UnitPath}
-        → Makes m u g v → Lists m true v us → Insides m whole u gs vs
+        → MakesUnit m u g v → ListsUnits m true v us → Insides m whole u gs vs
         → Insides m whole u (g ∷ gs) (us ++ vs)
-    makes_cut : {u v : UnitPath} {g : NamedMember} {gs : List NamedMember} {us : List UnitPath} → Makes m u g v
-        → Lists m false v us → Insides m false u (g ∷ gs) us
+    makes_cut : {u v : UnitPath} {g : NamedMember} {gs : List NamedMember} {us : List UnitPath} → MakesUnit m u g v
+        → ListsUnits m false v us → Insides m false u (g ∷ gs) us
     passes : {whole : Bool} {u : UnitPath} {g : NamedMember} {gs : List NamedMember} {us : List UnitPath}
         → MakesNone m u g → Insides m whole u gs us
         → Insides m whole u (g ∷ gs) us
 
 -- all units of the main block
 abbrev pub AreUnits : RootedModel → List UnitPath → Type 0
-AreUnits m units = Lists m true [] units
+AreUnits m units = ListsUnits m true [] units
 
 -- the first units of the main block
 abbrev pub AreFirstUnits : RootedModel → List UnitPath → Type 0
-AreFirstUnits m units = Lists m false [] units
+AreFirstUnits m units = ListsUnits m false [] units
 
 -- a model with the units of its main block
 pub record Unfolded : Type 0 where

@@ -5,8 +5,8 @@ use Rattle.ar_base.specs.Breach.{AreKept}
 use Rattle.ar_syntax.specs.declared.items.Model.{Model}
 use Rattle.class_table.specs.Declaring.{Declared, IsDeclared}
 use Rattle.class_table.specs.Members.{Site, Members}
-use Rattle.class_table.specs.Rules.{Breaks, text_rules}
-use Rattle.class_table.specs.Tables.{Holds, IsMain, site_of}
+use Rattle.class_table.specs.Rules.{BreaksTextRule, text_rules}
+use Rattle.class_table.specs.Tables.{HoldsDeclared, IsMain, site_of}
 use Rattle.class_table.specs.declared.tables.Body.{Body}
 use Rattle.class_table.specs.declared.tables.Classes.{Classes}
 
@@ -31,20 +31,20 @@ abbrev pub sites_kept : Body → List Site
 sites_kept b = map site_of b.all.items
 
 -- the table keeps the model as it is seen from its main block
-pub record IsTableFor (m : RootedModel) (c : Classes) : Type 0 where
-  pub holds : Holds m.declared c
+pub record IsRootedTable (m : RootedModel) (c : Classes) : Type 0 where
+  pub holds : HoldsDeclared m.declared c
   pub names : c.names ≡ m.names
   pub main : c.main.n ≡ m.main
   pub members : map sites_kept c.bodies.items ≡ m.members
 
 -- the model keeps the rules L1 to L5
-pub record IsKept (m : RootedModel) : Type 0 where
+pub record KeepsTextRules (m : RootedModel) : Type 0 where
   pub model : Model
   pub main : Option (List ℕ)
   pub rooted : IsRootedIn model main m
-  pub kept : AreKept text_rules (Breaks model main m.declared)
+  pub kept : AreKept text_rules (BreaksTextRule model main m.declared)
 
 -- the table is that of a model that keeps the rules L1 to L5
 pub record IsKeptTable (m : RootedModel) (c : Classes) : Type 0 where
-  pub table : IsTableFor m c
-  pub kept : IsKept m
+  pub table : IsRootedTable m c
+  pub kept : KeepsTextRules m

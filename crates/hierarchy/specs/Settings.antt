@@ -23,14 +23,14 @@ pub data TargetWord : Type 0 where
   Reset : TargetWord
 
 -- a word of the text
-abbrev pub word_of : Word → TargetWord
-word_of (word.Name x) = Named x.n
-word_of word.Init = Init
-word_of word.Reset = Reset
+abbrev pub target_word_of : Word → TargetWord
+target_word_of (word.Name x) = Named x.n
+target_word_of word.Init = Init
+target_word_of word.Reset = Reset
 
 -- what a setting sets, by its words
 abbrev pub target_of : Setting → List TargetWord
-target_of s = map word_of s.target.items
+target_of s = map target_word_of s.target.items
 
 -- a test for one word
 abbrev pub same_word : TargetWord → TargetWord → Bool

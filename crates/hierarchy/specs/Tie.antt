@@ -8,18 +8,15 @@ use Rattle.ar_base.specs.Lists.{Stands, Along}
 use Rattle.ar_base.specs.Numbers.{NameId, UnitId, BodyId}
 use Rattle.ar_syntax.specs.declared.expressions.RawExpr.{RawExpr}
 use Rattle.ar_syntax.specs.declared.members.Setting.{Setting}
-use Rattle.ar_syntax.specs.declared.items.DomainBody.{DomainBody}
 use Rattle.ar_syntax.specs.declared.members.TypeForm.{TypeForm}
 use Rattle.ar_syntax.specs.declared.members.TypeForm.TheVariants as form
 use Rattle.ar_syntax.specs.declared.paths.PathStart.{PathStart}
 use Rattle.domains.specs.declared.Domain.{Domain}
-use Rattle.domains.specs.declared.Domain.TheVariants as values
 use Rattle.class_table.specs.Declaring.{Declared}
-use Rattle.class_table.specs.Members.{Site, NamedMember, MemberKind, Variable, Parameter, Kept, Alias, domain_named}
-use Rattle.class_table.specs.Tables.{IsDomainOf}
+use Rattle.class_table.specs.Members.{Site, NamedMember, MemberKind, Variable, Parameter, Kept, Alias}
 use Rattle.class_table.specs.declared.tables.Classes.{Classes}
 use Rattle.hierarchy.specs.Models.{RootedModel, IsKeptTable}
-use Rattle.hierarchy.specs.Units.{Level, UnitPath, Thing, body_of, set_at_of, name_at}
+use Rattle.hierarchy.specs.Units.{UnitLevel, UnitPath, Thing, body_of, set_at_of, name_at}
 use Rattle.hierarchy.specs.Walks.{Reaches, LeadsFrom, IsUnitAt, IsThingAt}
 use Rattle.hierarchy.specs.Listing.{AreUnits, is_inner, variables, parameters, events, observers}
 use Rattle.hierarchy.specs.Settings.{in_force, is_state}
@@ -32,18 +29,20 @@ use Rattle.hierarchy.specs.declared.tree.MemNode.{MemNode}
 use Rattle.hierarchy.specs.declared.tree.VarNode.{VarNode}
 use Rattle.hierarchy.specs.declared.tree.ParNode.{ParNode}
 use Rattle.hierarchy.specs.declared.tree.Tree.{Tree}
+use Rattle.hierarchy.specs.TypeDomains.{HasDomain}
 
 -- Units
 
 -- the number of the unit above, which the main block has none of
 pub data IsOwner (units : List UnitPath) : UnitPath → Option UnitId → Type 0 where
   of_main : IsOwner units [] None
-  of_unit : {l : Level} {above : UnitPath} {id : UnitId} → Stands units id.n above → IsOwner units (l ∷ above) (Some id)
+  of_unit : {l : UnitLevel} {above : UnitPath} {id : UnitId} → Stands units id.n above
+      → IsOwner units (l ∷ above) (Some id)
 
 -- the name of the unit, of which the main block has none
-abbrev pub IsName : UnitPath → NameId → Type 0
-IsName [] x = Unit {0}
-IsName (l ∷ above) x = x.n ≡ l.name
+abbrev pub IsNameOfUnit : UnitPath → NameId → Type 0
+IsNameOfUnit [] x = Unit {0}
+IsNameOfUnit (l ∷ above) x = x.n ≡ l.name
 
 -- the number under a name
 abbrev pub entry_in : List (NameId × UnitId) → ℕ → Option ℕ
@@ -78,7 +77,7 @@ pub data IsSetAt : Option Site → Option (BodyId × ℕ) → Type 0 where
 -- the outline is that of the unit
 pub record IsOutline (m : RootedModel) (units : List UnitPath) (u : UnitPath) (d : Outline) : Type 0 where
   pub owner : IsOwner units u d.owner
-  pub name : IsName u d.name
+  pub name : IsNameOfUnit u d.name
   pub body : d.body.n ≡ body_of m u
   pub set_at : IsSetAt (set_at_of u) d.set_at
 
@@ -90,9 +89,9 @@ pub record AreOutlines (m : RootedModel) (units : List UnitPath) (classes : Clas
   pub along : Along (IsOutline m units) units outlines
 
 -- the node is that of the unit
-pub record IsUnit (m : RootedModel) (units : List UnitPath) (u : UnitPath) (d : UnitNode) : Type 0 where
+pub record IsUnitNode (m : RootedModel) (units : List UnitPath) (u : UnitPath) (d : UnitNode) : Type 0 where
   pub owner : IsOwner units u d.owner
-  pub name : IsName u d.name
+  pub name : IsNameOfUnit u d.name
   pub body : d.body.n ≡ body_of m u
   pub inner : AreNames m units is_inner u d.inner.items
   pub aliases : AreNames m units is_alias u d.aliases.items
@@ -128,15 +127,8 @@ pub record IsPlainNode (m : RootedModel) (units : List UnitPath) (t : Thing) (d 
   pub given : NamedMember
   pub node : IsNode m units t given d
 
--- the values of a type: of Boolean, or of the domain of this name
-pub data HasDomain (d : Declared) : TypeForm → Domain → Type 0 where
-  boolean : HasDomain d form.Boolean values.Boolean
-  named : {x : NameId} {declared : DomainBody} {v : Domain} → domain_named d x.n ≡ Some declared
-      → IsDomainOf d.symbols declared v
-      → HasDomain d (form.Named x) v
-
 -- the node is that of the variable
-pub record IsVariable (m : RootedModel) (units : List UnitPath) (t : Thing) (d : VarNode) : Type 0 where
+pub record IsVariableNode (m : RootedModel) (units : List UnitPath) (t : Thing) (d : VarNode) : Type 0 where
   pub given : NamedMember
   pub node : IsNode m units t given d.node
   pub type : TypeForm
@@ -159,7 +151,7 @@ HasAttributeOf m units t Kept b = Unit {0}
 HasAttributeOf m units t what b = HasAttribute m units t b
 
 -- the node is that of the parameter
-pub record IsParameter (m : RootedModel) (units : List UnitPath) (t : Thing) (d : ParNode) : Type 0 where
+pub record IsParameterNode (m : RootedModel) (units : List UnitPath) (t : Thing) (d : ParNode) : Type 0 where
   pub given : NamedMember
   pub node : IsNode m units t given d.node
   pub domain : HasParameterDomain m.declared given.kind d.domain
@@ -171,9 +163,9 @@ pub record IsParameter (m : RootedModel) (units : List UnitPath) (t : Thing) (d 
 pub record IsTreeOf (m : RootedModel) (units : List UnitPath) (tree : Tree) : Type 0 where
   pub table : IsKeptTable m tree.classes
   pub are_units : AreUnits m units
-  pub units_are : Along (IsUnit m units) units tree.units.items
-  pub variables_are : Along (IsVariable m units) (variables m units) tree.variables.items
-  pub parameters_are : Along (IsParameter m units) (parameters m units) tree.parameters.items
+  pub units_are : Along (IsUnitNode m units) units tree.units.items
+  pub variables_are : Along (IsVariableNode m units) (variables m units) tree.variables.items
+  pub parameters_are : Along (IsParameterNode m units) (parameters m units) tree.parameters.items
   pub events_are : Along (IsPlainNode m units) (events m units) tree.events.items
   pub observers_are : Along (IsPlainNode m units) (observers m units) tree.observers.items
   pub parameters_few : length tree.parameters.items < 2 ^ 32

@@ -8,14 +8,14 @@ use Rattle.hierarchy.specs.Models.{RootedModel}
 
 -- a level of the tree: the unit's name in the unit above it, its body, and the declaration whose settings hold in it,
 -- which a block has none of
-pub record Level : Type 0 where
+pub record UnitLevel : Type 0 where
   pub name : ℕ
   pub body : ℕ
   pub set_at : Option Site
 
 -- a unit: its own level, then those of the units above it; the main block is the empty list
 abbrev pub UnitPath : Type 0
-UnitPath = List Level
+UnitPath = List UnitLevel
 
 -- a name in a unit
 pub record Thing : Type 0 where
@@ -38,9 +38,9 @@ bodies_of m [] = m.main ∷ []
 bodies_of m (l ∷ above) = l.body ∷ bodies_of m above
 
 -- the number is in the list
-abbrev pub has : List ℕ → ℕ → Bool
-has [] n = false
-has (k ∷ ks) n = (k == n) || has ks n
+abbrev pub has_number : List ℕ → ℕ → Bool
+has_number [] n = false
+has_number (k ∷ ks) n = (k == n) || has_number ks n
 
 -- tests for one unit and one thing, by names and bodies
 

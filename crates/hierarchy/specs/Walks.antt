@@ -4,13 +4,13 @@ use Rattle.ar_syntax.specs.declared.paths.Path.{Path}
 use Rattle.ar_syntax.specs.declared.paths.PathStart.{PathStart}
 use Rattle.class_table.specs.Members.{Site, MemberKind, Inner, Clone, Alias, Variable, Parameter, Kept, Event, Observer}
 use Rattle.hierarchy.specs.Models.{RootedModel}
-use Rattle.hierarchy.specs.Units.{UnitPath, Thing, body_of, set_at_of, bodies_of, has, is_among, kind_at, start_of, numbers}
+use Rattle.hierarchy.specs.Units.{UnitPath, Thing, body_of, set_at_of, bodies_of, has_number, is_among, kind_at, start_of, numbers}
 
 -- what a walk comes to: a unit, nothing, or a loop
-pub data Outcome : Type 0 where
-  Reaches : UnitPath → Outcome
-  Nothing : Outcome
-  Loops : Outcome
+pub data WalkOutcome : Type 0 where
+  Reaches : UnitPath → WalkOutcome
+  Nothing : WalkOutcome
+  Loops : WalkOutcome
 
 -- the name x in the unit u, as a statement that a walk follows
 abbrev pub thing : UnitPath → ℕ → Thing
@@ -18,8 +18,8 @@ thing u x = record { unit = u; name = x }
 
 -- what a clone as x in u is, where the walk along its path comes to this: a unit of the same body and settings, unless
 -- a unit above has that body
-abbrev pub cloned : RootedModel → UnitPath → ℕ → Outcome → Outcome
-cloned m u x (Reaches t) = if has (bodies_of m u) (body_of m t) then Loops
+abbrev pub cloned : RootedModel → UnitPath → ℕ → WalkOutcome → WalkOutcome
+cloned m u x (Reaches t) = if has_number (bodies_of m u) (body_of m t) then Loops
     else Reaches (record { name = x; body = body_of m t; set_at = set_at_of t } ∷ u)
 cloned m u x Nothing = Nothing
 cloned m u x Loops = Loops
@@ -37,13 +37,13 @@ is_unitless (Observer t e) = true
 
 mutual
   -- what unit the name x is in the unit u, where it is this there, and while the statements f are being followed
-  pub data NameLeads (m : RootedModel) : List Thing → UnitPath → ℕ → Option MemberKind → Outcome → Type 0 where
+  pub data NameLeads (m : RootedModel) : List Thing → UnitPath → ℕ → Option MemberKind → WalkOutcome → Type 0 where
     inner : {f : List Thing} {u : UnitPath} {x b : ℕ} {from : Option Site}
         → NameLeads m f u x (Some (Inner b from)) (Reaches (record { name = x; body = b; set_at = from } ∷ u))
-    clones : {f : List Thing} {u : UnitPath} {x : ℕ} {p : Path} {o r : Outcome} → is_among f (thing u x) ≡ false
+    clones : {f : List Thing} {u : UnitPath} {x : ℕ} {p : Path} {o r : WalkOutcome} → is_among f (thing u x) ≡ false
         → NamesLead m (thing u x ∷ f) (start_of p.start u) (numbers p.names.items) o → r ≡ cloned m u x o
         → NameLeads m f u x (Some (Clone p)) r
-    embeds : {f : List Thing} {u : UnitPath} {x : ℕ} {p : Path} {o : Outcome} → is_among f (thing u x) ≡ false
+    embeds : {f : List Thing} {u : UnitPath} {x : ℕ} {p : Path} {o : WalkOutcome} → is_among f (thing u x) ≡ false
         → NamesLead m (thing u x ∷ f) (start_of p.start u) (numbers p.names.items) o
         → NameLeads m f u x (Some (Alias p)) o
     clones_again : {f : List Thing} {u : UnitPath} {x : ℕ} {p : Path} → is_among f (thing u x) ≡ true
@@ -55,10 +55,10 @@ mutual
     absent : {f : List Thing} {u : UnitPath} {x : ℕ} → NameLeads m f u x None Nothing
 
   -- where names lead, one after the other
-  pub data NamesLead (m : RootedModel) : List Thing → Option UnitPath → List ℕ → Outcome → Type 0 where
+  pub data NamesLead (m : RootedModel) : List Thing → Option UnitPath → List ℕ → WalkOutcome → Type 0 where
     nowhere : {f : List Thing} {xs : List ℕ} → NamesLead m f None xs Nothing
     arrives : {f : List Thing} {u : UnitPath} → NamesLead m f (Some u) [] (Reaches u)
-    on : {f : List Thing} {u : UnitPath} {x : ℕ} {xs : List ℕ} {o : Outcome} (v : UnitPath)
+    on : {f : List Thing} {u : UnitPath} {x : ℕ} {xs : List ℕ} {o : WalkOutcome} (v : UnitPath)
         → NameLeads m f u x (kind_at m u x) (Reaches v) → NamesLead m f (Some v) xs o
         → NamesLead m f (Some u) (x ∷ xs) o
     stops : {f : List Thing} {u : UnitPath} {x : ℕ} {xs : List ℕ} → NameLeads m f u x (kind_at m u x) Nothing
@@ -67,7 +67,7 @@ mutual
         → NamesLead m f (Some u) (x ∷ xs) Loops
 
 -- the name x in the unit u leads to this
-abbrev pub LeadsFrom : RootedModel → UnitPath → ℕ → Outcome → Type 0
+abbrev pub LeadsFrom : RootedModel → UnitPath → ℕ → WalkOutcome → Type 0
 LeadsFrom m u x o = NameLeads m [] u x (kind_at m u x) o
 
 -- Look-ups
@@ -83,7 +83,7 @@ pub record LeadsTo (m : RootedModel) (u : UnitPath) (start : PathStart) (names :
   pub reaches : IsUnitAt m u start front t.unit
 
 -- the thing is something for which the test is true
-pub record Has (m : RootedModel) (test : MemberKind → Bool) (t : Thing) : Type 0 where
+pub record PassesTest (m : RootedModel) (test : MemberKind → Bool) (t : Thing) : Type 0 where
   pub kind : MemberKind
   pub is : kind_at m t.unit t.name ≡ Some kind
   pub passes : test kind ≡ true
@@ -113,7 +113,7 @@ is_observer _ = false
 pub record IsThingAt (m : RootedModel) (test : MemberKind → Bool) (u : UnitPath) (start : PathStart) (names : List ℕ)
     (t : Thing) : Type 0 where
   pub leads : LeadsTo m u start names t
-  pub has : Has m test t
+  pub has : PassesTest m test t
 
 -- the same of a path
 abbrev pub Finds : RootedModel → (MemberKind → Bool) → UnitPath → Path → Thing → Type 0

@@ -8,18 +8,18 @@ ghost use Rattle.class_table.specs.Members.{MemberKind, Clone};
 ghost use Rattle.class_table.specs.Tabling.{Tabulates};
 ghost use Rattle.class_table.specs.declared.tables.Classes.{Classes};
 ghost use Rattle.hierarchy.specs.Models.{RootedModel, IsRootedIn, IsKeptTable};
-ghost use Rattle.hierarchy.specs.Units.{Level, UnitPath, Thing, start_of};
-ghost use Rattle.hierarchy.specs.Walks.{Outcome, Reaches, NameLeads, NamesLead};
+ghost use Rattle.hierarchy.specs.Units.{UnitLevel, UnitPath, Thing, start_of};
+ghost use Rattle.hierarchy.specs.Walks.{WalkOutcome, Reaches, NameLeads, NamesLead};
 ghost use Rattle.hierarchy.specs.Listing.{AreUnits};
 ghost use Rattle.hierarchy.specs.Settings.{Named, Init, Attribute, outermost, set_by};
 
 /// A name and a path come to one outcome.
 pub fn one_outcome()
     ensures name { (m : RootedModel) (f : List Thing) (u : UnitPath) (x : ℕ) (w : Option MemberKind)
-        (o p : Outcome)
+        (o p : WalkOutcome)
         → NameLeads m f u x w o → NameLeads m f u x w p → o ≡ p }
     ensures names { (m : RootedModel) (f : List Thing) (u : Option UnitPath) (xs : List ℕ)
-        (o p : Outcome)
+        (o p : WalkOutcome)
         → NamesLead m f u xs o → NamesLead m f u xs p → o ≡ p }
 {}
 
@@ -36,10 +36,10 @@ pub fn clones_have_new_owners()
 
 /// What an outer unit sets wins over what an inner one sets: `D d (c.s.init = ..)` over `C c (s.init = ..)` in D.
 pub fn outer_settings_win()
-    ensures outer { (m : RootedModel) (d i : Level) (s : ℕ) (z : Attribute)
+    ensures outer { (m : RootedModel) (d i : UnitLevel) (s : ℕ) (z : Attribute)
         → set_by m [] d.set_at (Named i.name ∷ Named s ∷ Init ∷ []) ≡ Some z
         → outermost m (i ∷ d ∷ []) (Named s ∷ Init ∷ []) ≡ Some z }
-    ensures inner { (m : RootedModel) (d i : Level) (s : ℕ)
+    ensures inner { (m : RootedModel) (d i : UnitLevel) (s : ℕ)
         → set_by m [] d.set_at (Named i.name ∷ Named s ∷ Init ∷ []) ≡ None
         → outermost m (i ∷ d ∷ []) (Named s ∷ Init ∷ [])
         ≡ set_by m (d ∷ []) i.set_at (Named s ∷ Init ∷ []) }

@@ -13,12 +13,13 @@ use Rattle.hierarchy.specs.Listing.{Unfolded, variables, events}
 use Rattle.hierarchy.specs.Tie.{AreOutlines}
 use Rattle.unit_walks.specs.Growing.{IsUnfolded}
 use Rattle.unit_walks.specs.Settling.{AreOutcomes}
-use Rattle.unit_walks.specs.Unfolding.{Unfolds, whole, Refuses, limit, memory}
+use Rattle.unit_walks.specs.Unfolding.{Unfolds, whole, RefusesUnits, limit, memory}
 use Rattle.unit_walks.specs.declared.growing.Unfolded.{Unfolded as Found}
 use Rattle.unit_rules.specs.Limits.{FitsLimits, AnswersLimits}
 use Rattle.hierarchy.specs.declared.tree.Tree.{Tree}
 use Rattle.instantiate.specs.Values.{KeepsDeclarations}
-use Rattle.instantiate.specs.Unfolding.{Instantiates, IsTreeFor, unit_rules, unit_breaks, l8}
+use Rattle.instantiate.specs.Unfolding.{Instantiates, unit_rules, unit_breaks, l8}
+use Rattle.instantiate.specs.MadeTrees.{IsTreeFor}
 use Rattle.instantiate.proofs.Ruled.{rule8}
 use Rattle.instantiate.specs.Settled.{AnswersRules, IsSettled}
 use Rattle.instantiate.specs.declared.listing.Settled.{Settled}
@@ -33,11 +34,11 @@ Behind = Then FitsLimits (Keeps unit_rules unit_breaks)
 
 module _ (m : RootedModel) {X : Type 0} (see : Unfolded → X → Type 0) where
   -- the units are refused
-  pub units_stop : (r : Result X RuleFault) (d e : RuleFault) → r ≡ Err d → d ≡ e → Refuses m e
+  pub units_stop : (r : Result X RuleFault) (d e : RuleFault) → r ≡ Err d → d ≡ e → RefusesUnits m e
       → Meets Instantiates see m r
   units_stop r d e i j h = stage_stops {X = X} rule_told Unfolds Behind m see see r d e i j (go e h)
     where
-      go : (e : RuleFault) → Refuses m e → Meets {X = X} Unfolds see m (Err e)
+      go : (e : RuleFault) → RefusesUnits m e → Meets {X = X} Unfolds see m (Err e)
       go e (limit h) = h
       go e memory = tt
 

@@ -11,7 +11,7 @@ use Rattle.ar_syntax.specs.declared.members.TypeForm.{TypeForm}
 use Rattle.ar_syntax.specs.declared.members.TypeForm.TheVariants as form
 use Rattle.ar_syntax.specs.declared.members.TypeName.{TypeName}
 use Rattle.class_table.specs.Declaring.{MemberForm, NamedType, DomainType, ClassType, Declared}
-use Rattle.class_table.specs.Members.{Site, NamedMember, MemberKind, Variable, Inner, domain_body, type_named, kind_of, declared_kind, all_named, one_named, names_of_form, names_of, owned_at}
+use Rattle.class_table.specs.Members.{Site, NamedMember, MemberKind, Variable, Inner, domain_body, type_named, member_kind_of, declared_kind, all_named, one_named, names_of_form, names_of, owned_at}
 use Rattle.class_table.specs.declared.tables.Owned.{Owned}
 use Rattle.class_table.specs.declared.tables.Owned.TheVariants.{Plain, Nested}
 use Rattle.hierarchy.specs.Models.{RootedModel}
@@ -117,7 +117,7 @@ kind_variable d s (form.Named x) settings k v e = by (type_named d x.n) refl e
     other b v i = let z = ap is_variable i in cc
 
     by : (t : Option NamedType) → type_named d x.n ≡ t
-        → option_map (λ (u : NamedType). kind_of s (form.Named x) u settings) t ≡ Some k
+        → option_map (λ (u : NamedType). member_kind_of s (form.Named x) u settings) t ≡ Some k
         → (k ≡ Variable (form.Named x) settings) × (bounds_variables d (form.Named x) ≡ true)
     by None i f = cc
     by (Some (DomainType b)) i f = (cc, ap (λ (t : Option NamedType). is_some (option_and_then domain_body t)) i)

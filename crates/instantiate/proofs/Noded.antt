@@ -12,7 +12,7 @@ use Rattle.ar_syntax.specs.declared.members.Setting.{Setting}
 use Rattle.ar_syntax.specs.declared.members.TypeForm.{TypeForm}
 use Rattle.ar_syntax.specs.declared.members.TypeForm.TheVariants as form
 use Rattle.class_table.specs.Declaring.{MemberForm, NamedType, DomainType, ClassType, Declared}
-use Rattle.class_table.specs.Members.{Site, NamedMember, MemberKind, Variable, Inner, type_named, kind_of, domain_body, declared_kind, all_named, names_of_form}
+use Rattle.class_table.specs.Members.{Site, NamedMember, MemberKind, Variable, Inner, type_named, member_kind_of, domain_body, declared_kind, all_named, names_of_form}
 use Rattle.class_table.proofs.Taken.{map_join}
 use Rattle.hierarchy.specs.declared.tree.MemNode.{MemNode}
 use Rattle.instantiate.specs.declared.nodes.Listed.{Listed}
@@ -48,7 +48,7 @@ module _ (unit : UnitId) where
         where
           by : (t : Option NamedType) → is_some (option_and_then domain_body t) ≡ true
               → nodes_of unit (test_of Variables)
-              (all_named s (option_map (λ (u : NamedType). kind_of s (form.Named x) u settings) t) names)
+              (all_named s (option_map (λ (u : NamedType). member_kind_of s (form.Named x) u settings) t) names)
               ≡ names_nodes unit s names
           by None e = cc
           by (Some (DomainType b)) e = all_nodes (test_of Variables) (Variable (form.Named x) settings) names refl
@@ -62,7 +62,7 @@ module _ (unit : UnitId) where
         where
           by : (t : Option NamedType) → is_some (option_and_then domain_body t) ≡ false
               → nodes_of unit (test_of Variables)
-              (all_named s (option_map (λ (u : NamedType). kind_of s (form.Named x) u settings) t) names) ≡ []
+              (all_named s (option_map (λ (u : NamedType). member_kind_of s (form.Named x) u settings) t) names) ≡ []
           by None e = refl
           by (Some (DomainType b)) e = cc
           by (Some (ClassType b)) e = no_nodes (test_of Variables) (Inner b (Some s)) names refl
@@ -75,7 +75,7 @@ module _ (unit : UnitId) where
       others test v i (form.Named x) = by (type_named d x.n)
         where
           by : (t : Option NamedType) → nodes_of unit test
-              (all_named s (option_map (λ (u : NamedType). kind_of s (form.Named x) u settings) t) names) ≡ []
+              (all_named s (option_map (λ (u : NamedType). member_kind_of s (form.Named x) u settings) t) names) ≡ []
           by None = refl
           by (Some (DomainType b)) = no_nodes test (Variable (form.Named x) settings) names (v (form.Named x))
           by (Some (ClassType b)) = no_nodes test (Inner b (Some s)) names (i b)

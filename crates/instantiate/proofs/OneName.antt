@@ -10,7 +10,7 @@ use Rattle.class_table.specs.Members.{Site, NamedMember, MemberKind, member_name
 use Rattle.class_table.specs.Rules.{text_rules, l4}
 use Rattle.class_table.specs.declared.tables.Classes.{Classes}
 use Rattle.class_table.specs.declared.tables.Body.{Body}
-use Rattle.hierarchy.specs.Models.{RootedModel, IsKept, IsTableFor, sites_kept}
+use Rattle.hierarchy.specs.Models.{RootedModel, KeepsTextRules, IsRootedTable, sites_kept}
 use Rattle.hierarchy.specs.Units.{UnitPath, body_of, names_at, name_at}
 use Rattle.hierarchy.specs.Walks.{thing}
 use Rattle.hierarchy.proofs.Places.{AreApart}
@@ -30,7 +30,7 @@ named_own (h ∷ hs) a (suc i) g s =
     ap (λ (b : Bool). cond b (Some h) (member_named hs g.name)) (ne_eqb h.name g.name n) ∙ named_own hs rest i g s
 
 -- no two members of a body have one name
-pub names_apart : (m : RootedModel) → IsKept m → (b : ℕ)
+pub names_apart : (m : RootedModel) → KeepsTextRules m → (b : ℕ)
     → AreApart (named_at m.declared (unwrap_or (slice_get m.members b) []))
 names_apart m k b = by (slice_get m.members b) refl
   where
@@ -64,11 +64,11 @@ names_apart m k b = by (slice_get m.members b) refl
             [ inl l ↦ broken i j g h p q f l | inr l ↦ broken j i h g q p (sym f) (omega (arith, n, l)) ]
 
 -- each member of a unit is what its name is there
-pub name_own : (m : RootedModel) → IsKept m → (u : UnitPath) (i : ℕ) (g : NamedMember) → Stands (names_at m u) i g
-    → name_at m u g.name ≡ Some g
+pub name_own : (m : RootedModel) → KeepsTextRules m → (u : UnitPath) (i : ℕ) (g : NamedMember) → Stands (names_at m u) i
+    g → name_at m u g.name ≡ Some g
 name_own m k u i g s = named_own (names_at m u) (names_apart m k (body_of m u)) i g s
 
-module _ (m : RootedModel) (classes : Classes) (table : IsTableFor m classes) where
+module _ (m : RootedModel) (classes : Classes) (table : IsRootedTable m classes) where
   -- the members of a body that is there, and of none
   pub members_there : (b : ℕ) (body : Body) → Stands classes.bodies.items b body
       → sites_kept body ≡ unwrap_or (slice_get m.members b) []
@@ -112,7 +112,7 @@ module _ (m : RootedModel) (units : List UnitPath) (test : MemberKind → Bool) 
       }) r
 
   -- the nodes of what is listed of a unit
-  pub unit_nodes : IsKept m → Along (IsNodeSo m units test)
+  pub unit_nodes : KeepsTextRules m → Along (IsNodeSo m units test)
       (map (λ (g : NamedMember). thing u g.name) (filter (λ (g : NamedMember). test g.kind) (names_at m u)))
       (nodes_of unit test (names_at m u))
   unit_nodes k = members_nodes (names_at m u) (λ i g s. name_own m k u i g s)

@@ -11,7 +11,7 @@ use Rattle.ar_syntax.specs.declared.members.Setting.{Setting}
 use Rattle.ar_syntax.specs.declared.members.TypeForm.{TypeForm}
 use Rattle.ar_syntax.specs.declared.members.TypeForm.TheVariants as form
 use Rattle.class_table.specs.Declaring.{MemberForm, NamedType, DomainType, ClassType, Declared}
-use Rattle.class_table.specs.Members.{Site, NamedMember, MemberKind, Parameter, Kept, type_named, kind_of, declared_kind, one_named, names_of_form, names_of}
+use Rattle.class_table.specs.Members.{Site, NamedMember, MemberKind, Parameter, Kept, type_named, member_kind_of, declared_kind, one_named, names_of_form, names_of}
 use Rattle.class_table.specs.declared.tables.Owned.{Owned}
 use Rattle.class_table.specs.declared.tables.Owned.TheVariants.{Plain, Nested}
 use Rattle.hierarchy.specs.Walks.{is_parameter}
@@ -30,7 +30,8 @@ no_declared d s form.Boolean settings k v e = let z = ap (λ (o : Option MemberK
 no_declared d s form.Integer settings k v e = cc
 no_declared d s (form.Named x) settings k v e = by (type_named d x.n) e
   where
-    by : (t : Option NamedType) → option_map (λ (u : NamedType). kind_of s (form.Named x) u settings) t ≡ Some k → ⊥
+    by : (t : Option NamedType) → option_map (λ (u : NamedType). member_kind_of s (form.Named x) u settings) t ≡ Some k
+        → ⊥
     by None f = cc
     by (Some (DomainType b)) f = let z = ap (λ (o : Option MemberKind). option_map is_parameter o) f in cc
     by (Some (ClassType b)) f = let z = ap (λ (o : Option MemberKind). option_map is_parameter o) f in cc

@@ -7,7 +7,7 @@ use Rattle.ar_syntax.specs.declared.members.Setting.{Setting}
 use Rattle.ar_syntax.specs.declared.members.Word.{Word}
 use Rattle.class_table.specs.Members.{Site}
 use Rattle.hierarchy.specs.Units.{UnitPath}
-use Rattle.hierarchy.specs.Settings.{TargetWord, word_of, same_word, same_target, target_of, setting_for}
+use Rattle.hierarchy.specs.Settings.{TargetWord, target_word_of, same_word, same_target, target_of, setting_for}
 
 -- the list from an item on
 pub drop_here : {A : Type 0} (xs : List A) (i : ℕ) (a : A) → Stands xs i a → drop i xs ≡ a ∷ drop (i + 1) xs
@@ -21,27 +21,28 @@ and_false false c e = refl
 
 -- targets of two lengths differ
 pub other_length : (vs ws : List Word) → (length vs ≡ length ws → ⊥)
-    → same_target (map word_of vs) (map word_of ws) ≡ false
+    → same_target (map target_word_of vs) (map target_word_of ws) ≡ false
 other_length [] [] n = absurd (n refl)
 other_length [] (w ∷ ws) n = refl
 other_length (v ∷ vs) [] n = refl
-other_length (v ∷ vs) (w ∷ ws) n = and_false (same_word (word_of v) (word_of w)) _
+other_length (v ∷ vs) (w ∷ ws) n = and_false (same_word (target_word_of v) (target_word_of w)) _
     (other_length vs ws (λ e. n (ap suc e)))
 
 -- targets from a word on
 pub from_word : (vs ws : List Word) (i : ℕ) (v w : Word) → Stands vs i v → Stands ws i w
-    → same_target (map word_of (drop i vs)) (map word_of (drop i ws))
-    ≡ (same_word (word_of v) (word_of w) && same_target (map word_of (drop (i + 1) vs))
-    (map word_of (drop (i + 1) ws)))
+    → same_target (map target_word_of (drop i vs)) (map target_word_of (drop i ws))
+    ≡ (same_word (target_word_of v) (target_word_of w) && same_target (map target_word_of (drop (i + 1) vs))
+    (map target_word_of (drop (i + 1) ws)))
 from_word vs ws i v w s t =
-    ap (λ (us : List Word). same_target (map word_of us) (map word_of (drop i ws))) (drop_here vs i v s)
-    ∙ ap (λ (us : List Word). same_target (map word_of (v ∷ drop (i + 1) vs)) (map word_of us)) (drop_here ws i w t)
+    ap (λ (us : List Word). same_target (map target_word_of us) (map target_word_of (drop i ws))) (drop_here vs i v s)
+    ∙ ap (λ (us : List Word). same_target (map target_word_of (v ∷ drop (i + 1) vs)) (map target_word_of us))
+    (drop_here ws i w t)
 
 pub past_words : (vs ws : List Word) (i : ℕ) → length vs ≤ i → length ws ≤ i
-    → same_target (map word_of (drop i vs)) (map word_of (drop i ws)) ≡ true
+    → same_target (map target_word_of (drop i vs)) (map target_word_of (drop i ws)) ≡ true
 past_words vs ws i l k =
-    ap (λ (us : List Word). same_target (map word_of us) (map word_of (drop i ws))) (none_left vs i l)
-    ∙ ap (λ (us : List Word). same_target [] (map word_of us)) (none_left ws i k)
+    ap (λ (us : List Word). same_target (map target_word_of us) (map target_word_of (drop i ws))) (none_left vs i l)
+    ∙ ap (λ (us : List Word). same_target [] (map target_word_of us)) (none_left ws i k)
 
 module _ (u : UnitPath) (s : Site) (target : List TargetWord) where
   -- settings from a place on

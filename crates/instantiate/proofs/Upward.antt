@@ -7,7 +7,7 @@ use Rattle.ar_base.specs.Numbers.{UnitId, BodyId}
 use Rattle.class_table.specs.Members.{Site}
 use Rattle.class_table.specs.Tables.{site_of}
 use Rattle.hierarchy.specs.Models.{RootedModel}
-use Rattle.hierarchy.specs.Units.{Level, UnitPath}
+use Rattle.hierarchy.specs.Units.{UnitLevel, UnitPath}
 use Rattle.hierarchy.specs.Settings.{TargetWord, Named, settings_at, set_by, outermost}
 use Rattle.hierarchy.specs.Settings as s
 use Rattle.hierarchy.specs.Tie.{IsOwner, of_main, of_unit, IsSetAt, IsOutline}
@@ -35,7 +35,7 @@ owner_none units w o of_main e = refl
 owner_none units w o (of_unit t) e = cc
 
 pub owner_some : (units : List UnitPath) (w : UnitPath) (o : Option UnitId) (id : UnitId) → IsOwner units w o
-    → o ≡ Some id → (l : Level) × (above : UnitPath) × (w ≡ l ∷ above) × Stands units id.n above
+    → o ≡ Some id → (l : UnitLevel) × (above : UnitPath) × (w ≡ l ∷ above) × Stands units id.n above
 owner_some units w o id of_main e = cc
 owner_some units w o id (of_unit {l = l} {above = above} {id = k} t) e = let same : k ≡ id = cc in (l, above, refl, subst (λ (j : UnitId). Stands units j.n above) same t)
 
@@ -67,7 +67,7 @@ module _ (m : RootedModel) (units : List UnitPath) (u : UnitPath) (target : List
       (sym (h.rest ∙ ap (λ (w : UnitPath). option_or (outermost m w words) h.so_far) e)) h.is
 
   module _ (at : ℕ) (words : List TargetWord) (found : Option Attribute) (h : IsOn m units u target at words found)
-      (l : Level) (above : UnitPath) (split : h.unit ≡ l ∷ above) (owner : ℕ) (t : Stands units owner above) where
+      (l : UnitLevel) (above : UnitPath) (split : h.unit ≡ l ∷ above) (owner : ℕ) (t : Stands units owner above) where
     up : outermost m u target ≡ option_or (outermost m above (Named l.name ∷ words))
         (option_or (set_by m above l.set_at words) h.so_far)
     up = h.rest ∙ (ap (λ (w : UnitPath). option_or (outermost m w words) h.so_far) split

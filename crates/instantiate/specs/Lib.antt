@@ -1,4 +1,5 @@
 pub mod Nodes
 pub mod Settled
 pub mod Unfolding
+pub mod MadeTrees
 pub mod Values

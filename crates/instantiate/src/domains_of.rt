@@ -3,8 +3,8 @@
 ghost use Rattle.std.specs.Prelude.{ℕ, List, IfOk};
 ghost use Rattle.ar_syntax.specs.declared.items.DomainBody.{DomainBody};
 ghost use Rattle.class_table.specs.Declaring.{Declared};
-ghost use Rattle.class_table.specs.Tables.{Holds, IsDomainOf};
-ghost use Rattle.hierarchy.specs.Tie.{HasDomain};
+ghost use Rattle.class_table.specs.Tables.{HoldsDeclared, IsDomainOf};
+ghost use Rattle.hierarchy.specs.TypeDomains.{HasDomain};
 ghost use Rattle.unit_rules.specs.Typing.{KnowsPlaces};
 
 use ar_base::Memory;
@@ -32,7 +32,7 @@ pub(crate) fn domain_of(
     places: &TypePlaces,
     form: TypeForm,
 ) -> Result<Domain, Memory>
-    ensures { (d : Declared) → Holds d classes.now → KnowsPlaces classes.now.types.items places.now
+    ensures { (d : Declared) → HoldsDeclared d classes.now → KnowsPlaces classes.now.types.items places.now
         → IfOk result (HasDomain d form) }
 {
     match form {

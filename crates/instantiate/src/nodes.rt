@@ -6,8 +6,8 @@ ghost use Rattle.ar_base.specs.Lists.{Along};
 ghost use Rattle.ar_syntax.specs.declared.members.Member.{out-Member};
 ghost use Rattle.class_table.specs.Declaring.{Declared};
 ghost use Rattle.class_table.specs.Members.{names_of, named_at, owned_at as declared_at};
-ghost use Rattle.class_table.specs.Tables.{Holds, site_of};
-ghost use Rattle.hierarchy.specs.Models.{RootedModel, IsTableFor};
+ghost use Rattle.class_table.specs.Tables.{HoldsDeclared, site_of};
+ghost use Rattle.hierarchy.specs.Models.{RootedModel, IsRootedTable};
 ghost use Rattle.hierarchy.specs.Units.{UnitPath, body_of, names_at};
 ghost use Rattle.hierarchy.specs.Listing.{things_in};
 ghost use Rattle.hierarchy.specs.Tie.{AreOutlines};
@@ -68,7 +68,7 @@ fn single(member: &Member, listed: Listed) -> Option<NameId>
 
 // Whether a declaration by this type gives things of the kind.
 fn declares(form: TypeForm, classes: &Classes, places: &TypePlaces, listed: Listed) -> bool
-    ensures { (d : Declared) → Holds d classes.now → KnowsPlaces classes.now.types.items places.now
+    ensures { (d : Declared) → HoldsDeclared d classes.now → KnowsPlaces classes.now.types.items places.now
         → result ≡ declares_so listed d form }
 {
     match listed {
@@ -103,7 +103,7 @@ fn add_member(
     places: &TypePlaces,
     listed: Listed,
 ) -> Result<(), Memory>
-    ensures { (d : Declared) → Holds d classes.now → KnowsPlaces classes.now.types.items places.now
+    ensures { (d : Declared) → HoldsDeclared d classes.now → KnowsPlaces classes.now.types.items places.now
         → OnOk result (nodes.new.items ≡ nodes.old.items
         ++ nodes_of unit (test_of listed) (names_of d (site_of site) (Some owned.now))) }
 {
@@ -135,7 +135,7 @@ fn add_site(
     places: &TypePlaces,
     listed: Listed,
 ) -> Result<(), Memory>
-    ensures { (d : Declared) → Holds d classes.now → KnowsPlaces classes.now.types.items places.now
+    ensures { (d : Declared) → HoldsDeclared d classes.now → KnowsPlaces classes.now.types.items places.now
         → OnOk result (nodes.new.items ≡ nodes.old.items
         ++ nodes_of unit (test_of listed)
         (names_of d (site_of site) (declared_at d (site_of site)))) }
@@ -155,7 +155,7 @@ fn add_sites(
     places: &TypePlaces,
     listed: Listed,
 ) -> Result<(), Memory>
-    ensures { (d : Declared) → Holds d classes.now → KnowsPlaces classes.now.types.items places.now
+    ensures { (d : Declared) → HoldsDeclared d classes.now → KnowsPlaces classes.now.types.items places.now
         → OnOk result (nodes.new.items ≡ nodes.old.items
         ++ nodes_of unit (test_of listed) (named_at d (map site_of sites.now))) }
 {
@@ -174,7 +174,7 @@ fn add_unit(
     places: &TypePlaces,
     listed: Listed,
 ) -> Result<(), Memory>
-    ensures { (m : RootedModel) (u : UnitPath) → IsTableFor m classes.now
+    ensures { (m : RootedModel) (u : UnitPath) → IsRootedTable m classes.now
         → KnowsPlaces classes.now.types.items places.now
         → body.n ≡ body_of m u
         → OnOk result (nodes.new.items ≡ nodes.old.items

@@ -5,12 +5,12 @@ ghost use Rattle.ar_base.specs.Lists.{Along};
 ghost use Rattle.ar_syntax.specs.declared.expressions.RawExpr.{RawExpr};
 ghost use Rattle.class_table.specs.Declaring.{Declared};
 ghost use Rattle.class_table.specs.Members.{NamedMember, Parameter};
-ghost use Rattle.class_table.specs.Tables.{Holds};
+ghost use Rattle.class_table.specs.Tables.{HoldsDeclared};
 ghost use Rattle.hierarchy.specs.Models.{RootedModel};
 ghost use Rattle.hierarchy.specs.Units.{UnitPath, Thing};
 ghost use Rattle.hierarchy.specs.Walks.{is_parameter};
 ghost use Rattle.hierarchy.specs.Listing.{parameters as parameters_of};
-ghost use Rattle.hierarchy.specs.Tie.{IsNode, HasParameterDomain, IsParameter};
+ghost use Rattle.hierarchy.specs.Tie.{IsNode, HasParameterDomain, IsParameterNode};
 ghost use Rattle.hierarchy.specs.Tie.{AreOutlines};
 ghost use Rattle.unit_rules.specs.Typing.{KnowsPlaces};
 ghost use Rattle.instantiate.specs.Nodes.{IsNodeSo};
@@ -47,7 +47,7 @@ fn parameter_domain(
     places: &TypePlaces,
     form: TypeForm,
 ) -> Result<Option<Domain>, Memory>
-    ensures { (d : Declared) (value : RawExpr) → Holds d classes.now
+    ensures { (d : Declared) (value : RawExpr) → HoldsDeclared d classes.now
         → KnowsPlaces classes.now.types.items places.now
         → IfOk result (HasParameterDomain d (Parameter form value)) }
 {
@@ -74,7 +74,7 @@ fn typed(
         → AreOutlines m units classes.now outlines.now
         → KnowsPlaces classes.now.types.items places.now
         → IsNode m units t g node → g.kind ≡ Parameter form value
-        → IfOk result (IsParameter m units t) }
+        → IfOk result (IsParameterNode m units t) }
 {
     let domain = parameter_domain(classes, places, form)?;
     let mut target = Vec::new(alloc);
@@ -116,7 +116,7 @@ fn parameter(
     ensures { (m : RootedModel) (units : List UnitPath) (t : Thing)
         → AreOutlines m units classes.now outlines.now
         → KnowsPlaces classes.now.types.items places.now → IsNodeSo m units is_parameter t node
-        → IfOk result (IsParameter m units t) }
+        → IfOk result (IsParameterNode m units t) }
 {
     let site = (node.source.body, node.source.member);
     let Some(owned) = owned_at(&classes.bodies, site) else {
@@ -137,7 +137,7 @@ pub fn parameters(
 ) -> Result<Vec<ParNode>, Memory>
     ensures { (m : RootedModel) (units : List UnitPath)
         → AreOutlines m units classes.now outlines.now
-        → IfOk result (λ v. Along (IsParameter m units) (parameters_of m units) v.items) }
+        → IfOk result (λ v. Along (IsParameterNode m units) (parameters_of m units) v.items) }
 {
     let places = TypePlaces::new(alloc, &classes.types)?;
     let nodes = nodes(alloc, classes, &places, outlines, Listed::Parameters)?;

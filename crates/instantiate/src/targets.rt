@@ -2,10 +2,10 @@
 
 ghost use Rattle.std.specs.Prelude.{◌≡◌, map, Some};
 ghost use Rattle.class_table.specs.Members.{Site};
-ghost use Rattle.class_table.specs.Tables.{Holds, site_of};
+ghost use Rattle.class_table.specs.Tables.{HoldsDeclared, site_of};
 ghost use Rattle.hierarchy.specs.Models.{RootedModel};
 ghost use Rattle.hierarchy.specs.Units.{UnitPath};
-ghost use Rattle.hierarchy.specs.Settings.{word_of, same_word as is_same_word, same_target as is_same_target, settings_at, settings_of as settings_of_member};
+ghost use Rattle.hierarchy.specs.Settings.{target_word_of, same_word as is_same_word, same_target as is_same_target, settings_at, settings_of as settings_of_member};
 ghost use Rattle.instantiate.specs.Values.{declared_type, SetsAt};
 
 use ar_base::BodyId;
@@ -14,7 +14,7 @@ use class_table::{Classes, Owned};
 use unit_rules::owned_at;
 
 fn same_word(first: Word, second: Word) -> bool
-    ensures { result ≡ is_same_word (word_of first) (word_of second) }
+    ensures { result ≡ is_same_word (target_word_of first) (target_word_of second) }
 {
     match first {
         Word::Name(x) => match second {
@@ -28,7 +28,7 @@ fn same_word(first: Word, second: Word) -> bool
 
 // Whether the words are the same.
 fn same_target(first: &[Word], second: &[Word]) -> bool
-    ensures { result ≡ is_same_target (map word_of first.now) (map word_of second.now) }
+    ensures { result ≡ is_same_target (map target_word_of first.now) (map target_word_of second.now) }
 {
     if first.len() != second.len() {
         return false;
@@ -43,7 +43,7 @@ fn same_target(first: &[Word], second: &[Word]) -> bool
 
 // The place of the first of these settings that sets the target.
 fn setting_of(settings: &[Setting], target: &[Word]) -> Option<usize>
-    ensures { (u : UnitPath) (s : Site) → SetsAt u s settings.now (map word_of target.now) result }
+    ensures { (u : UnitPath) (s : Site) → SetsAt u s settings.now (map target_word_of target.now) result }
 {
     for place in 0..settings.len() {
         if same_target(&settings[place].target, target) {
@@ -81,8 +81,8 @@ pub(crate) fn settings_of(owned: &Owned) -> &[Setting]
 
 /// The place of the first setting that sets the target, in the declaration at a site.
 pub(crate) fn set_at(classes: &Classes, site: (BodyId, u32), target: &[Word]) -> Option<usize>
-    ensures { (m : RootedModel) (u : UnitPath) → Holds m.declared classes.now
-        → SetsAt u (site_of site) (settings_at m (site_of site)) (map word_of target.now) result }
+    ensures { (m : RootedModel) (u : UnitPath) → HoldsDeclared m.declared classes.now
+        → SetsAt u (site_of site) (settings_at m (site_of site)) (map target_word_of target.now) result }
 {
     match owned_at(&classes.bodies, site) {
         None => None,

@@ -3,7 +3,8 @@
 ghost use Rattle.ar_base.specs.Stages.{Meets};
 ghost use Rattle.hierarchy.specs.Models.{RootedModel, IsKeptTable};
 ghost use Rattle.instantiate.specs.Settled.{IsSettled};
-ghost use Rattle.instantiate.specs.Unfolding.{Instantiates, IsTreeFor};
+ghost use Rattle.instantiate.specs.Unfolding.{Instantiates};
+ghost use Rattle.instantiate.specs.MadeTrees.{IsTreeFor};
 
 use crate::listing::{Settled, tree_of};
 use crate::rules::keep_rules;

@@ -3,10 +3,10 @@
 ghost use Rattle.std.specs.Prelude.{◌≡◌, List, map, Option, Some, IfOk};
 ghost use Rattle.ar_base.specs.Lists.{Stands};
 ghost use Rattle.class_table.specs.Members.{Site, NamedMember};
-ghost use Rattle.class_table.specs.Tables.{Holds};
+ghost use Rattle.class_table.specs.Tables.{HoldsDeclared};
 ghost use Rattle.hierarchy.specs.Models.{RootedModel};
 ghost use Rattle.hierarchy.specs.Units.{UnitPath, Thing};
-ghost use Rattle.hierarchy.specs.Settings.{word_of, set_by, outermost as outermost_of, target_in, declared_in};
+ghost use Rattle.hierarchy.specs.Settings.{target_word_of, set_by, outermost as outermost_of, target_in, declared_in};
 ghost use Rattle.ar_syntax.specs.declared.expressions.RawExpr.{RawExpr};
 ghost use Rattle.hierarchy.specs.Tie.{IsSetAt, IsNode, HasAttribute};
 ghost use Rattle.hierarchy.specs.Tie.{AreOutlines};
@@ -26,9 +26,9 @@ fn set_here(
     target: &[Word],
 ) -> Result<Option<Attribute>, Memory>
     ensures { (m : RootedModel) (units : List UnitPath) (above : UnitPath) (site : Option Site)
-        → Holds m.declared classes.now → IsSetAt site outline.now.set_at
+        → HoldsDeclared m.declared classes.now → IsSetAt site outline.now.set_at
         → Stands units owner.n above
-        → IfOk result (AreAttribute units (set_by m above site (map word_of target.now))) }
+        → IfOk result (AreAttribute units (set_by m above site (map target_word_of target.now))) }
 {
     let Some(site) = outline.set_at else {
         return Ok(None);
@@ -60,7 +60,7 @@ pub(crate) fn outermost(
     ensures { (m : RootedModel) (units : List UnitPath) (u : UnitPath)
         → AreOutlines m units classes.now outlines.now
         → Stands units unit.n u
-        → IfOk result (AreAttribute units (outermost_of m u (map word_of target.items))) }
+        → IfOk result (AreAttribute units (outermost_of m u (map target_word_of target.items))) }
 {
     let mut at = unit;
     let mut found = None;
@@ -92,7 +92,7 @@ pub(crate) fn value_of(
     ensures { (m : RootedModel) (units : List UnitPath) (t : Thing) (g : NamedMember)
         (value : RawExpr)
         → AreOutlines m units classes.now outlines.now → IsNode m units t g node
-        → target_in g.name g.kind ≡ Some (map word_of target.items)
+        → target_in g.name g.kind ≡ Some (map target_word_of target.items)
         → declared_in t.unit g.site g.kind
         ≡ Some (record { unit = t.unit; site = g.site; setting = own; value = value })
         → IfOk result (HasAttribute m units t) }

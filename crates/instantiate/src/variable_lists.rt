@@ -6,8 +6,8 @@ ghost use Rattle.hierarchy.specs.Models.{RootedModel};
 ghost use Rattle.hierarchy.specs.Units.{UnitPath, Thing};
 ghost use Rattle.hierarchy.specs.Walks.{is_variable};
 ghost use Rattle.hierarchy.specs.Listing.{variables as variables_of};
-ghost use Rattle.hierarchy.specs.Settings.{word_of};
-ghost use Rattle.hierarchy.specs.Tie.{IsVariable};
+ghost use Rattle.hierarchy.specs.Settings.{target_word_of};
+ghost use Rattle.hierarchy.specs.Tie.{IsVariableNode};
 ghost use Rattle.hierarchy.specs.Tie.{AreOutlines};
 ghost use Rattle.unit_rules.specs.Typing.{KnowsPlaces};
 ghost use Rattle.instantiate.specs.Nodes.{IsNodeSo};
@@ -26,7 +26,7 @@ use unit_rules::{TypePlaces, is_state, owned_at};
 
 // The last word of the target of a state variable or a flow.
 fn last_word(is_state: bool) -> Word
-    ensures { word_of result ≡ last_of is_state }
+    ensures { target_word_of result ≡ last_of is_state }
 {
     if is_state { Word::Init } else { Word::Reset }
 }
@@ -42,7 +42,7 @@ fn variable(
     ensures { (m : RootedModel) (units : List UnitPath) (t : Thing)
         → AreOutlines m units classes.now outlines.now
         → KnowsPlaces classes.now.types.items places.now → KeepsDeclarations m units
-        → IsNodeSo m units is_variable t node → IfOk result (IsVariable m units t) }
+        → IsNodeSo m units is_variable t node → IfOk result (IsVariableNode m units t) }
 {
     let site = (node.source.body, node.source.member);
     let Some(owned) = owned_at(&classes.bodies, site) else {
@@ -75,7 +75,7 @@ pub fn variables(
     ensures { (m : RootedModel) (units : List UnitPath)
         → AreOutlines m units classes.now outlines.now
         → KeepsDeclarations m units
-        → IfOk result (λ v. Along (IsVariable m units) (variables_of m units) v.items) }
+        → IfOk result (λ v. Along (IsVariableNode m units) (variables_of m units) v.items) }
 {
     let places = TypePlaces::new(alloc, &classes.types)?;
     let nodes = nodes(alloc, classes, &places, outlines, Listed::Variables)?;

@@ -10,7 +10,7 @@ use Rattle.gts_core.specs.declared.system.GtsParts.{GtsParts}
 use Rattle.gts_flatten.specs.Elaborating.{Elaborated}
 use Rattle.job_inputs.specs.CutLines.{IsPassed, IsCutLine, texts_in, trimmed, is_comma}
 use Rattle.job_inputs.specs.Chains.{labels_of, cut_of, HaveKnownWays, IsBadList, AnswersCuts}
-use Rattle.job_inputs.specs.CutLists.{CutLine, Lists, IsBadLabel, IsFirstBadLabel, IsBadCut, CutList}
+use Rattle.job_inputs.specs.CutLists.{CutLine, ListsCutLines, IsBadLabel, IsFirstBadLabel, IsBadCut, CutList}
 use Rattle.job_inputs.specs.CutLists as lists
 use Rattle.job_inputs.specs.CutReads.{AreKnownWays, AnswersLabels, AreReached, AddsCuts, IsBadCutLine, HasRead}
 use Rattle.text_pieces.specs.WayLabels.{label_of}
@@ -210,7 +210,7 @@ read_none x all cuts e = record {
   done = [];
   split = refl;
   counts = omega arith;
-  given = λ ls more g. subst (λ (z : List CutLine). Lists x 1 ls (z ++ more)) (sym e) g;
+  given = λ ls more g. subst (λ (z : List CutLine). ListsCutLines x 1 ls (z ++ more)) (sym e) g;
   good = λ k line why s b. stands_none k line s;
 }
 
@@ -222,8 +222,8 @@ read_more {x = x} all rest left line cuts next number e r a = record {
   split = r.split ∙ ap (λ z. r.done ++ z) e ∙ sym (append_assoc r.done (line ∷ []) rest);
   counts = omega (arith, r.counts, length-append r.done (line ∷ []));
   given = λ ls more g.
-      subst (λ (z : List (List ℕ)). Lists x 1 z (next ++ more)) (sym (append_assoc r.done (line ∷ []) ls))
-      (subst (λ (z : List CutLine). Lists x 1 (r.done ++ (line ∷ ls)) z)
+      subst (λ (z : List (List ℕ)). ListsCutLines x 1 z (next ++ more)) (sym (append_assoc r.done (line ∷ []) ls))
+      (subst (λ (z : List CutLine). ListsCutLines x 1 (r.done ++ (line ∷ ls)) z)
       (sym (ap (λ z. z ++ more) a.is ∙ append_assoc cuts a.added more))
       (r.given (line ∷ ls) (a.added ++ more) (a.gives ls more g)));
   good = λ k other why s b. elim (stands_split r.done (line ∷ []) k other s) [
@@ -239,8 +239,8 @@ read_more {x = x} all rest left line cuts next number e r a = record {
 pub read_end : {x : Elaborated} (text : List ℕ) (left : List (List ℕ)) (cuts : List CutLine) (number : ℕ) → left ≡ []
     → HasRead x (lines_of text) left cuts number → CutList text x (Ok cuts)
 read_end {x = x} text left cuts number e r =
-    lists.gives (subst (λ (z : List (List ℕ)). Lists x 1 z cuts) (sym (r.split ∙ ap (λ z. r.done ++ z) e))
-    (subst (λ (z : List CutLine). Lists x 1 (r.done ++ []) z) (append-nil cuts) (r.given [] [] lists.none)))
+    lists.gives (subst (λ (z : List (List ℕ)). ListsCutLines x 1 z cuts) (sym (r.split ∙ ap (λ z. r.done ++ z) e))
+    (subst (λ (z : List CutLine). ListsCutLines x 1 (r.done ++ []) z) (append-nil cuts) (r.given [] [] lists.none)))
 
 first_bad : {x : Elaborated} (text : List ℕ) (rest left : List (List ℕ)) (line : List ℕ) (cuts : List CutLine)
     (number n : ℕ) (why : Why) → left ≡ line ∷ rest

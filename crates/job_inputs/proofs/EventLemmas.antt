@@ -7,7 +7,7 @@ use Rattle.ar_base.proofs.Standing.{stands_none, stands_split, stands_map_back, 
 use Rattle.ar_base.proofs.Items.{last_one}
 use Rattle.ar_syntax.specs.declared.paths.PathStart.TheVariants.{Here}
 use Rattle.class_table.specs.Members.{NamedMember, MemberKind}
-use Rattle.hierarchy.specs.Models.{RootedModel, IsKept}
+use Rattle.hierarchy.specs.Models.{RootedModel, KeepsTextRules}
 use Rattle.hierarchy.specs.Units.{UnitPath, Thing, names_at}
 use Rattle.hierarchy.specs.Walks.{Reaches, NamesLead, IsThingAt, thing, is_event}
 use Rattle.hierarchy.specs.Listing.{AreUnits, things_in, events}
@@ -79,7 +79,7 @@ module _ (test : NamedMember → Bool) where
       go true r = record { apart = both r }
       go false r = r
 
-module _ {m : RootedModel} (kept : IsKept m) where
+module _ {m : RootedModel} (kept : KeepsTextRules m) where
   in_unit : (test : MemberKind → Bool) (u : UnitPath) → AreDifferent (things_in test m u)
   in_unit test u = record {
     one = λ i j t p q.

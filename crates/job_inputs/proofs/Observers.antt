@@ -12,7 +12,7 @@ use Rattle.gts_core.specs.declared.system.GtsParts.{GtsParts}
 use Rattle.gts_core.specs.declared.system.Observer.{Observer}
 use Rattle.gts_flatten.specs.Elaborating.{Elaborated}
 use Rattle.gts_flatten.specs.Flat.{IsFlat, naming_of}
-use Rattle.source_meaning.specs.Binding.{HasKind, kind}
+use Rattle.source_meaning.specs.Numbering.{HasObserverKind, kind}
 use Rattle.source_meaning.specs.Kinds.{kind_of_type}
 use Rattle.hierarchy.specs.Listing.{observers}
 use Rattle.hierarchy.specs.Tie.{AnswersThing}
@@ -22,7 +22,7 @@ use Rattle.hierarchy.specs.declared.tree.Tree.{Tree}
 use Rattle.job_inputs.specs.Flat.{IsOfTree}
 use Rattle.job_inputs.specs.Labels.{Spells}
 use Rattle.job_inputs.proofs.EventLemmas.{one_spelling}
-use Rattle.job_inputs.specs.Wanting.{NamesObserver, IsOfKind, IsWanted, Wants}
+use Rattle.job_inputs.specs.Wanting.{NamesObserver, IsObserverOfKind, IsWanted, Wants}
 use Rattle.job_inputs.specs.Answers.{AnswersObserver}
 
 module _ {x : Elaborated} {tree : Tree} {p : GtsParts} (of : IsOfTree x tree p) where
@@ -70,14 +70,14 @@ module _ {x : Elaborated} {p : GtsParts} (flat : IsFlat x p) where
 
   -- and its kind is that of its declared type
   pub of_kind : {text : List ℕ} {n : ℕ} (o : Observer) → NamesObserver x text n → Stands p.observers.items n o
-      → IsOfKind x n o.kind
+      → IsObserverOfKind x n o.kind
   of_kind {n = n} o named stands =
       let all = observers x.declarations.model x.declarations.units in
       let r = along_on all p.observers.items flat.kinds n named.thing named.number in
       let same : r.0 ≡ o = stands_one p.observers.items n r.0 o r.1 stands in
-      told (subst (λ (z : Observer). HasKind x.declarations.model named.thing z) same r.2)
+      told (subst (λ (z : Observer). HasObserverKind x.declarations.model named.thing z) same r.2)
     where
-      told : HasKind x.declarations.model named.thing o → IsOfKind x n o.kind
+      told : HasObserverKind x.declarations.model named.thing o → IsObserverOfKind x n o.kind
       told (kind type e is is_kind) = record {
         thing = named.thing;
         number = named.number;
@@ -88,7 +88,7 @@ module _ {x : Elaborated} {p : GtsParts} (flat : IsFlat x p) where
       }
 
   -- no other kind is that of its type
-  pub one_kind : {n : ℕ} {j k : ValueKind} → IsOfKind x n j → IsOfKind x n k → j ≡ k
+  pub one_kind : {n : ℕ} {j k : ValueKind} → IsObserverOfKind x n j → IsObserverOfKind x n k → j ≡ k
   one_kind {n = n} a b =
       let all = observers x.declarations.model x.declarations.units in
       let m = x.declarations.model in

@@ -11,8 +11,8 @@ use Rattle.gts_core.specs.declared.system.GtsParts.{GtsParts}
 use Rattle.gts_flatten.specs.Elaborating.{Elaborated}
 use Rattle.job_inputs.specs.Flat.{AreFirable, IsFirable, IsBadScript, AnswersScript}
 use Rattle.job_inputs.specs.Labels.{IsLabel, NeedsWay}
-use Rattle.job_inputs.specs.Lines.{Line, Skipped, Fires, GoesBack, Shows, ListsEnabled, NoCommand, lines_of, line_said}
-use Rattle.job_inputs.specs.Scripts.{Gives, IsBad, no_command, needs_way, no_event, Why, IsNoCommand, LacksWay, NamesNoEvent, Commands, gives, bad}
+use Rattle.job_inputs.specs.Lines.{ScriptLine, Skipped, Fires, GoesBack, Shows, ListsEnabled, NoCommand, lines_of, line_said}
+use Rattle.job_inputs.specs.Scripts.{GivesCommands, IsBad, no_command, needs_way, no_event, Why, IsNoCommand, LacksWay, NamesNoEvent, Commands, gives, bad}
 use Rattle.job_inputs.specs.Scripts as scripts
 use Rattle.job_inputs.specs.Reads.{Adds, AnswersLabel, Reached, IsBadLine, lines_left, bytes_left}
 use Rattle.job_inputs.specs.declared.commands.Command.{Command as Code}
@@ -24,8 +24,8 @@ use Rattle.job_inputs.specs.declared.commands.ScriptFault.TheVariants as faults
 
 module _ {x : Elaborated} {line : List ℕ} where
   -- a line that says anything but a label
-  not_bad : (said : Line) → line_said line ≡ said → (said ≡ NoCommand → ⊥) → ((label : List ℕ) → said ≡ Fires label → ⊥)
-      → (why : Why) → IsBad x why line → ⊥
+  not_bad : (said : ScriptLine) → line_said line ≡ said → (said ≡ NoCommand → ⊥) → ((label : List ℕ) → said ≡ Fires
+      label → ⊥) → (why : Why) → IsBad x why line → ⊥
   not_bad said e n f why (no_command i) = n (sym e ∙ i)
   not_bad said e n f why (needs_way {label = label} i h) = f label (sym e ∙ i)
   not_bad said e n f why (no_event {label = label} i h k) = f label (sym e ∙ i)
@@ -105,7 +105,7 @@ reach_none x all cs e = record {
   done = [];
   split = refl;
   counts = omega arith;
-  given = λ lines more g. subst (λ (z : List Command). Gives x lines (z ++ more)) (sym e) g;
+  given = λ lines more g. subst (λ (z : List Command). GivesCommands x lines (z ++ more)) (sym e) g;
   good = λ k line why s b. stands_none k line s;
 }
 
@@ -117,8 +117,8 @@ reach_more {x = x} all rest left line cs ds number e r a = record {
   split = r.split ∙ ap (λ z. r.done ++ z) e ∙ sym (append_assoc r.done (line ∷ []) rest);
   counts = omega (arith, r.counts, length-append r.done (line ∷ []));
   given = λ lines more g.
-      subst (λ (z : List (List ℕ)). Gives x z (ds ++ more)) (sym (append_assoc r.done (line ∷ []) lines))
-      (subst (λ (z : List Command). Gives x (r.done ++ (line ∷ lines)) z)
+      subst (λ (z : List (List ℕ)). GivesCommands x z (ds ++ more)) (sym (append_assoc r.done (line ∷ []) lines))
+      (subst (λ (z : List Command). GivesCommands x (r.done ++ (line ∷ lines)) z)
       (sym (ap (λ z. z ++ more) a.is ∙ append_assoc cs a.added more))
       (r.given (line ∷ lines) (a.added ++ more) (a.gives lines more g)));
   good = λ k other why s b. elim (stands_split r.done (line ∷ []) k other s) [
@@ -134,8 +134,8 @@ reach_more {x = x} all rest left line cs ds number e r a = record {
 pub reach_end : {x : Elaborated} (script : List ℕ) (left : List (List ℕ)) (cs : List Command) (number : ℕ) → left ≡ []
     → Reached x (lines_of script) left cs number → Commands script x (Ok cs)
 reach_end {x = x} script left cs number e r =
-    gives (subst (λ (z : List (List ℕ)). Gives x z cs) (sym (r.split ∙ ap (λ z. r.done ++ z) e))
-    (subst (λ (z : List Command). Gives x (r.done ++ []) z) (append-nil cs) (r.given [] [] scripts.none)))
+    gives (subst (λ (z : List (List ℕ)). GivesCommands x z cs) (sym (r.split ∙ ap (λ z. r.done ++ z) e))
+    (subst (λ (z : List Command). GivesCommands x (r.done ++ []) z) (append-nil cs) (r.given [] [] scripts.none)))
 
 first_bad : {x : Elaborated} (script : List ℕ) (rest left : List (List ℕ)) (line : List ℕ) (cs : List Command)
     (number n : ℕ) (why : Why) → left ≡ line ∷ rest

@@ -11,7 +11,7 @@ use Rattle.ar_base.proofs.Standing.{stands_one, stands_within, stands_some, alon
 use Rattle.ar_meaning.specs.Systems as s
 use Rattle.ar_meaning.specs.Runs.{Label}
 use Rattle.ar_syntax.specs.declared.paths.PathStart.TheVariants.{Here}
-use Rattle.gts_core.specs.Sound.{IsSound, IsListed}
+use Rattle.gts_core.specs.Sound.{IsSound, IsListedWay}
 use Rattle.gts_core.specs.declared.system.Event.{Event}
 use Rattle.gts_core.specs.declared.system.GtsParts.{GtsParts}
 use Rattle.gts_flatten.specs.Elaborating.{Elaborated}
@@ -159,7 +159,8 @@ module _ {x : Elaborated} {tree : Tree} {p : GtsParts} (of : IsOfTree x tree p) 
 -- Labels
 
 -- the label of the way at place k of event e
-listed_label : (p : GtsParts) (e k : ℕ) (n : WayId) → IsListed p e k n → label_of p n.n ≡ record { event = e; way = k }
+listed_label : (p : GtsParts) (e k : ℕ) (n : WayId) → IsListedWay p e k n
+    → label_of p n.n ≡ record { event = e; way = k }
 listed_label p e k n is = ap label_found is.stands
     ∙ made is.way.event.n (is.way.number - 1) is.event (omega (arith, is.number))
   where

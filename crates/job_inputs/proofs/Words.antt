@@ -14,7 +14,7 @@ use Rattle.domains.specs.declared.Value.{Value}
 use Rattle.domains.specs.declared.Value.TheVariants as value
 use Rattle.typed_expr.specs.declared.expr.ValueKind.{ValueKind}
 use Rattle.typed_expr.specs.declared.expr.ValueKind.TheVariants.{Truth, Whole, Symbol}
-use Rattle.job_inputs.specs.Wanting.{Writes, truth, whole, less_zero, symbol, Wants, as_written, true_unsaid}
+use Rattle.job_inputs.specs.Wanting.{WritesValue, truth, whole, less_zero, symbol, Wants, as_written, true_unsaid}
 
 -- the number that is written is the one that is read
 pub parsed : {E : Type 0} (word : List ℕ) (r : Result ℤ E) (n : ℤ) → FitsSigned w64 n → ParsesSigned w64 10 word r
@@ -30,36 +30,36 @@ same_number a b = cc
 
 -- a word that writes a value of one kind
 pub not_truth : {symbols : List (List ℕ)} {word : List ℕ} → (word ≡ codes "true" → ⊥) → (word ≡ codes "false" → ⊥)
-    → (v : Value) → Writes symbols word Truth v → ⊥
+    → (v : Value) → WritesValue symbols word Truth v → ⊥
 not_truth t f v (truth {b = true} e) = t e
 not_truth t f v (truth {b = false} e) = f e
 
 pub not_whole : {symbols : List (List ℕ)} {word : List ℕ} → (word ≡ codes "-0" → ⊥)
-    → ((n : ℤ) → FitsSigned w64 n → word ≡ signed_decimal n → ⊥) → (v : Value) → Writes symbols word Whole v → ⊥
+    → ((n : ℤ) → FitsSigned w64 n → word ≡ signed_decimal n → ⊥) → (v : Value) → WritesValue symbols word Whole v → ⊥
 not_whole z n v (whole {n = k} f e) = n k f e
 not_whole z n v (less_zero e) = z e
 
 pub not_symbol : {symbols : List (List ℕ)} {word : List ℕ} → ((n : ℕ) → Stands symbols n word → ⊥) → (v : Value)
-    → Writes symbols word Symbol v → ⊥
+    → WritesValue symbols word Symbol v → ⊥
 not_symbol n v (symbol {s = k} s) = n k s
 
 -- what is asked for by a word is what it writes
 wrote : {symbols : List (List ℕ)} {o : Option (List ℕ)} {k : ValueKind} {v : Value} → Wants symbols o k v
     → (text : List ℕ)
-    → o ≡ Some text → Writes symbols text k v
+    → o ≡ Some text → WritesValue symbols text k v
 wrote {symbols = symbols} {k = k} {v = v} (as_written {word = t} x) text i =
-    let same : t ≡ text = cc in subst (λ (z : List ℕ). Writes symbols z k v) same x
+    let same : t ≡ text = cc in subst (λ (z : List ℕ). WritesValue symbols z k v) same x
 wrote true_unsaid text i = cc
 
 -- where there is a word, what it writes is asked for
 pub said : (symbols : List (List ℕ)) (word : Option (List ℕ)) (text shown : List ℕ) (k : ValueKind) (r : Option Value)
     → word ≡ Some text → shown ≡ text
-    → MatchOption r ((v : Value) → Writes symbols shown k v → ⊥) (λ v. Writes symbols shown k v)
+    → MatchOption r ((v : Value) → WritesValue symbols shown k v → ⊥) (λ v. WritesValue symbols shown k v)
     → MatchOption r ((v : Value) → Wants symbols word k v → ⊥) (λ v. Wants symbols word k v)
 said symbols word text shown k None e f m = λ v w. m v (wrote w shown (e ∙ ap (λ z. Some z) (sym f)))
 said symbols word text shown k (Some v) e f m =
     subst (λ (z : Option (List ℕ)). Wants symbols z k v) (sym e)
-    (as_written (subst (λ (z : List ℕ). Writes symbols z k v) f m))
+    (as_written (subst (λ (z : List ℕ). WritesValue symbols z k v) f m))
 
 pub unsaid : (symbols : List (List ℕ)) (word : Option (List ℕ)) (k : ValueKind) → word ≡ None → k ≡ Truth
     → Wants symbols word k (value.Truth true)

@@ -14,15 +14,15 @@ pub record CutLine : Type 0 where
   pub labels : List Label
 
 -- the cut lines that these lines give, the first of which has this number, where none of them is bad
-pub data Lists (x : Elaborated) : ℕ → List (List ℕ) → List CutLine → Type 0 where
-  none : {n : ℕ} → Lists x n [] []
+pub data ListsCutLines (x : Elaborated) : ℕ → List (List ℕ) → List CutLine → Type 0 where
+  none : {n : ℕ} → ListsCutLines x n [] []
   passes : {n : ℕ} {line : List ℕ} {lines : List (List ℕ)} {cuts : List CutLine} → IsPassed line
-      → Lists x (n + 1) lines cuts
-      → Lists x n (line ∷ lines) cuts
+      → ListsCutLines x (n + 1) lines cuts
+      → ListsCutLines x n (line ∷ lines) cuts
   cut : {n : ℕ} {line : List ℕ} {texts : List (List ℕ)} {labels : List Label} {lines : List (List ℕ)}
       {cuts : List CutLine}
-      → (IsPassed line → ⊥) → IsCutLine line texts → Along (IsLabel x) texts labels → Lists x (n + 1) lines cuts
-      → Lists x n (line ∷ lines) (record { number = n; labels = labels } ∷ cuts)
+      → (IsPassed line → ⊥) → IsCutLine line texts → Along (IsLabel x) texts labels → ListsCutLines x (n + 1) lines cuts
+      → ListsCutLines x n (line ∷ lines) (record { number = n; labels = labels } ∷ cuts)
 
 -- a label is bad: it needs the number of a way, or it does not and names none
 pub data IsBadLabel (x : Elaborated) : Why → List ℕ → Type 0 where
@@ -55,7 +55,7 @@ pub record IsFirstBadCut (x : Elaborated) (lines : List (List ℕ)) (n : ℕ) (w
 
 -- the cut lines that a list gives, or its first bad line
 pub data CutList (text : List ℕ) (x : Elaborated) : Result (List CutLine) BadLine → Type 0 where
-  gives : {cuts : List CutLine} → Lists x 1 (lines_of text) cuts → CutList text x (Ok cuts)
+  gives : {cuts : List CutLine} → ListsCutLines x 1 (lines_of text) cuts → CutList text x (Ok cuts)
   bad : {n : ℕ} {why : Why} → IsFirstBadCut x (lines_of text) n why
       → CutList text x (Err (record { number = n + 1; why = why }))
 

@@ -9,7 +9,7 @@ use Rattle.gts_core.specs.declared.system.GtsParts.{GtsParts}
 use Rattle.gts_flatten.specs.Elaborating.{Elaborated}
 use Rattle.job_inputs.specs.CutLines.{IsPassed, IsCutLine, texts_in, is_comma}
 use Rattle.job_inputs.specs.Chains.{labels_of}
-use Rattle.job_inputs.specs.CutLists.{CutLine, Lists, IsBadLabel, IsFirstBadLabel, IsBadCut}
+use Rattle.job_inputs.specs.CutLists.{CutLine, ListsCutLines, IsBadLabel, IsFirstBadLabel, IsBadCut}
 use Rattle.job_inputs.specs.Labels.{IsLabel}
 use Rattle.job_inputs.specs.Lines.{pieces}
 use Rattle.job_inputs.specs.Scripts.{Why, IsNoCommand, LacksWay, NamesNoEvent}
@@ -54,8 +54,8 @@ pub record AreReached (x : Elaborated) (all left : List (List ℕ)) (labels : Li
 pub record AddsCuts (x : Elaborated) (line : List ℕ) (number : ℕ) (old new : List CutLine) : Type 0 where
   pub added : List CutLine
   pub is : new ≡ old ++ added
-  pub gives : (lines : List (List ℕ)) (more : List CutLine) → Lists x (number + 1) lines more
-      → Lists x number (line ∷ lines) (added ++ more)
+  pub gives : (lines : List (List ℕ)) (more : List CutLine) → ListsCutLines x (number + 1) lines more
+      → ListsCutLines x number (line ∷ lines) (added ++ more)
   pub good : (why : Why) → IsBadCut x why line → ⊥
 
 -- the line of this number is bad, as the fault says
@@ -70,6 +70,6 @@ pub record HasRead (x : Elaborated) (all left : List (List ℕ)) (cuts : List Cu
   pub done : List (List ℕ)
   pub split : all ≡ done ++ left
   pub counts : length done + 1 ≡ number
-  pub given : (lines : List (List ℕ)) (more : List CutLine) → Lists x number lines more
-      → Lists x 1 (done ++ lines) (cuts ++ more)
+  pub given : (lines : List (List ℕ)) (more : List CutLine) → ListsCutLines x number lines more
+      → ListsCutLines x 1 (done ++ lines) (cuts ++ more)
   pub good : (k : ℕ) (line : List ℕ) (why : Why) → Stands done k line → IsBadCut x why line → ⊥

@@ -49,32 +49,32 @@ words_of line = filter is_some_word (pieces is_space_or_tab line)
 -- What a line says
 
 -- a skipped line, a command, or none
-pub data Line : Type 0 where
-  Skipped : Line
-  Fires : (label : List ℕ) → Line
-  GoesBack : Line
-  Shows : Line
-  ListsEnabled : Line
-  NoCommand : Line
+pub data ScriptLine : Type 0 where
+  Skipped : ScriptLine
+  Fires : (label : List ℕ) → ScriptLine
+  GoesBack : ScriptLine
+  Shows : ScriptLine
+  ListsEnabled : ScriptLine
+  NoCommand : ScriptLine
 
 -- `back`, `show` or `enabled`
-abbrev pub word_said : List ℕ → Line
+abbrev pub word_said : List ℕ → ScriptLine
 word_said word =
     if bytes_eq word (codes "back") then GoesBack
     else (if bytes_eq word (codes "show") then Shows
     else (if bytes_eq word (codes "enabled") then ListsEnabled else NoCommand))
 
 -- one of these alone, or `fire` with one label
-abbrev pub command_said : List ℕ → List (List ℕ) → Line
+abbrev pub command_said : List ℕ → List (List ℕ) → ScriptLine
 command_said word [] = word_said word
 command_said word (label ∷ []) = if bytes_eq word (codes "fire") then Fires label else NoCommand
 command_said word (label ∷ more ∷ words) = NoCommand
 
 -- nothing where there is no word, or where the first one begins with `//`
-abbrev pub words_said : List (List ℕ) → Line
+abbrev pub words_said : List (List ℕ) → ScriptLine
 words_said [] = Skipped
 words_said (word ∷ words) = if starts_with nat_eq word (codes "//") then Skipped else command_said word words
 
 -- what a line says
-abbrev pub line_said : List ℕ → Line
+abbrev pub line_said : List ℕ → ScriptLine
 line_said line = words_said (words_of (without_return line))

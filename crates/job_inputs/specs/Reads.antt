@@ -11,8 +11,8 @@ use Rattle.gts_flatten.specs.Elaborating.{Elaborated}
 use Rattle.hierarchy.specs.Units.{numbers}
 use Rattle.text_pieces.specs.WayLabels.{label_of, ways_found}
 use Rattle.job_inputs.specs.Labels.{is_dot, Spells, NamesEvent, NamesVisible, IsLabel, NeedsWay}
-use Rattle.job_inputs.specs.Lines.{Line, Skipped, Fires, GoesBack, Shows, ListsEnabled, NoCommand, pieces, lines_of}
-use Rattle.job_inputs.specs.Scripts.{IsBad, IsNoCommand, LacksWay, NamesNoEvent, Why, Gives}
+use Rattle.job_inputs.specs.Lines.{ScriptLine, Skipped, Fires, GoesBack, Shows, ListsEnabled, NoCommand, pieces, lines_of}
+use Rattle.job_inputs.specs.Scripts.{IsBad, IsNoCommand, LacksWay, NamesNoEvent, Why, GivesCommands}
 use Rattle.job_inputs.specs.declared.commands.ScriptFault.{ScriptFault}
 use Rattle.job_inputs.specs.declared.commands.ScriptFault.TheVariants as fault
 use Rattle.job_inputs.specs.declared.lines.Line as code
@@ -21,7 +21,7 @@ use Rattle.job_inputs.specs.declared.script_labels.Counted.TheVariants as count
 use Rattle.job_inputs.specs.declared.lines.Line.TheVariants as lines
 
 -- the code's line says this
-abbrev pub IsSaid : code.Line → Line → Type 0
+abbrev pub IsSaid : code.Line → ScriptLine → Type 0
 IsSaid lines.Skipped said = said ≡ Skipped
 IsSaid (lines.Fires label) said = said ≡ Fires label.now
 IsSaid lines.GoesBack said = said ≡ GoesBack
@@ -113,8 +113,8 @@ AnswersLabel x p label number (Err fault.Memory) = Unit {0}
 pub record Adds (x : Elaborated) (line : List ℕ) (old new : List Command) : Type 0 where
   pub added : List Command
   pub is : new ≡ old ++ added
-  pub gives : (lines : List (List ℕ)) (more : List Command) → Gives x lines more
-      → Gives x (line ∷ lines) (added ++ more)
+  pub gives : (lines : List (List ℕ)) (more : List Command) → GivesCommands x lines more
+      → GivesCommands x (line ∷ lines) (added ++ more)
   pub good : (why : Why) → IsBad x why line → ⊥
 
 -- the line of this number is bad, as the fault says
@@ -129,7 +129,8 @@ pub record Reached (x : Elaborated) (all left : List (List ℕ)) (cs : List Comm
   pub done : List (List ℕ)
   pub split : all ≡ done ++ left
   pub counts : length done + 1 ≡ number
-  pub given : (lines : List (List ℕ)) (more : List Command) → Gives x lines more → Gives x (done ++ lines) (cs ++ more)
+  pub given : (lines : List (List ℕ)) (more : List Command) → GivesCommands x lines more
+      → GivesCommands x (done ++ lines) (cs ++ more)
   pub good : (k : ℕ) (line : List ℕ) (why : Why) → Stands done k line → IsBad x why line → ⊥
 
 -- the pieces that are left to read

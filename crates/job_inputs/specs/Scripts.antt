@@ -7,19 +7,19 @@ use Rattle.job_inputs.specs.Labels.{IsLabel, NeedsWay}
 use Rattle.job_inputs.specs.Lines.{lines_of, line_said, Skipped, Fires, GoesBack, Shows, ListsEnabled, NoCommand}
 
 -- the commands that the lines give, where none of them is bad
-pub data Gives (x : Elaborated) : List (List ℕ) → List Command → Type 0 where
-  none : Gives x [] []
-  skips : {line : List ℕ} {lines : List (List ℕ)} {cs : List Command} → line_said line ≡ Skipped → Gives x lines cs
-      → Gives x (line ∷ lines) cs
+pub data GivesCommands (x : Elaborated) : List (List ℕ) → List Command → Type 0 where
+  none : GivesCommands x [] []
+  skips : {line : List ℕ} {lines : List (List ℕ)} {cs : List Command} → line_said line ≡ Skipped → GivesCommands x lines
+      cs → GivesCommands x (line ∷ lines) cs
   fires : {line label : List ℕ} {l : Label} {lines : List (List ℕ)} {cs : List Command} → line_said line ≡ Fires label
-      → IsLabel x label l → Gives x lines cs
-      → Gives x (line ∷ lines) (Fire l ∷ cs)
-  goes_back : {line : List ℕ} {lines : List (List ℕ)} {cs : List Command} → line_said line ≡ GoesBack → Gives x lines cs
-      → Gives x (line ∷ lines) (Back ∷ cs)
-  shows : {line : List ℕ} {lines : List (List ℕ)} {cs : List Command} → line_said line ≡ Shows → Gives x lines cs
-      → Gives x (line ∷ lines) (Show ∷ cs)
-  lists : {line : List ℕ} {lines : List (List ℕ)} {cs : List Command} → line_said line ≡ ListsEnabled → Gives x lines cs
-      → Gives x (line ∷ lines) (Enabled ∷ cs)
+      → IsLabel x label l → GivesCommands x lines cs
+      → GivesCommands x (line ∷ lines) (Fire l ∷ cs)
+  goes_back : {line : List ℕ} {lines : List (List ℕ)} {cs : List Command} → line_said line ≡ GoesBack → GivesCommands x
+      lines cs → GivesCommands x (line ∷ lines) (Back ∷ cs)
+  shows : {line : List ℕ} {lines : List (List ℕ)} {cs : List Command} → line_said line ≡ Shows → GivesCommands x lines
+      cs → GivesCommands x (line ∷ lines) (Show ∷ cs)
+  lists : {line : List ℕ} {lines : List (List ℕ)} {cs : List Command} → line_said line ≡ ListsEnabled → GivesCommands x
+      lines cs → GivesCommands x (line ∷ lines) (Enabled ∷ cs)
 
 -- why a line is bad
 pub data Why : Type 0 where
@@ -48,6 +48,6 @@ pub record BadLine : Type 0 where
 
 -- the commands that a script gives, or its first bad line
 pub data Commands (script : List ℕ) (x : Elaborated) : Result (List Command) BadLine → Type 0 where
-  gives : {cs : List Command} → Gives x (lines_of script) cs → Commands script x (Ok cs)
+  gives : {cs : List Command} → GivesCommands x (lines_of script) cs → Commands script x (Ok cs)
   bad : {n : ℕ} {why : Why} → IsFirstBad x (lines_of script) n why
       → Commands script x (Err (record { number = n + 1; why = why }))

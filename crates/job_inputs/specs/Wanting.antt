@@ -24,7 +24,7 @@ abbrev pub NamesObserver : Elaborated → List ℕ → ℕ → Type 0
 NamesObserver x = NamesOne x is_observer observers
 
 -- the observer of this number is declared with a type whose values are of this kind
-pub record IsOfKind (x : Elaborated) (n : ℕ) (kind : ValueKind) : Type 0 where
+pub record IsObserverOfKind (x : Elaborated) (n : ℕ) (kind : ValueKind) : Type 0 where
   pub thing : Thing
   pub number : Stands (observers x.declarations.model x.declarations.units) n thing
   pub type : TypeForm
@@ -35,15 +35,15 @@ pub record IsOfKind (x : Elaborated) (n : ℕ) (kind : ValueKind) : Type 0 where
 -- the word writes this value among those of the kind, where these are the symbols' names by number: `true` or `false`;
 -- a number of 64 bits in digits without leading zeros, behind a `-` where it is negative, or `-0`; or the name of a
 -- symbol
-pub data Writes (symbols : List (List ℕ)) (word : List ℕ) : ValueKind → Value → Type 0 where
-  truth : {b : Bool} → word ≡ truth_text b → Writes symbols word Truth (value.Truth b)
-  whole : {n : ℤ} → FitsSigned w64 n → word ≡ signed_decimal n → Writes symbols word Whole (value.Whole n)
-  less_zero : word ≡ codes "-0" → Writes symbols word Whole (value.Whole (pos 0))
-  symbol : {s : ℕ} → Stands symbols s word → Writes symbols word Symbol (value.Symbol s)
+pub data WritesValue (symbols : List (List ℕ)) (word : List ℕ) : ValueKind → Value → Type 0 where
+  truth : {b : Bool} → word ≡ truth_text b → WritesValue symbols word Truth (value.Truth b)
+  whole : {n : ℤ} → FitsSigned w64 n → word ≡ signed_decimal n → WritesValue symbols word Whole (value.Whole n)
+  less_zero : word ≡ codes "-0" → WritesValue symbols word Whole (value.Whole (pos 0))
+  symbol : {s : ℕ} → Stands symbols s word → WritesValue symbols word Symbol (value.Symbol s)
 
 -- the value that is asked for: the one that the word writes, or true where there is no word and the observer is Boolean
 pub data Wants (symbols : List (List ℕ)) : Option (List ℕ) → ValueKind → Value → Type 0 where
-  as_written : {word : List ℕ} {kind : ValueKind} {v : Value} → Writes symbols word kind v
+  as_written : {word : List ℕ} {kind : ValueKind} {v : Value} → WritesValue symbols word kind v
       → Wants symbols (Some word) kind v
   true_unsaid : Wants symbols None Truth (value.Truth true)
 
@@ -51,7 +51,7 @@ pub data Wants (symbols : List (List ℕ)) : Option (List ℕ) → ValueKind →
 pub record IsWanted (x : Elaborated) (observer : List ℕ) (word : Option (List ℕ)) (n : ℕ) (v : Value) : Type 0 where
   pub names : NamesObserver x observer n
   pub kind : ValueKind
-  pub of_kind : IsOfKind x n kind
+  pub of_kind : IsObserverOfKind x n kind
   pub wants : Wants (naming_of x.declarations).symbols word kind v
 
 -- the path names no observer

@@ -5,7 +5,7 @@ ghost use Rattle.std.specs.Fmt.{signed_decimal};
 ghost use Rattle.std.specs.Int.{w64};
 ghost use Rattle.domains.specs.declared.Value.{Value as AnyValue};
 ghost use Rattle.typed_expr.specs.declared.expr.ValueKind.TheVariants as kind;
-ghost use Rattle.job_inputs.specs.Wanting.{Writes, Wants};
+ghost use Rattle.job_inputs.specs.Wanting.{WritesValue, Wants};
 
 use ar_base::Text;
 use domains::Value;
@@ -31,8 +31,8 @@ pub(crate) fn value_of(symbols: &[Text], kind: ValueKind, word: &Option<Text>) -
 // The value of the kind that the word writes.
 fn written(symbols: &[Text], kind: ValueKind, word: &str) -> Option<Value>
     requires { length symbols.now < 2 ^ 32 }
-    ensures { MatchOption result ((v : AnyValue) → Writes symbols.now word.now kind v → ⊥)
-        (λ v. Writes symbols.now word.now kind v) }
+    ensures { MatchOption result ((v : AnyValue) → WritesValue symbols.now word.now kind v → ⊥)
+        (λ v. WritesValue symbols.now word.now kind v) }
 {
     match kind {
         ValueKind::Truth => truth(word),
@@ -44,8 +44,8 @@ fn written(symbols: &[Text], kind: ValueKind, word: &str) -> Option<Value>
 // The truth value that the word writes.
 fn truth(word: &str) -> Option<Value>
     ensures { (symbols : List (List ℕ))
-        → MatchOption result ((v : AnyValue) → Writes symbols word.now kind.Truth v → ⊥)
-        (λ v. Writes symbols word.now kind.Truth v) }
+        → MatchOption result ((v : AnyValue) → WritesValue symbols word.now kind.Truth v → ⊥)
+        (λ v. WritesValue symbols word.now kind.Truth v) }
 {
     match word {
         "true" => Some(Value::Truth(true)),
@@ -57,8 +57,8 @@ fn truth(word: &str) -> Option<Value>
 // The whole number that the word writes.
 fn whole(word: &str) -> Option<Value>
     ensures { (symbols : List (List ℕ))
-        → MatchOption result ((v : AnyValue) → Writes symbols word.now kind.Whole v → ⊥)
-        (λ v. Writes symbols word.now kind.Whole v) }
+        → MatchOption result ((v : AnyValue) → WritesValue symbols word.now kind.Whole v → ⊥)
+        (λ v. WritesValue symbols word.now kind.Whole v) }
 {
     match word {
         "-0" => Some(Value::Whole(0)),
@@ -85,8 +85,8 @@ fn number(word: &str) -> Option<i64>
 // The symbol that the word names.
 fn symbol(symbols: &[Text], word: &str) -> Option<Value>
     requires { length symbols.now < 2 ^ 32 }
-    ensures { MatchOption result ((v : AnyValue) → Writes symbols.now word.now kind.Symbol v → ⊥)
-        (λ v. Writes symbols.now word.now kind.Symbol v) }
+    ensures { MatchOption result ((v : AnyValue) → WritesValue symbols.now word.now kind.Symbol v → ⊥)
+        (λ v. WritesValue symbols.now word.now kind.Symbol v) }
 {
     for place in 0..symbols.len() {
         if symbols[place].as_str() == word {

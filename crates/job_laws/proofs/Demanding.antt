@@ -1,7 +1,7 @@
 -- What the command demands of the system: the static fragment, and a gate table that is not too large.
 use Rattle.std.proofs.Common.{◌≡◌, ℕ, Bool, true, false, List, Some, Result, Ok, Err, length, refl, sym, ◌∙◌, ap, subst, arith}
 use Rattle.ar_base.specs.Stages.{Then, passes, Where}
-use Rattle.ar_firing.specs.Rules.{Rule, Spot, KeepsAll, number_of}
+use Rattle.ar_firing.specs.Rules.{Rule, Spot, KeepsAll, rule_number}
 use Rattle.ar_firing.specs.Static.{IsKeyedStatic}
 use Rattle.ar_firing.proofs.RulesHold.{excludes, first_broken_same, all_static}
 use Rattle.eq_core.specs.Gates.{Table}
@@ -32,11 +32,11 @@ keyed_static w fit = record { keyed = fit.0.keyed; static = all_static w.source.
 -- The static fragment
 
 told_as : (w : Ready) (r q : Rule) (a b : Spot) → r ≡ q → a ≡ b
-    → ◌≡◌ {A = Result Ready Refusal} (Err (Outside (number_of r) (spot_path w.source a)))
-    (Err (Outside (number_of q) (spot_path w.source b)))
+    → ◌≡◌ {A = Result Ready Refusal} (Err (Outside (rule_number r) (spot_path w.source a)))
+    (Err (Outside (rule_number q) (spot_path w.source b)))
 told_as w r q a b e f =
-    ap (λ (z : Rule). Err (Outside (number_of z) (spot_path w.source a))) e
-    ∙ ap (λ (z : Spot). Err (Outside (number_of q) (spot_path w.source z))) f
+    ap (λ (z : Rule). Err (Outside (rule_number z) (spot_path w.source a))) e
+    ∙ ap (λ (z : Spot). Err (Outside (rule_number q) (spot_path w.source z))) f
 
 static_one : IsOne OfDefinite Static
 static_one w is x y (keeps h) (keeps k) = refl

@@ -18,7 +18,7 @@ use Rattle.gate_modules.specs.Choices.{StandFor}
 use Rattle.gts_flatten.specs.Elaborating.{Elaborated}
 use Rattle.gts_flatten.specs.Flat.{naming_of}
 use Rattle.hierarchy.specs.Listing.{AreUnits}
-use Rattle.hierarchy.specs.Models.{RootedModel, IsKept}
+use Rattle.hierarchy.specs.Models.{RootedModel, KeepsTextRules}
 use Rattle.hierarchy.specs.Units.{UnitPath, Thing}
 use Rattle.module_text.specs.Texts.{IsModuleText}
 use Rattle.run_words.specs.declared.jobs.Job.{Job}
@@ -95,7 +95,7 @@ readies_source job texts x w
 -- The source of a text keeps the rules over the whole text, and its units are those of its main block
 
 record HasUnits (x : Elaborated) : Type 0 where
-  kept : IsKept x.declarations.model
+  kept : KeepsTextRules x.declarations.model
   units : AreUnits x.declarations.model x.declarations.units
 
 text_units : (main : Option (List ℕ)) (text : List ℕ) (x : Elaborated) → Elaborates main text (Ok x) → HasUnits x
@@ -106,7 +106,7 @@ text_units main text x (passes model (reads r) (e.passes (passes m (rooted is k)
     let i = ap (λ (z : Declarations). z.model) flattened.same ∙ of.model in
     let j = ap (λ (z : Declarations). z.units) flattened.same ∙ of.units_are in
     record {
-      kept = subst IsKept (sym i) (record { model = model; main = main; rooted = is; kept = k });
+      kept = subst KeepsTextRules (sym i) (record { model = model; main = main; rooted = is; kept = k });
       units = subst (λ (z : RootedModel). AreUnits z x.declarations.units) (sym i)
           (subst (λ (z : List UnitPath). AreUnits m z) (sym j) unfolded.units);
     }
@@ -216,7 +216,7 @@ each_stands P (x ∷ fs) all (suc k) set h = each_stands P fs all.1 k set h
 -- in the text of modules of a source that keeps the rules over the whole text, the short forms stand for the cuts
 abbrev Combinations : Type 0
 Combinations = (x : Elaborated) (dropped : List ℕ) (observer : Expr Thing) (wanted : Value) (text : List ℕ)
-    (t : IsModuleText x dropped observer wanted text) → IsKept x.declarations.model
+    (t : IsModuleText x dropped observer wanted text) → KeepsTextRules x.declarations.model
     → AreUnits x.declarations.model x.declarations.units → StandFor t.cuts t.modules t.forms
 
 -- Calls

@@ -14,8 +14,8 @@ use Rattle.ar_meaning.specs.Numbered.{Body, Joins}
 use Rattle.ar_meaning.specs.ValueTexts.{value_text}
 use Rattle.ar_meaning.proofs.FlatSystems.{flat_back}
 use Rattle.ar_meaning.proofs.ImageJoined.{along_joined, variable_joined, assign_joined, event_joined, observer_joined}
-use Rattle.gts_core.specs.Printed.{domain_text, variable_line, line_found, event_lines, assert_lines, observer_line, flat_text}
-use Rattle.gts_core.specs.Sound.{IsSound, IsListed}
+use Rattle.gts_core.specs.Printed.{domain_text, flat_variable_line, line_found, event_lines, assert_lines, flat_observer_line, flat_text}
+use Rattle.gts_core.specs.Sound.{IsSound, IsListedWay}
 use Rattle.gts_core.specs.View.{part_of, variable_of, net_of, observers_of, IsWayAt}
 use Rattle.gts_core.specs.declared.system.Event.{Event}
 use Rattle.gts_core.specs.declared.system.GtsParts.{GtsParts}
@@ -26,7 +26,7 @@ use Rattle.gts_core.specs.declared.system.WayBody.TheVariants.{Sync}
 use Rattle.gts_core.proofs.Viewing.{variable_there}
 use Rattle.hierarchy.specs.Listing.{variables, events}
 use Rattle.hierarchy.specs.Units.{Thing}
-use Rattle.source_meaning.specs.Binding.{IsVariableNumber, IsEventNumber}
+use Rattle.source_meaning.specs.Numbering.{IsVariableNumber, IsEventNumber}
 use Rattle.sync_expand.specs.Plans.{PlannedWay, planned_ways}
 use Rattle.gts_flatten.specs.Elaborating.{Elaborated}
 use Rattle.gts_flatten.specs.Flat.{naming_of_parts, HasBody, joins, IsPlannedWay, IsFlat}
@@ -118,7 +118,7 @@ module _ (x : Elaborated) (different : AreDifferent (events x.declarations.model
   -- Variables
 
   variable_one : (n : ℕ) (u v : Variable) → Stands p.variables.items n u → Stands q.variables.items n v
-      → variable_line p u ≡ variable_line q v
+      → flat_variable_line p u ≡ flat_variable_line q v
   variable_one n u v s t =
       let o = along_on (net_of p).variables (net_of q).variables variables_along n (variable_of n u)
       (variable_there p n u s) in
@@ -142,7 +142,7 @@ module _ (x : Elaborated) (different : AreDifferent (events x.declarations.model
 
   -- ways that are listed at one place of one event are alike
   listed_alike : (n k : ℕ) (e : Event) (i j : WayId) → Stands q.events.items n e → Stands e.ways.items k j
-      → (v : IsListed p n k i) (w : IsListed q n k j) → AreAlike v.way w.way
+      → (v : IsListedWay p n k i) (w : IsListedWay q n k j) → AreAlike v.way w.way
   listed_alike n k e i j s t v w =
       let o = along_on p.ways.items q.ways.items ways_alike i.n v.way v.stands in
       let own = b.own_ways i.n o.0 o.1 in
@@ -160,7 +160,7 @@ module _ (x : Elaborated) (different : AreDifferent (events x.declarations.model
       subst (λ (z : Way). AreAlike v.way z) way o.2
 
   way_line_one : (n k : ℕ) (e : Event) (i j : WayId) (c d : Bool) (t u : Tree (Transition ℕ))
-      → Stands q.events.items n e → Stands e.ways.items k j → IsListed p n k i → IsListed q n k j → c ≡ d
+      → Stands q.events.items n e → Stands e.ways.items k j → IsListedWay p n k i → IsListedWay q n k j → c ≡ d
       → IsWayAt p i.n t → IsWayAt q j.n u → Way_renames Same t u
       → line_found p c (slice_get p.ways.items i.n) ≡ line_found q d (slice_get q.ways.items j.n)
   way_line_one n k e i j c d t u s r v w hidden here there same =
@@ -198,11 +198,11 @@ module _ (x : Elaborated) (different : AreDifferent (events x.declarations.model
 
   pub flat_one : flat_text p ≡ flat_text q
   flat_one =
-      lines_one (concat (map (variable_line p) p.variables.items)) (concat (map (event_lines p) p.events.items))
-      (assert_lines p 0 p.assigns.items) (concat (map (observer_line p) p.observers.items))
-      (concat (map (variable_line q) q.variables.items)) (concat (map (event_lines q) q.events.items))
-      (assert_lines q 0 q.assigns.items) (concat (map (observer_line q) q.observers.items))
-      (ap concat (maps_one (variable_line p) (variable_line q) p.variables.items q.variables.items
+      lines_one (concat (map (flat_variable_line p) p.variables.items)) (concat (map (event_lines p) p.events.items))
+      (assert_lines p 0 p.assigns.items) (concat (map (flat_observer_line p) p.observers.items))
+      (concat (map (flat_variable_line q) q.variables.items)) (concat (map (event_lines q) q.events.items))
+      (assert_lines q 0 q.assigns.items) (concat (map (flat_observer_line q) q.observers.items))
+      (ap concat (maps_one (flat_variable_line p) (flat_variable_line q) p.variables.items q.variables.items
       (maps_long (λ (y : Variable). y.path) p.variables.items q.variables.items (variables_one p q names))
       variable_one))
       (ap concat (maps_one (event_lines p) (event_lines q) p.events.items q.events.items

@@ -14,8 +14,8 @@ use Rattle.ar_meaning.specs.Image.{Conditions_rename, Assign_renames, Transition
 use Rattle.ar_meaning.specs.Image as image
 use Rattle.ar_meaning.specs.Numbered.{Acts, Joins, leaf, joint}
 use Rattle.ar_meaning.specs.TraceText.{Naming}
-use Rattle.gts_core.specs.Printed.{path_of, path_at, expr_text, condition_text, set_text, action_text, event_path, label_of, label_found, part_text, body_text, way_line, assert_lines, observer_line}
-use Rattle.gts_core.specs.View.{numbered, condition_of, assign_of, part_of, of_body, body_of, bodies_of, IsWayAt}
+use Rattle.gts_core.specs.Printed.{path_of_found, path_at, expr_text, condition_text, set_text, action_text, event_path, label_of, label_found, part_text, body_text, way_line, assert_lines, flat_observer_line}
+use Rattle.gts_core.specs.View.{numbered, condition_of, assign_of, part_of, of_body, body_of_way, way_bodies, IsWayAt}
 use Rattle.gts_core.specs.declared.system.Assign.{Assign}
 use Rattle.gts_core.specs.declared.system.Event.{Event}
 use Rattle.gts_core.specs.declared.system.GtsParts.{GtsParts}
@@ -76,9 +76,9 @@ IsBody body (Joint bs) = (parts : List (Bool × ℕ)) × (of_body body ≡ Joins
 pub body_there : (p : GtsParts) (n : ℕ) (w : Way) (t : Tree (Transition ℕ)) → Stands p.ways.items n w → IsWayAt p n t
     → IsBody w.body t
 body_there p n w t s (leaf {l = d} h) =
-    stands_one (bodies_of p) n (body_of w) (Acts d) (stands_map body_of p.ways.items n w s) h
+    stands_one (way_bodies p) n (body_of_way w) (Acts d) (stands_map body_of_way p.ways.items n w s) h
 body_there p n w t s (joint {parts = parts} h ds) =
-    (parts, stands_one (bodies_of p) n (body_of w) (Joins parts) (stands_map body_of p.ways.items n w s) h)
+    (parts, stands_one (way_bodies p) n (body_of_way w) (Joins parts) (stands_map body_of_way p.ways.items n w s) h)
 
 -- a transition over plain numbers
 abbrev transition : Expr VarId → Vec Assign Global → Transition ℕ
@@ -110,7 +110,7 @@ module _ (p q : GtsParts) (names : naming_of_parts p ≡ naming_of_parts q) wher
 
   paths_one : (n : ℕ) → path_at p n ≡ path_at q n
   paths_one n =
-      reads_one (λ (x : Variable). x.path) path_of (λ x. refl) p.variables.items q.variables.items variables_one n
+      reads_one (λ (x : Variable). x.path) path_of_found (λ x. refl) p.variables.items q.variables.items variables_one n
 
   event_paths_one : (n : ℕ) → event_path (slice_get p.events.items n) ≡ event_path (slice_get q.events.items n)
   event_paths_one n =
@@ -171,7 +171,7 @@ module _ (p q : GtsParts) (names : naming_of_parts p ≡ naming_of_parts q) wher
       → map (λ (o : Observer). o.path) xs ≡ map (λ (o : Observer). o.path) ys
       → Along (Expr_renames Same) (map (λ (o : Observer). numbered o.value) xs)
       (map (λ (o : Observer). numbered o.value) ys)
-      → map (observer_line p) xs ≡ map (observer_line q) ys
+      → map (flat_observer_line p) xs ≡ map (flat_observer_line q) ys
   observers_one [] [] e d = refl
   observers_one [] (y ∷ ys) e d = cc
   observers_one (x ∷ xs) [] e d = cc

@@ -12,8 +12,8 @@ use Rattle.ar_firing.specs.Static.{IsKeyedStatic}
 use Rattle.ar_firing.proofs.OneForest.{forest_same}
 use Rattle.ar_firing.proofs.OneListing.{listed_same}
 use Rattle.domains.specs.declared.Value.{Value}
-use Rattle.gate_modules.specs.Modules.{lies, inside, IsPart, IsModule, HasEvents, IsChosen, AreChosen}
-use Rattle.gate_modules.specs.Shortened.{UnitSets, Form, short_form, once, IsModuleOf, IsShortened}
+use Rattle.gate_modules.specs.Modules.{lies, inside, IsPartOfUnit, IsModule, HasEvents, IsChosen, AreChosen}
+use Rattle.gate_modules.specs.Shortened.{UnitSets, ShortForm, short_form, once, IsModuleOf, IsShortened}
 use Rattle.gate_modules.specs.declared.ranges.Range.{Range}
 use Rattle.gts_flatten.specs.Elaborating.{Elaborated}
 use Rattle.gts_flatten.specs.Flat.{naming_of}
@@ -129,7 +129,7 @@ ascending_same (x ∷ xs) (y ∷ ys) a b on back =
 
 module _ (f : Family) where
   -- a module has events
-  part_some : (r : Range) (part : List ℕ) → IsPart f r part → HasEvents r
+  part_some : (r : Range) (part : List ℕ) → IsPartOfUnit f r part → HasEvents r
   part_some r part p = elim (cases_lt r.from r.to) [
     | inl l ↦ l
     | inr l ↦ absurd
@@ -158,7 +158,7 @@ module _ (f : Family) where
 
   module_of_one : (r : Range) (m n : UnitSets) → IsModuleOf f r m → IsModuleOf f r n → m ≡ n
   module_of_one r m n a b = both m.unit n.unit m.sets n.sets (a.unit ∙ sym b.unit)
-      (listed_same m.sets n.sets (IsPart f r) a.sets b.sets)
+      (listed_same m.sets n.sets (IsPartOfUnit f r) a.sets b.sets)
     where
       both : (u v : ℕ) (xs ys : List (List ℕ)) → u ≡ v → xs ≡ ys
           → ◌≡◌ {A = UnitSets} (record { unit = u; sets = xs }) (record { unit = v; sets = ys })
@@ -173,12 +173,12 @@ module _ (x : Elaborated) (dropped : List ℕ) (static : IsKeyedStatic x.system 
   abbrev units : List UnitPath
   units = x.declarations.units
 
-  abbrev shortened : List ModeTree → List UnitSets → List Form → List ℕ
+  abbrev shortened : List ModeTree → List UnitSets → List ShortForm → List ℕ
   shortened trees modules forms = short_text (naming_of x.declarations) (map (unit_path model) units) x.system trees
       modules forms
 
   -- one family in short
-  modules_one : (f : Family) (rs ss : List Range) (xs ys : List UnitSets) (gs hs : List Form)
+  modules_one : (f : Family) (rs ss : List Range) (xs ys : List UnitSets) (gs hs : List ShortForm)
       → AreRangesOf model units rs
       → AreRangesOf model units ss → IsShortened f rs xs gs → IsShortened f ss ys hs → (xs ≡ ys) × (gs ≡ hs)
   modules_one f rs ss xs ys gs hs a b p q =
@@ -201,5 +201,5 @@ module _ (x : Elaborated) (dropped : List ℕ) (static : IsKeyedStatic x.system 
       a.is_text
       ∙ ap (λ (z : List ModeTree). shortened z a.modules a.forms) i
       ∙ ap (λ (z : List UnitSets). shortened b.trees z a.forms) r.0
-      ∙ ap (λ (z : List Form). shortened b.trees b.modules z) r.1
+      ∙ ap (λ (z : List ShortForm). shortened b.trees b.modules z) r.1
       ∙ sym b.is_text

@@ -16,7 +16,7 @@ use Rattle.hierarchy.specs.Listing.{observers}
 use Rattle.hierarchy.specs.Units.{Thing, kind_at}
 use Rattle.hierarchy.specs.Walks.{is_observer}
 use Rattle.source_meaning.specs.Kinds.{kind_of_type}
-use Rattle.job_inputs.specs.Wanting.{NamesObserver, IsOfKind, Writes, truth, whole, less_zero, symbol, Wants, as_written, true_unsaid, IsWanted, WantsNone}
+use Rattle.job_inputs.specs.Wanting.{NamesObserver, IsObserverOfKind, WritesValue, truth, whole, less_zero, symbol, Wants, as_written, true_unsaid, IsWanted, WantsNone}
 use Rattle.job_laws.specs.Named.{NamesOnce}
 use Rattle.job_laws.proofs.Labels.{one_named}
 
@@ -56,8 +56,8 @@ truth_once false true e = let q : 5 ≡ 4 = ap length e in absurd (omega (arith,
 truth_once false false e = refl
 
 module _ (symbols : List (List ℕ)) (different : AreDifferent symbols) where
-  writes_one : (word : List ℕ) (kind : ValueKind) (v w : Value) → Writes symbols word kind v
-      → Writes symbols word kind w
+  writes_one : (word : List ℕ) (kind : ValueKind) (v w : Value) → WritesValue symbols word kind v
+      → WritesValue symbols word kind w
       → v ≡ w
   writes_one word kind v w (truth {b = b} e) (truth {b = c} f) = let i : b ≡ c = truth_once b c (sym e ∙ f) in cc
   writes_one word kind v w (whole {n = m} f e) (whole {n = n} g h) =
@@ -76,7 +76,7 @@ module _ (symbols : List (List ℕ)) (different : AreDifferent symbols) where
 
 module _ {x : Elaborated} where
   -- an observer's type has values of one kind
-  one_kind : (n : ℕ) (j k : ValueKind) → IsOfKind x n j → IsOfKind x n k → j ≡ k
+  one_kind : (n : ℕ) (j k : ValueKind) → IsObserverOfKind x n j → IsObserverOfKind x n k → j ≡ k
   one_kind n j k a b =
       let m = x.declarations.model in
       let same : a.thing ≡ b.thing =
@@ -97,7 +97,7 @@ module _ {x : Elaborated} (is : NamesOnce x) where
       → IsWanted x path word n w → (m ≡ n) × (v ≡ w)
   wanted_once path word m n v w a b =
       let i : m ≡ n = observer_once path m n a.names b.names in
-      let other = subst (λ (k : ℕ). IsOfKind x k b.kind) (sym i) b.of_kind in
+      let other = subst (λ (k : ℕ). IsObserverOfKind x k b.kind) (sym i) b.of_kind in
       let j : b.kind ≡ a.kind = one_kind m b.kind a.kind other a.of_kind in
       let symbols = (naming_of x.declarations).symbols in (
         i,

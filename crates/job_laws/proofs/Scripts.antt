@@ -7,8 +7,8 @@ use Rattle.ar_meaning.specs.Runs.{Command, Label, Fire, Back, Show, Enabled}
 use Rattle.gts_flatten.specs.Elaborating.{Elaborated}
 use Rattle.job_inputs.specs.CutLists.{HaveOneMeaning}
 use Rattle.job_inputs.specs.Labels.{IsLabel, NeedsWay}
-use Rattle.job_inputs.specs.Lines.{Line, Skipped, Fires, GoesBack, Shows, ListsEnabled, NoCommand, line_said, lines_of}
-use Rattle.job_inputs.specs.Scripts.{Gives, IsBad, no_command, needs_way, no_event, Why, IsFirstBad, BadLine, Commands}
+use Rattle.job_inputs.specs.Lines.{ScriptLine, Skipped, Fires, GoesBack, Shows, ListsEnabled, NoCommand, line_said, lines_of}
+use Rattle.job_inputs.specs.Scripts.{GivesCommands, IsBad, no_command, needs_way, no_event, Why, IsFirstBad, BadLine, Commands}
 use Rattle.job_inputs.specs.Scripts as scripts
 
 -- of two places none is before the other
@@ -21,7 +21,7 @@ one_place m n h k = elim (cases_lt m n) [
 -- a command before others
 record Before (x : Elaborated) (c : Command) (lines : List (List ℕ)) (cs : List Command) : Type 0 where
   rest : List Command
-  gives : Gives x lines rest
+  gives : GivesCommands x lines rest
   split : cs ≡ c ∷ rest
 
 -- a label's command before others
@@ -31,37 +31,37 @@ record Firing (x : Elaborated) (text : List ℕ) (lines : List (List ℕ)) (cs :
   before : Before x (Fire label) lines cs
 
 -- what a line that says this gives, with those behind it
-abbrev By : Elaborated → Line → List (List ℕ) → List Command → Type 0
-By x Skipped lines cs = Gives x lines cs
+abbrev By : Elaborated → ScriptLine → List (List ℕ) → List Command → Type 0
+By x Skipped lines cs = GivesCommands x lines cs
 By x (Fires text) lines cs = Firing x text lines cs
 By x GoesBack lines cs = Before x Back lines cs
 By x Shows lines cs = Before x Show lines cs
 By x ListsEnabled lines cs = Before x Enabled lines cs
 By x NoCommand lines cs = ⊥
 
-by_line : {x : Elaborated} (line : List ℕ) (lines : List (List ℕ)) (cs : List Command) → Gives x (line ∷ lines) cs
-    → By x (line_said line) lines cs
-by_line {x} line lines cs (scripts.skips e g) = subst (λ (s : Line). By x s lines cs) (sym e) g
+by_line : {x : Elaborated} (line : List ℕ) (lines : List (List ℕ)) (cs : List Command) → GivesCommands x (line ∷ lines)
+    cs → By x (line_said line) lines cs
+by_line {x} line lines cs (scripts.skips e g) = subst (λ (s : ScriptLine). By x s lines cs) (sym e) g
 by_line {x} line lines cs (scripts.fires {l = l} {cs = ds} e is g) =
-    subst (λ (s : Line). By x s lines cs) (sym e)
+    subst (λ (s : ScriptLine). By x s lines cs) (sym e)
     (record { label = l; is_label = is; before = record { rest = ds; gives = g; split = refl } })
 by_line {x} line lines cs (scripts.goes_back {cs = ds} e g) =
-    subst (λ (s : Line). By x s lines cs) (sym e) (record { rest = ds; gives = g; split = refl })
+    subst (λ (s : ScriptLine). By x s lines cs) (sym e) (record { rest = ds; gives = g; split = refl })
 by_line {x} line lines cs (scripts.shows {cs = ds} e g) =
-    subst (λ (s : Line). By x s lines cs) (sym e) (record { rest = ds; gives = g; split = refl })
+    subst (λ (s : ScriptLine). By x s lines cs) (sym e) (record { rest = ds; gives = g; split = refl })
 by_line {x} line lines cs (scripts.lists {cs = ds} e g) =
-    subst (λ (s : Line). By x s lines cs) (sym e) (record { rest = ds; gives = g; split = refl })
+    subst (λ (s : ScriptLine). By x s lines cs) (sym e) (record { rest = ds; gives = g; split = refl })
 
 module _ (x : Elaborated) (is : HaveOneMeaning x) where
   -- what the lines behind give is one list
   abbrev HaveOne : List (List ℕ) → Type 0
-  HaveOne lines = (cs ds : List Command) → Gives x lines cs → Gives x lines ds → cs ≡ ds
+  HaveOne lines = (cs ds : List Command) → GivesCommands x lines cs → GivesCommands x lines ds → cs ≡ ds
 
   before_same : (c : Command) (lines : List (List ℕ)) (cs ds : List Command) → HaveOne lines → Before x c lines cs
       → Before x c lines ds → cs ≡ ds
   before_same c lines cs ds one a b = a.split ∙ ap (λ z. c ∷ z) (one a.rest b.rest a.gives b.gives) ∙ sym b.split
 
-  line_same : (said : Line) (lines : List (List ℕ)) (cs ds : List Command) → HaveOne lines → By x said lines cs
+  line_same : (said : ScriptLine) (lines : List (List ℕ)) (cs ds : List Command) → HaveOne lines → By x said lines cs
       → By x said lines ds → cs ≡ ds
   line_same Skipped lines cs ds one a b = one cs ds a b
   line_same (Fires text) lines cs ds one a b =
@@ -73,7 +73,8 @@ module _ (x : Elaborated) (is : HaveOneMeaning x) where
   line_same ListsEnabled lines cs ds one a b = before_same Enabled lines cs ds one a b
   line_same NoCommand lines cs ds one a b = absurd a
 
-  gives_same : (lines : List (List ℕ)) (cs ds : List Command) → Gives x lines cs → Gives x lines ds → cs ≡ ds
+  gives_same : (lines : List (List ℕ)) (cs ds : List Command) → GivesCommands x lines cs → GivesCommands x lines ds
+      → cs ≡ ds
   gives_same [] cs ds scripts.none scripts.none = refl
   gives_same (line ∷ lines) cs ds g h =
       line_same (line_said line) lines cs ds (gives_same lines) (by_line line lines cs g) (by_line line lines ds h)
@@ -83,14 +84,14 @@ module _ (x : Elaborated) (is : HaveOneMeaning x) where
   -- a line that gives something is not bad
   line_good : (line : List ℕ) (lines : List (List ℕ)) (cs : List Command) (why : Why) → By x (line_said line) lines cs
       → IsBad x why line → ⊥
-  line_good line lines cs why a (no_command e) = subst (λ (s : Line). By x s lines cs) e a
+  line_good line lines cs why a (no_command e) = subst (λ (s : ScriptLine). By x s lines cs) e a
   line_good line lines cs why a (needs_way {label = text} e h) =
-      let f = subst (λ (s : Line). By x s lines cs) e a in is.needs_none text f.label f.is_label h
+      let f = subst (λ (s : ScriptLine). By x s lines cs) e a in is.needs_none text f.label f.is_label h
   line_good line lines cs why a (no_event {label = text} e h n) =
-      let f = subst (λ (s : Line). By x s lines cs) e a in n f.label f.is_label
+      let f = subst (λ (s : ScriptLine). By x s lines cs) e a in n f.label f.is_label
 
-  gives_rest : (said : Line) (lines : List (List ℕ)) (cs : List Command) → By x said lines cs
-      → (ds : List Command) × Gives x lines ds
+  gives_rest : (said : ScriptLine) (lines : List (List ℕ)) (cs : List Command) → By x said lines cs
+      → (ds : List Command) × GivesCommands x lines ds
   gives_rest Skipped lines cs a = (cs, a)
   gives_rest (Fires text) lines cs a = (a.before.rest, a.before.gives)
   gives_rest GoesBack lines cs a = (a.rest, a.gives)
@@ -98,8 +99,8 @@ module _ (x : Elaborated) (is : HaveOneMeaning x) where
   gives_rest ListsEnabled lines cs a = (a.rest, a.gives)
   gives_rest NoCommand lines cs a = absurd a
 
-  gives_good : (lines : List (List ℕ)) (cs : List Command) → Gives x lines cs → (k : ℕ) (line : List ℕ) (why : Why)
-      → Stands lines k line → IsBad x why line → ⊥
+  gives_good : (lines : List (List ℕ)) (cs : List Command) → GivesCommands x lines cs → (k : ℕ) (line : List ℕ)
+      (why : Why) → Stands lines k line → IsBad x why line → ⊥
   gives_good [] cs g k line why s b = stands_none k line s
   gives_good (own ∷ lines) cs g zero line why s b =
       let e : line ≡ own = stands_one (own ∷ lines) 0 line own s refl in
@@ -107,7 +108,7 @@ module _ (x : Elaborated) (is : HaveOneMeaning x) where
   gives_good (own ∷ lines) cs g (suc k) line why s b =
       let r = gives_rest (line_said own) lines cs (by_line own lines cs g) in gives_good lines r.0 r.1 k line why s b
 
-  one_text : (s t : List ℕ) → ◌≡◌ {A = Line} (Fires s) (Fires t) → s ≡ t
+  one_text : (s t : List ℕ) → ◌≡◌ {A = ScriptLine} (Fires s) (Fires t) → s ≡ t
   one_text s t e = cc
 
   -- a line is bad for one reason

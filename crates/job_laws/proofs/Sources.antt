@@ -13,15 +13,15 @@ use Rattle.ar_base.specs.declared.counts.Count.TheVariants.{Ways as TheWays}
 use Rattle.ar_base.specs.declared.places.Place.{Place}
 use Rattle.ar_base.proofs.Items.{last_one, last_cases}
 use Rattle.ar_base.proofs.Standing.{stands_one, stands_some, stands_none, stands_map, stands_map_back, different_more, one_here, one_none, one_split, one_cases, one_first, one_rest, along_back}
-use Rattle.ar_lexer.specs.Spelling.{AllPass, is_word_byte, IsWord, IsOfKind}
-use Rattle.ar_lexer.specs.Tokens.{IsToken, joined, AreCut, end_of_text}
+use Rattle.ar_lexer.specs.Spelling.{AllPass, is_word_byte, IsWord, IsTextOfKind}
+use Rattle.ar_lexer.specs.Tokens.{IsToken, joined_pieces, AreCut, end_of_text}
 use Rattle.ar_lexer.specs.declared.token.Token.{Token}
 use Rattle.ar_lexer.specs.declared.token.TokenKind.{TokenKind}
 use Rattle.ar_lexer.specs.declared.token.TokenKind.TheVariants.{Name}
 use Rattle.ar_lexer.proofs.RunLemmas.{letter_of_word}
 use Rattle.ar_meaning.specs.Facts.{AreKeyed}
 use Rattle.ar_meaning.specs.Systems.{Event, Net}
-use Rattle.ar_parser.specs.Models.{token_of, text_of, IsNumbered, name, other, AreNumbered, Reads}
+use Rattle.ar_parser.specs.Models.{token_of, text_of, IsNumbered, name, other, AreNamesNumbered, Reads}
 use Rattle.ar_grammar.specs.Words.{Tokens}
 use Rattle.parser_laws.specs.Keeps.{TreesKeep, ItemKeeps, DomainKeeps, IsNameIn}
 use Rattle.ar_syntax.specs.declared.items.DomainBody.{DomainBody}
@@ -33,7 +33,7 @@ use Rattle.class_table.specs.Declaring.{symbols_in, symbols_of, FirstUses}
 use Rattle.class_table.specs.Declaring.FirstUses.{none as no_uses, known as used, first}
 use Rattle.gts_flatten.specs.Elaborating.{Elaborated, Flattens, has, most_ways_counted}
 use Rattle.hierarchy.specs.Listing.{Unfolded, AreUnits, variables, events, observers}
-use Rattle.hierarchy.specs.Models.{RootedModel, IsRootedIn, IsKept}
+use Rattle.hierarchy.specs.Models.{RootedModel, IsRootedIn, KeepsTextRules}
 use Rattle.hierarchy.specs.Paths.{name_text}
 use Rattle.hierarchy.specs.Units.{UnitPath, Thing}
 use Rattle.hierarchy.specs.Walks.{is_variable, is_event, is_observer}
@@ -41,7 +41,7 @@ use Rattle.instantiate.specs.Unfolding.{Instantiates}
 use Rattle.job_inputs.specs.Reads.{has_mark}
 use Rattle.source_meaning.specs.Systems.{Declarations, AreOf, HasDeclarations, Binds, declares, IsVariable}
 use Rattle.source_meaning.proofs.Different.{things_different}
-use Rattle.sync_expand.specs.Expanding.{greatest, most_ways}
+use Rattle.sync_expand.specs.Counting.{greatest, most_ways}
 use Rattle.unit_walks.specs.Unfolding.{whole}
 use Rattle.job_laws.specs.Named.{NamesOnce}
 use Rattle.altarica_run.specs.Elaborates.{Elaborates, rooted, reads}
@@ -89,17 +89,18 @@ piece_text bytes before p after from to i f t =
 name_word : (bytes before p after : List ℕ) (t : Token) → bytes ≡ before ++ (p ++ after) → IsToken before p after t
     → IsNamed bytes t
 name_word bytes before p after t i h k =
-    let of_name : IsOfKind Name p = subst (λ (kind : TokenKind). IsOfKind kind p) k h.of_kind.of_kind in
+    let of_name : IsTextOfKind Name p = subst (λ (kind : TokenKind). IsTextOfKind kind p) k h.of_kind.of_kind in
     subst IsWord (sym (piece_text bytes before p after t.span.from t.span.to i h.from h.to)) of_name.0
 
 cut_words : (bytes before : List ℕ) (ps : List (List ℕ)) (rest : List ℕ) (ts : List Token)
-    → bytes ≡ before ++ joined ps rest → AreCut before ps rest ts → AllByRecursion (IsNamed bytes) ts
+    → bytes ≡ before ++ joined_pieces ps rest → AreCut before ps rest ts → AllByRecursion (IsNamed bytes) ts
 cut_words bytes before [] rest ts i h = subst (AllByRecursion (IsNamed bytes)) (sym h) tt
 cut_words bytes before (p ∷ ps) rest ts i (inl h) =
-    cut_words bytes (before ++ p) ps rest ts (i ∙ sym (append_assoc before p (joined ps rest))) h.1
+    cut_words bytes (before ++ p) ps rest ts (i ∙ sym (append_assoc before p (joined_pieces ps rest))) h.1
 cut_words bytes before (p ∷ ps) rest ts i (inr h) =
-    let more = cut_words bytes (before ++ p) ps rest h.1 (i ∙ sym (append_assoc before p (joined ps rest))) h.4 in
-    subst (AllByRecursion (IsNamed bytes)) (sym h.2) (name_word bytes before p (joined ps rest) h.0 i h.3, more)
+    let more = cut_words bytes (before ++ p) ps rest h.1 (i ∙ sym (append_assoc before p (joined_pieces ps rest)))
+    h.4 in
+    subst (AllByRecursion (IsNamed bytes)) (sym h.2) (name_word bytes before p (joined_pieces ps rest) h.0 i h.3, more)
 
 -- a table of different words
 record AreWords (names : List (List ℕ)) : Type 0 where
@@ -120,7 +121,7 @@ interned_words old new text w a (added lacks) = record {
 }
 
 numbered_words : (bytes : List ℕ) (old : List (List ℕ)) (ls : Tokens) (new : List (List ℕ))
-    → AreNumbered bytes old ls new
+    → AreNamesNumbered bytes old ls new
     → AllByRecursion (IsNamed bytes) (map token_of ls) → AreWords old → AreWords new
 numbered_words bytes old [] new h all a = subst AreWords (sym h) a
 numbered_words bytes old (l ∷ ls) new h all a = numbered_words bytes h.0 ls new h.2 all.1 (one h.0 h.1)
@@ -265,7 +266,7 @@ unfolded_of m t (passes a (whole u s l) (passes b (passes c (fits f) (passes d (
 
 module _ (bytes : List ℕ) (main : Option (List ℕ)) (model : Model) (is_read : Reads bytes model)
     (keeps : TreesKeep bytes)
-    (m : RootedModel) (is_rooted : IsRootedIn model main m) (is_kept : IsKept m) (units : List UnitPath)
+    (m : RootedModel) (is_rooted : IsRootedIn model main m) (is_kept : KeepsTextRules m) (units : List UnitPath)
     (are_units : AreUnits m units) (d : Declarations) (of : AreOf m units d) (x : Elaborated)
     (flat : IsFlattened d x) where
   words : AreWords m.names

@@ -12,7 +12,7 @@ use Rattle.parser_laws.specs.Models.{HasOneTree}
 use Rattle.ar_syntax.specs.declared.items.Model.{Model}
 use Rattle.unit_laws.specs.Tables.{AreSeenAlike}
 use Rattle.class_table.specs.Declaring.{Declared, IsDeclared}
-use Rattle.class_table.specs.Rules.{Breaks, text_rules}
+use Rattle.class_table.specs.Rules.{BreaksTextRule, text_rules}
 use Rattle.class_table.proofs.OneRefusal.{breach_one}
 use Rattle.hierarchy.specs.Models.{RootedModel, IsRootedIn}
 use Rattle.run_words.specs.declared.jobs.Job.{Job}
@@ -32,7 +32,7 @@ SeenAlike = (text : List ℕ) (k : ℕ) (x y : Model) (main : Option (List ℕ))
 abbrev pub BrokenAlike : Type 0
 BrokenAlike = (text : List ℕ) (k : ℕ) (x y : Model) (d e : Declared) → ReadsWithin k text x → ReadsWithin k text y
     → IsDeclared x d → IsDeclared y e → (main : Option (List ℕ)) (r : ℕ) (p : Place)
-    → (Breaks x main d r p ↔ Breaks y main e r p)
+    → (BreaksTextRule x main d r p ↔ BreaksTextRule y main e r p)
 
 module _ (seen : SeenAlike) (broken : BrokenAlike) (text : List ℕ) (main : Option (List ℕ)) where
   pub tables_one : (x y : Model) (a b : Result RootedModel RuleFault) → Reads text x → Reads text y → Tables main x a
@@ -46,13 +46,13 @@ module _ (seen : SeenAlike) (broken : BrokenAlike) (text : List ℕ) (main : Opt
       ((broken text (limit_of Nesting) x y d n.declared h i p q.declared main r at).0 c.breaks_there)
   tables_one x y a b h i (breach {r = r} {p = at} d p c) (breach {r = s} {p = there} g q f) =
       let same = broken text (limit_of Nesting) x y d g h i p q main in
-      let moved : IsBroken text_rules (Breaks x main d) s there = record {
+      let moved : IsBroken text_rules (BreaksTextRule x main d) s there = record {
         is_one = f.is_one;
         breaks_there = (same s there).1 f.breaks_there;
         no_lesser = λ t o one less u. f.no_lesser t o one less ((same t o).0 u);
         no_earlier = λ o less u. f.no_earlier o less ((same s o).0 u);
       } in
-      let j = breach_one text_rules (Breaks x main d) r s at there c moved in
+      let j = breach_one text_rules (BreaksTextRule x main d) r s at there c moved in
       ap (λ (z : ℕ). fault.Rule z at) j.0 ∙ ap (λ (z : Place). fault.Rule s z) j.1
 
 -- A text that breaks a rule is refused for it

@@ -8,7 +8,7 @@ use Rattle.ar_meaning.specs.Runs.{Label, Moment, Fire, Runs}
 use Rattle.ar_meaning.specs.TraceText.{flow_fault_text}
 use Rattle.cut_text.specs.Texts.{fault_line, labels_text}
 use Rattle.gate_modules.specs.Choices.{IsChoice, IsMadeOf, ComesFrom}
-use Rattle.gate_modules.specs.Shortened.{Form}
+use Rattle.gate_modules.specs.Shortened.{ShortForm}
 use Rattle.gts_flatten.specs.Flat.{naming_of}
 use Rattle.module_text.specs.Texts.{IsModuleText}
 use Rattle.run_words.specs.declared.jobs.Job.{Job}
@@ -27,7 +27,7 @@ pub record AreModulesOf (c : Call) (job : Job) : Type 0 where
   pub text : List ℕ
   pub wrote : Wrote c text
   pub is_text : IsModuleText ready.source ready.dropped has.observed has.wanted.value text
-  pub made : (form : Form) (choice : List (List ℕ)) → IsOneOf is_text.forms form
+  pub made : (form : ShortForm) (choice : List (List ℕ)) → IsOneOf is_text.forms form
       → IsChoice is_text.modules form choice
       → (set : List ℕ) × IsCut ready has set × IsMadeOf form choice set
   pub whole : (set : List ℕ) → IsCut ready has set

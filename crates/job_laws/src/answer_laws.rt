@@ -6,7 +6,7 @@ ghost use Rattle.ar_base.specs.declared.faults.RuleFault.{RuleFault};
 ghost use Rattle.ar_base.specs.declared.places.Place.{Place};
 ghost use Rattle.unit_laws.specs.Tables.{AreSeenAlike};
 ghost use Rattle.class_table.specs.Declaring.{Declared, IsDeclared};
-ghost use Rattle.class_table.specs.Rules.{Breaks, text_rules};
+ghost use Rattle.class_table.specs.Rules.{BreaksTextRule, text_rules};
 ghost use Rattle.hierarchy.specs.Models.{RootedModel};
 ghost use Rattle.ar_grammar.specs.Texts.{FitsNesting, Viable};
 ghost use Rattle.ar_grammar.specs.Words.{Tokens};
@@ -105,13 +105,13 @@ pub fn broken_rules_are_told()
     ensures stages { (files : List ℕ → Told) → ((name : List ℕ) → IsKnown (files name))
         → (job : Job) (texts : List (List ℕ)) (text : List ℕ) (m : Model) (d : Declared) (r : ℕ)
         (p : Place) → Loaded files (files_of job) (Ok texts) → IsText job texts text → Reads text m
-        → IsDeclared m d → IsBroken text_rules (Breaks m job.main d) r p
+        → IsDeclared m d → IsBroken text_rules (BreaksTextRule m job.main d) r p
         → (x : Result Ready Refusal) → Passes files job x → x ≡ Err (Rule r p) }
     ensures call { (c : Call) (s : Status) (job : Job) (texts : List (List ℕ)) (text : List ℕ)
         (m : Model) (d : Declared) (r : ℕ) (p : Place) → Gave c s → IsQuiet c
         → ((name : List ℕ) → IsKnown (c.files name)) → IsJob c.words job
         → Loaded c.files (files_of job) (Ok texts) → IsText job texts text → Reads text m
-        → IsDeclared m d → IsBroken text_rules (Breaks m job.main d) r p
+        → IsDeclared m d → IsBroken text_rules (BreaksTextRule m job.main d) r p
         → ((s ≡ status.Rule) × Wrote c (line_of (Rule r p))) ⊎ (s ≡ status.Memory) }
 {
     one_job();

@@ -14,8 +14,8 @@ use Rattle.ar_firing.specs.Forest.{Row, ModeTree}
 use Rattle.ar_firing.specs.Trees.{AreTrees}
 use Rattle.zdd_families.specs.Families.{Family, holds, has}
 use Rattle.zdd_families.proofs.Members.{holds_law}
-use Rattle.firable_families.specs.Firable.{LeadsTo, IsFirableOf}
-use Rattle.firable_families.specs.Firable.LeadsTo.{root, edge}
+use Rattle.firable_families.specs.Firable.{LeadsToMode, IsFirableOf}
+use Rattle.firable_families.specs.Firable.LeadsToMode.{root, edge}
 use Rattle.firable_families.proofs.Listing.{stands_has}
 use Rattle.min_cuts.specs.Lines.{line_from, IsInFiringOrder, AreInFiringOrder}
 use Rattle.min_cuts.specs.Kept.{edge_events, in_order, IsKnown}
@@ -83,7 +83,7 @@ events_different (t ∷ ts) a = different_both (map event_of t.edges) (edge_even
     cc)
 
 -- ---- one tree
-path_edge : {tree : ModeTree} {ls : List Label} {m : Value} → LeadsTo tree ls m → (l : Label) → IsOneOf ls l
+path_edge : {tree : ModeTree} {ls : List Label} {m : Value} → LeadsToMode tree ls m → (l : Label) → IsOneOf ls l
     → (r : Row) × IsOneOf tree.edges r × (r.label ≡ l)
 path_edge (root e) l o = absurd (let p = o.stands in cc)
 path_edge (edge {l = x} {ls = xs} {m = m} {to = to} p s) l o = ⊎_elim

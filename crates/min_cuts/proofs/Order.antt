@@ -10,8 +10,8 @@ use Rattle.domains.specs.declared.Value.{Value}
 use Rattle.ar_meaning.specs.Runs.{Label}
 use Rattle.ar_firing.specs.Forest.{Row, ModeTree}
 use Rattle.ar_firing.specs.Trees.{IsTree}
-use Rattle.firable_families.specs.Firable.{LeadsTo}
-use Rattle.firable_families.specs.Firable.LeadsTo.{root, edge}
+use Rattle.firable_families.specs.Firable.{LeadsToMode}
+use Rattle.firable_families.specs.Firable.LeadsToMode.{root, edge}
 
 -- whether the edge has the event of one of the labels
 abbrev pub on : List Label → Row → Bool
@@ -49,8 +49,8 @@ on_some (l ∷ ls) r h = step (on_some ls r) (eqb l.event r.label.event) refl
 
 module _ (tree : ModeTree) (t : IsTree tree) where
   -- the edges of a path stand before an edge that goes on from it
-  earlier : {ls : List Label} {m : Value} → LeadsTo tree ls m → (k : ℕ) (r : Row) → Stands tree.edges k r → r.from ≡ m
-      → (i : ℕ) (l : Label) → Stands ls i l → (j : ℕ) (q : Row) → Stands tree.edges j q → q.label.event ≡ l.event
+  earlier : {ls : List Label} {m : Value} → LeadsToMode tree ls m → (k : ℕ) (r : Row) → Stands tree.edges k r → r.from
+      ≡ m → (i : ℕ) (l : Label) → Stands ls i l → (j : ℕ) (q : Row) → Stands tree.edges j q → q.label.event ≡ l.event
       → j < k
   earlier (root e) k r h f i l a j q b w = cc
   earlier (edge {l = x} {ls = xs} {m = m} {to = to} p s) k r h f i l a j q b w =
@@ -73,7 +73,7 @@ module _ (tree : ModeTree) (t : IsTree tree) where
 
   -- the edges with a path's events, in their order, are the path from its root downward; `front` is the first edges, as
   -- many as have those of the path
-  pub in_front : {ls : List Label} {m : Value} → LeadsTo tree ls m → (front back : List Row)
+  pub in_front : {ls : List Label} {m : Value} → LeadsToMode tree ls m → (front back : List Row)
       → tree.edges ≡ front ++ back
       → ((i : ℕ) (l : Label) → Stands ls i l → (j : ℕ) (q : Row) → Stands tree.edges j q → q.label.event ≡ l.event
       → j < length front) → map label_of (filter (on ls) front) ≡ reverse ls

@@ -7,7 +7,7 @@ use Rattle.domains.specs.declared.Value.{Value}
 use Rattle.ar_meaning.specs.Runs.{Label}
 use Rattle.ar_firing.specs.Forest.{Row, ModeTree}
 use Rattle.ar_firing.specs.Trees.{IsTree}
-use Rattle.firable_families.specs.Firable.{LeadsTo, root, edge}
+use Rattle.firable_families.specs.Firable.{LeadsToMode, root, edge}
 use Rattle.mode_diagrams.specs.declared.trees.NumberedEdge.{NumberedEdge}
 use Rattle.mode_diagrams.specs.declared.trees.NumberedTree.{NumberedTree}
 use Rattle.mode_diagrams.specs.Trees.{edges_of, IsOnPath, last, earlier, IsNumbered}
@@ -41,7 +41,7 @@ one_number tree t (suc a) (suc b) v p q =
 -- the labels lead to mode m, and their events are those on the path to it
 pub record IsPathTo (tree : ModeTree) (n : NumberedTree) (m : ℕ) (labels : List Label) : Type 0 where
   pub end : Value
-  pub leads : LeadsTo tree labels end
+  pub leads : LeadsToMode tree labels end
   pub stands : Stands (modes_in tree) m end
   pub to : (e : ℕ) → IsOnPath (edges_of n) e m → IsTaken labels e
   pub back : (e : ℕ) → IsTaken labels e → IsOnPath (edges_of n) e m
@@ -108,7 +108,7 @@ module _ (tree : ModeTree) (t : IsTree tree) (n : NumberedTree) (is : IsNumberOf
               (up.0, one_rest r.label ls up.0 up.1, up.2)
 
   -- each path has the number of its end
-  pub number_of : (labels : List Label) (end : Value) → LeadsTo tree labels end
+  pub number_of : (labels : List Label) (end : Value) → LeadsToMode tree labels end
       → (m : ℕ) × (p : IsPathTo tree n m labels) × (p.end ≡ end)
   number_of [] end (root f) = let w = path_root end f in (0, w.0, w.1)
   number_of (l ∷ ls) end (edge {m = from} w one) =

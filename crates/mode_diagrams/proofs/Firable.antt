@@ -6,7 +6,7 @@ use Rattle.domains.specs.declared.Value.{Value}
 use Rattle.ar_meaning.specs.Runs.{Label}
 use Rattle.ar_firing.specs.Forest.{Row, ModeTree}
 use Rattle.ar_firing.specs.Trees.{IsTree, AreTrees}
-use Rattle.firable_families.specs.Firable.{LeadsTo, root, edge, IsFirableOf}
+use Rattle.firable_families.specs.Firable.{LeadsToMode, root, edge, IsFirableOf}
 use Rattle.mode_nodes.specs.Diagrams.{mode_of}
 use Rattle.mode_diagrams.specs.declared.trees.NumberedTree.{NumberedTree}
 use Rattle.mode_diagrams.specs.Trees.{edges_of, HasEvent, IsSetFrom}
@@ -64,7 +64,7 @@ record Modes (trees : List ModeTree) (ns : List NumberedTree) (path : ℕ → Li
       → HasMode ns (mode_of modes) tree (path j)
 
 -- no path of a tree without an edge has a label
-no_label : (tree : ModeTree) (labels : List Label) (end : Value) → tree.edges ≡ [] → LeadsTo tree labels end
+no_label : (tree : ModeTree) (labels : List Label) (end : Value) → tree.edges ≡ [] → LeadsToMode tree labels end
     → (l : Label) → IsOneOf labels l → ⊥
 no_label tree [] end e (root f) l o = one_none l o
 no_label tree (x ∷ xs) end e (edge {m = m} w one) l o =
@@ -73,7 +73,8 @@ no_label tree (x ∷ xs) end e (edge {m = m} w one) l o =
 
 collect : (trees : List ModeTree) (ns : List NumberedTree) → AreTreesEach trees → AreNumbersOf trees ns
     → (path : ℕ → List Label)
-    → ((k : ℕ) (tree : ModeTree) → Stands trees k tree → (m : Value) × LeadsTo tree (path k) m) → Modes trees ns path
+    → ((k : ℕ) (tree : ModeTree) → Stands trees k tree → (m : Value) × LeadsToMode tree (path k) m)
+    → Modes trees ns path
 collect _ _ each none path walks = record {
   modes = [];
   long = refl;
@@ -94,7 +95,7 @@ collect _ _ each (passed {tree = tree} {trees = trees} {ns = ns} e rest) path wa
       back = λ j other st l o. by w.0 w.1 more j other st l o;
     }
   where
-    by : (end : Value) → LeadsTo tree (path 0) end → (more : Modes trees ns (λ k. path (suc k))) → (j : ℕ)
+    by : (end : Value) → LeadsToMode tree (path 0) end → (more : Modes trees ns (λ k. path (suc k))) → (j : ℕ)
         (other : ModeTree) → Stands (tree ∷ trees) j other → (l : Label) → IsOneOf (path j) l
         → HasMode ns (mode_of more.modes) other (path j)
     by end w more zero other st l o = absurd (no_label tree (path 0) end e w l o)
@@ -143,7 +144,7 @@ mode_end (m ∷ ms) (suc k) h = mode_end ms k (omega (arith, h))
 -- ---- the paths to modes
 record Paths (trees : List ModeTree) (ns : List NumberedTree) (mode : ℕ → ℕ) : Type 0 where
   pub path : ℕ → List Label
-  pub walks : (j : ℕ) (tree : ModeTree) → Stands trees j tree → (m : Value) × LeadsTo tree (path j) m
+  pub walks : (j : ℕ) (tree : ModeTree) → Stands trees j tree → (m : Value) × LeadsToMode tree (path j) m
   pub each : (k : ℕ) (n : NumberedTree) → Stands ns k n → IsAtMode trees path n (mode k)
   pub back : (j : ℕ) (tree : ModeTree) → Stands trees j tree → (l : Label) → IsOneOf (path j) l
       → HasMode ns mode tree (path j)
@@ -172,7 +173,7 @@ paths _ _ each (passed {tree = tree} {trees = trees} {ns = ns} e rest) mode with
     }
   where
     on : (more : Paths trees ns mode) (j : ℕ) (other : ModeTree) → Stands (tree ∷ trees) j other
-        → (m : Value) × LeadsTo other (first_then [] more.path j) m
+        → (m : Value) × LeadsToMode other (first_then [] more.path j) m
     on more zero other st = (other.first, root refl)
     on more (suc j) other st = more.walks j other st
 
@@ -193,9 +194,9 @@ paths _ _ each (one_and {tree = tree} {n = n} {trees = trees} {ns = ns} is rest)
   where
     on : (ls : List Label) → IsPathTo tree n (mode 0) ls → (more : Paths trees ns (λ k. mode (suc k))) (j : ℕ)
         (other : ModeTree) → Stands (tree ∷ trees) j other
-        → (m : Value) × LeadsTo other (first_then ls more.path j) m
+        → (m : Value) × LeadsToMode other (first_then ls more.path j) m
     on ls p more zero other st =
-        let a : tree ≡ other = cc in (p.end, subst (λ (x : ModeTree). LeadsTo x ls p.end) a p.leads)
+        let a : tree ≡ other = cc in (p.end, subst (λ (x : ModeTree). LeadsToMode x ls p.end) a p.leads)
     on ls p more (suc j) other st = more.walks j other st
 
     at : (ls : List Label) → IsPathTo tree n (mode 0) ls → (more : Paths trees ns (λ k. mode (suc k))) (k : ℕ)

@@ -11,7 +11,7 @@ use Rattle.domains.specs.declared.Value.TheVariants.{Truth}
 use Rattle.typed_expr.specs.Sets.{HasExactly}
 use Rattle.typed_expr.specs.Yields.{Yields, facts_of}
 use Rattle.typed_expr.specs.declared.expr.Expr.{Expr, out-Expr}
-use Rattle.ar_meaning.specs.Facts.{Passes, none, one_and}
+use Rattle.ar_meaning.specs.Facts.{PassesConditions, none, one_and}
 use Rattle.ar_firing.specs.Fragment.{At}
 use Rattle.gts_core.specs.View.{numbered, condition_of, assign_of}
 use Rattle.gts_core.proofs.Numbering.{yields_numbered, yields_back}
@@ -48,52 +48,54 @@ module _ (x : ℕ) (values : List Value) where
 
   -- the conditions from a place on decide
   pub record Decides (cs : List (Expr VarId × Bool)) (i : ℕ) : Type 0 where
-    pub on : Passes (HasAt x values) (map condition_of (drop i cs)) → Passes (HasAt x values) (map condition_of cs)
-    pub off : Passes (HasAt x values) (map condition_of cs) → Passes (HasAt x values) (map condition_of (drop i cs))
+    pub on : PassesConditions (HasAt x values) (map condition_of (drop i cs))
+        → PassesConditions (HasAt x values) (map condition_of cs)
+    pub off : PassesConditions (HasAt x values) (map condition_of cs)
+        → PassesConditions (HasAt x values) (map condition_of (drop i cs))
 
   pub decides_start : (cs : List (Expr VarId × Bool)) → Decides cs 0
   decides_start cs = record { on = λ h. h; off = λ h. h }
 
   module _ (cs : List (Expr VarId × Bool)) (i : ℕ) (c : Expr VarId × Bool) (h : i < length cs)
       (is : c ≡ get_or cs i c) where
-    head : (d : Expr ℕ × Bool) (ds : List (Expr ℕ × Bool)) → Passes (HasAt x values) (d ∷ ds)
-        → Yields (HasAt x values) (out-Expr ℕ d.0) (Truth d.1) × Passes (HasAt x values) ds
+    head : (d : Expr ℕ × Bool) (ds : List (Expr ℕ × Bool)) → PassesConditions (HasAt x values) (d ∷ ds)
+        → Yields (HasAt x values) (out-Expr ℕ d.0) (Truth d.1) × PassesConditions (HasAt x values) ds
     head d ds (one_and y p) = (y, p)
 
-    there : Passes (HasAt x values) (map condition_of (drop i cs))
+    there : PassesConditions (HasAt x values) (map condition_of (drop i cs))
         → Yields (HasAt x values) (out-Expr ℕ (numbered c.0)) (Truth c.1)
-        × Passes (HasAt x values) (map condition_of (drop (i + 1) cs))
-    there p = head _ _ (subst (λ (xs : List (Expr VarId × Bool)). Passes (HasAt x values) (map condition_of xs))
-        (next_left cs i c h is) p)
+        × PassesConditions (HasAt x values) (map condition_of (drop (i + 1) cs))
+    there p = head _ _ (subst (λ (xs : List (Expr VarId × Bool)). PassesConditions (HasAt x values) (map condition_of
+        xs)) (next_left cs i c h is) p)
 
     back : Yields (HasAt x values) (out-Expr ℕ (numbered c.0)) (Truth c.1)
-        → Passes (HasAt x values) (map condition_of (drop (i + 1) cs))
-        → Passes (HasAt x values) (map condition_of (drop i cs))
-    back y p = subst (λ (xs : List (Expr VarId × Bool)). Passes (HasAt x values) (map condition_of xs))
+        → PassesConditions (HasAt x values) (map condition_of (drop (i + 1) cs))
+        → PassesConditions (HasAt x values) (map condition_of (drop i cs))
+    back y p = subst (λ (xs : List (Expr VarId × Bool)). PassesConditions (HasAt x values) (map condition_of xs))
         (sym (next_left cs i c h is)) (one_and y p)
 
     pub decides_on : Decides cs i → Yields (HasAt x values) (out-Expr ℕ (numbered c.0)) (Truth c.1) → Decides cs (i + 1)
     decides_on r y = record { on = λ p. r.on (back y p); off = λ p. (there (r.off p)).1 }
 
     pub decides_not : Decides cs i → (Yields (HasAt x values) (out-Expr ℕ (numbered c.0)) (Truth c.1) → ⊥)
-        → Passes (HasAt x values) (map condition_of cs) → ⊥
+        → PassesConditions (HasAt x values) (map condition_of cs) → ⊥
     decides_not r n p = n (there (r.off p)).0
 
   pub decides_all : (cs : List (Expr VarId × Bool)) (i : ℕ) → length cs ≤ i → Decides cs i
-      → Passes (HasAt x values) (map condition_of cs)
-  decides_all cs i h r = r.on (subst (λ (xs : List (Expr VarId × Bool)). Passes (HasAt x values) (map condition_of xs))
-      (sym (none_left cs i h)) none)
+      → PassesConditions (HasAt x values) (map condition_of cs)
+  decides_all cs i h r = r.on (subst (λ (xs : List (Expr VarId × Bool)). PassesConditions (HasAt x values) (map
+      condition_of xs)) (sym (none_left cs i h)) none)
 
   -- what an assignment gives that has another target, or is not reached, or is reached
   pub gives_none : (a : Assign) (vs : List Value) → (a.target.n ≡ x → ⊥) → Adds (GivesValue (HasAt x values) x a) vs vs
   gives_none a vs n = adds_none (GivesValue (HasAt x values) x a) vs (λ v h. n h.target)
 
-  pub gives_unreached : (a : Assign) (vs : List Value) → (Passes (HasAt x values) (assign_of a).conditions → ⊥)
-      → Adds (GivesValue (HasAt x values) x a) vs vs
+  pub gives_unreached : (a : Assign) (vs : List Value) → (PassesConditions (HasAt x values) (assign_of a).conditions
+      → ⊥) → Adds (GivesValue (HasAt x values) x a) vs vs
   gives_unreached a vs n = adds_none (GivesValue (HasAt x values) x a) vs (λ v h. n h.passes)
 
   pub gives_set : (a : Assign) (set old new : List Value) → a.target.n ≡ x
-      → Passes (HasAt x values) (assign_of a).conditions
+      → PassesConditions (HasAt x values) (assign_of a).conditions
       × HasExactly set (Yields (HasAt x values) (out-Expr ℕ (assign_of a).value)) → new ≡ old ++ set
       → Adds (GivesValue (HasAt x values) x a) old new
   gives_set a set old new t h e = adds_these (GivesValue (HasAt x values) x a) set old new

@@ -10,7 +10,7 @@ use Rattle.typed_expr.proofs.Facts.{yields_more}
 use Rattle.typed_expr.specs.declared.expr.Expr.{Expr, out-Expr}
 use Rattle.ar_meaning.specs.Systems as s
 use Rattle.ar_meaning.specs.Systems.{Transition, Leaf}
-use Rattle.ar_meaning.specs.Facts.{Passes}
+use Rattle.ar_meaning.specs.Facts.{PassesConditions}
 use Rattle.ar_meaning.specs.Ways.{Can, guard_holds, Effects, acts}
 use Rattle.ar_meaning.proofs.Least.{passes_more}
 use Rattle.ar_meaning.proofs.OneAnswer.{same_value}
@@ -52,7 +52,7 @@ module _ (x : ℕ) (m : Value) (g : Expr VarId) (action : List Assign) where
       (yields_more ℕ (HasAt x (m ∷ [])) (At x m) (at_there x m) o.2.yields))
 
   effect_parts : (d : Transition ℕ) (n : ℕ) (v : Value) → Effects (At x m) (Leaf d) n v
-      → (b : s.Assign ℕ) × IsOneOf d.action b × (b.target ≡ n) × Passes (At x m) b.conditions
+      → (b : s.Assign ℕ) × IsOneOf d.action b × (b.target ≡ n) × PassesConditions (At x m) b.conditions
       × Yields (At x m) (out-Expr ℕ b.value) v
   effect_parts d n v (acts b o p y) = (b, o, refl, p, y)
 
@@ -63,7 +63,7 @@ module _ (x : ℕ) (m : Value) (g : Expr VarId) (action : List Assign) where
       let k = stands_map_back assign_of action o.1.place o.0 o.1.stands in
       some_here (GivesValue (HasAt x (m ∷ [])) x) action v k.0 o.1.place k.1 (record {
         target = ap (λ (z : s.Assign ℕ). z.target) k.2 ∙ o.2;
-        passes = subst (λ (z : s.Assign ℕ). Passes (HasAt x (m ∷ [])) z.conditions) (sym k.2)
+        passes = subst (λ (z : s.Assign ℕ). PassesConditions (HasAt x (m ∷ [])) z.conditions) (sym k.2)
             (passes_more ℕ (At x m) (HasAt x (m ∷ [])) (at_back x m) o.3);
         yields = subst (λ (z : s.Assign ℕ). Yields (HasAt x (m ∷ [])) (out-Expr ℕ z.value) v) (sym k.2)
             (yields_more ℕ (At x m) (HasAt x (m ∷ [])) (at_back x m) o.4);

@@ -5,7 +5,7 @@ use Rattle.domains.specs.declared.Value.{Value}
 use Rattle.typed_expr.specs.Yields.{Yields}
 use Rattle.typed_expr.specs.declared.expr.Expr.{out-Expr}
 use Rattle.ar_meaning.specs.Systems.{Transition, Leaf}
-use Rattle.ar_meaning.specs.Facts.{Passes}
+use Rattle.ar_meaning.specs.Facts.{PassesConditions}
 use Rattle.ar_meaning.specs.Ways.{Can, Effects}
 use Rattle.ar_firing.specs.Rules.{GivesOther}
 use Rattle.gts_core.specs.View.{assign_of}
@@ -24,7 +24,7 @@ HasAt x values n v = Contains (if nat_eq n x then values else []) v
 -- the assignment gives the variable of number x this value
 pub record GivesValue (facts : ℕ → Value → Type 0) (x : ℕ) (a : Assign) (v : Value) : Type 0 where
   pub target : a.target.n ≡ x
-  pub passes : Passes facts (assign_of a).conditions
+  pub passes : PassesConditions facts (assign_of a).conditions
   pub yields : Yields facts (out-Expr ℕ (assign_of a).value) v
 
 -- the transition can fire, and gives the variable exactly one value, in the domain

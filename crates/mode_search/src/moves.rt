@@ -2,7 +2,7 @@
 
 ghost use Rattle.std.specs.Prelude.{◌≡◌, ◌++◌, IfOk, Contains, map};
 ghost use Rattle.domains.specs.Domains.{IsDomain, values_of};
-ghost use Rattle.ar_meaning.specs.Facts.{Passes};
+ghost use Rattle.ar_meaning.specs.Facts.{PassesConditions};
 ghost use Rattle.ar_meaning.specs.Found.{IsAnswer};
 ghost use Rattle.ar_meaning.specs.Reached.{Reaches};
 ghost use Rattle.ar_firing.specs.Fragment.{At};
@@ -163,7 +163,7 @@ fn reached(
     conditions: &[(Expr<VarId>, bool)],
     at: &AtMode<'_>,
 ) -> Result<bool, Memory>
-    ensures { IfOk result (λ b. IsAnswer b (Passes (HasAt at.now.variable.n at.now.values.now)
+    ensures { IfOk result (λ b. IsAnswer b (PassesConditions (HasAt at.now.variable.n at.now.values.now)
         (map condition_of conditions.now))) }
 {
     for (test, must) in conditions {

@@ -8,8 +8,8 @@ use Rattle.ar_base.specs.Sets.{Ascends, IsBefore}
 use Rattle.ar_base.proofs.Standing.{stands_one}
 use Rattle.typed_expr.specs.declared.expr.Expr.{Expr}
 use Rattle.hierarchy.specs.Listing.{AreUnits, events}
-use Rattle.hierarchy.specs.Models.{RootedModel, IsKept}
-use Rattle.hierarchy.specs.Units.{Level, UnitPath, Thing}
+use Rattle.hierarchy.specs.Models.{RootedModel, KeepsTextRules}
+use Rattle.hierarchy.specs.Units.{UnitLevel, UnitPath, Thing}
 use Rattle.hierarchy.proofs.Apart.{units_different}
 use Rattle.hierarchy.proofs.Places.{IsUnder}
 use Rattle.gts_flatten.specs.Elaborating.{Elaborated}
@@ -46,9 +46,9 @@ listed_family (s ∷ f) up before =
     }
 
 -- ---- the ranges of units are nested or apart
-module _ (m : RootedModel) (units : List UnitPath) (kept : IsKept m) (are : AreUnits m units) where
+module _ (m : RootedModel) (units : List UnitPath) (kept : KeepsTextRules m) (are : AreUnits m units) where
   -- a unit round one of the list stands no later
-  outer_stands : (levels : List Level) (v : UnitPath) (i : ℕ) → Stands units i (levels ++ v)
+  outer_stands : (levels : List UnitLevel) (v : UnitPath) (i : ℕ) → Stands units i (levels ++ v)
       → (j : ℕ) × (j ≤ i) × Stands units j v
   outer_stands [] v i s = (i, omega arith, s)
   outer_stands (l ∷ levels) v i s = elim (lists_before are i l (levels ++ v) s) [
@@ -107,7 +107,7 @@ module _ (m : RootedModel) (units : List UnitPath) (kept : IsKept m) (are : AreU
 
 pub combined : (x : Elaborated) (dropped : List ℕ) (observer : Expr Thing) (wanted : Value) (text : List ℕ)
     (t : IsModuleText x dropped observer wanted text)
-    → IsKept x.declarations.model → AreUnits x.declarations.model x.declarations.units
+    → KeepsTextRules x.declarations.model → AreUnits x.declarations.model x.declarations.units
     → StandFor t.cuts t.modules t.forms
 combined x dropped observer wanted text t kept units =
     stand_for t.cuts (listed_family t.cuts t.are_listed.ascend t.are_listed.in_order) t.ranges

@@ -4,10 +4,10 @@ use Rattle.std.proofs.lemmas.Bool.{cases_lt}
 use Rattle.ar_base.specs.Lists.{Stands, IsOneOf}
 use Rattle.ar_base.proofs.Standing.{stands_one, stands_none, stands_split, stands_within, stands_map_back, one_here, one_none}
 use Rattle.class_table.specs.Members.{NamedMember, MemberKind}
-use Rattle.hierarchy.specs.Models.{RootedModel, IsKept}
+use Rattle.hierarchy.specs.Models.{RootedModel, KeepsTextRules}
 use Rattle.hierarchy.specs.Units.{UnitPath, Thing, names_at}
 use Rattle.hierarchy.specs.Walks.{thing, is_event}
-use Rattle.hierarchy.specs.Listing.{Lists, Insides, Makes, unit, none, makes, passes, things_in, events, AreUnits}
+use Rattle.hierarchy.specs.Listing.{ListsUnits, Insides, MakesUnit, unit, none, makes, passes, things_in, events, AreUnits}
 use Rattle.hierarchy.proofs.Apart.{units_different, members_apart}
 use Rattle.hierarchy.proofs.Places.{AreApart, IsUnder, made_named, lists_under, apart_rest, two_members}
 
@@ -36,7 +36,7 @@ same_long {u = u} {v = v} i e = by i.levels i.is
     by (x ∷ ls) h = let k = ap length h in let n = length-append ls u in absurd (omega (arith, k, n, e))
 
 -- what the member makes stands within the unit, one level below it
-made_under : (m : RootedModel) (u v w : UnitPath) (g : NamedMember) → Makes m u g v → IsUnder v w → IsUnder u w
+made_under : (m : RootedModel) (u v w : UnitPath) (g : NamedMember) → MakesUnit m u g v → IsUnder v w → IsUnder u w
 made_under m u v w g k i =
     let n = made_named m u v g k in
     under_through (record { levels = n.level ∷ []; is = n.is }) i
@@ -47,7 +47,7 @@ record IsUnderMade (m : RootedModel) (u : UnitPath) (gs : List NamedMember) (w :
   member : NamedMember
   stands : Stands gs place member
   made_unit : UnitPath
-  made : Makes m u member made_unit
+  made : MakesUnit m u member made_unit
   under : IsUnder made_unit w
 
 insides_under : {m : RootedModel} {u : UnitPath} {gs : List NamedMember} {us : List UnitPath} → Insides m true u gs us
@@ -93,7 +93,7 @@ pub record StandTogether (us : List UnitPath) : Type 0 where
       → IsUnder v a → IsUnder v c → IsUnder v b
 
 mutual
-  lists_together : {m : RootedModel} {u : UnitPath} {us : List UnitPath} → Lists m true u us
+  lists_together : {m : RootedModel} {u : UnitPath} {us : List UnitPath} → ListsUnits m true u us
       → ((w : UnitPath) → AreApart (names_at m w)) → StandTogether us
   lists_together {m = m} {u = u} (unit {us = us} d) apart =
       record {
@@ -156,7 +156,8 @@ mutual
           h.between v a b c s.0 t.0 r.0 (omega (arith, p, s.1, t.1)) (omega (arith, q, t.1, r.1)) s.2 t.2 r.2 x y
   insides_together (passes n ds) apart far = insides_together ds apart (apart_rest far)
 
-pub units_together : {m : RootedModel} {units : List UnitPath} → IsKept m → AreUnits m units → StandTogether units
+pub units_together : {m : RootedModel} {units : List UnitPath} → KeepsTextRules m → AreUnits m units
+    → StandTogether units
 units_together k d = lists_together d (members_apart k)
 
 -- ---- events stand by their units
@@ -216,7 +217,7 @@ in_order m (u ∷ us) x y s t l p q =
         record { first = suc r.first; second = suc r.second; order = (let o = r.order in omega (arith, o)); first_stands = r.first_stands; second_stands = r.second_stands }
 
 -- what is within a unit stands together among the events too
-pub events_together : {m : RootedModel} {units : List UnitPath} → IsKept m → AreUnits m units
+pub events_together : {m : RootedModel} {units : List UnitPath} → KeepsTextRules m → AreUnits m units
     → (v : UnitPath) (s t r : Thing) (x y z : ℕ) → x < y → y < z
     → Stands (events m units) x s → Stands (events m units) y t → Stands (events m units) z r → IsUnder v s.unit
     → IsUnder v r.unit → IsUnder v t.unit

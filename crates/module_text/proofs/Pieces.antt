@@ -16,7 +16,7 @@ use Rattle.ar_base.proofs.Standing.{one_none, one_first, one_rest, one_cases, on
 use Rattle.ar_base.proofs.Lines.{line_after}
 use Rattle.mode_trees.specs.Ways.{OwnTheirWays}
 use Rattle.text_pieces.specs.WayLabels.{way_label}
-use Rattle.gate_modules.specs.Shortened.{numbers, set_of, module_of, form_of}
+use Rattle.gate_modules.specs.Shortened.{event_numbers, set_of, module_of, short_form_of}
 use Rattle.gate_modules.specs.declared.ranges.EventSet.{EventSet}
 use Rattle.gate_modules.specs.declared.ranges.Module.{Module}
 use Rattle.gate_modules.specs.declared.ranges.Short.{Short}
@@ -103,12 +103,12 @@ module _ (p : GtsParts) (ts : List ModeTree) (own : OwnTheirWays p ts) where
   pub forms_inside : (sets : List ShortSet) (lines : List Line)
       → map pieces_of lines ≡ map (form_pieces (edges_of ts)) sets → LinesInside p lines
   forms_inside sets lines e = inside_from (form_pieces (edges_of ts))
-      (λ s. line_inside s.units.items (numbers s.events.items)) sets lines e
+      (λ s. line_inside s.units.items (event_numbers s.events.items)) sets lines e
 
   parts_inside : (sets : List EventSet) (lines : List Line) → map pieces_of lines ≡ map (part_pieces (edges_of ts)) sets
       → LinesInside p lines
-  parts_inside sets lines e = inside_from (part_pieces (edges_of ts)) (λ s. line_inside [] (numbers s.events.items))
-      sets lines e
+  parts_inside sets lines e = inside_from (part_pieces (edges_of ts)) (λ s. line_inside [] (event_numbers
+      s.events.items)) sets lines e
 
   pub groups_inside : (ms : List Module) (gs : List Group) → Along (IsGroupOf (edges_of ts)) ms gs → GroupsInside p gs
   groups_inside ms gs a = record { each = λ g i. let t = along_back ms gs a i.place g i.stands in parts_inside t.0.sets.items g.lines.items t.2.lines }
@@ -144,7 +144,7 @@ texts_kept p edges units set = map-append (piece_text p) (unit_pieces units) (wa
 
 module _ (p : GtsParts) (edges : List Edge) where
   form_texts : (sets : List ShortSet) (lines : List Line) → map pieces_of lines ≡ map (form_pieces edges) sets
-      → form_lines p lines ≡ flat_map (form_line p edges) (map form_of sets)
+      → form_lines p lines ≡ flat_map (form_line p edges) (map short_form_of sets)
   form_texts sets lines e = through lines ∙ ap (flat_map (λ ps. line (braced (map (piece_text p) ps)))) e ∙ each sets
     where
       through : (ls : List Line) → form_lines p ls
@@ -153,10 +153,10 @@ module _ (p : GtsParts) (edges : List Edge) where
       through (l ∷ ls) = ap (λ z. line (line_text p l) ++ z) (through ls)
 
       each : (ss : List ShortSet) → flat_map (λ ps. line (braced (map (piece_text p) ps))) (map (form_pieces edges) ss)
-          ≡ flat_map (form_line p edges) (map form_of ss)
+          ≡ flat_map (form_line p edges) (map short_form_of ss)
       each [] = refl
-      each (s ∷ ss) = ap₂ (λ y z. line (braced y) ++ z) (texts_kept p edges s.units.items (numbers s.events.items))
-          (each ss)
+      each (s ∷ ss) = ap₂ (λ y z. line (braced y) ++ z) (texts_kept p edges s.units.items (event_numbers
+          s.events.items)) (each ss)
 
   part_texts : (sets : List EventSet) (lines : List Line) → map pieces_of lines ≡ map (part_pieces edges) sets
       → part_lines p lines ≡ flat_map (λ set. part_line (braced (labels_in p edges set))) (map set_of sets)
@@ -171,7 +171,8 @@ module _ (p : GtsParts) (edges : List Edge) where
       each : (ss : List EventSet) → flat_map (λ ps. part_line (braced (map (piece_text p) ps)))
           (map (part_pieces edges) ss) ≡ flat_map (λ set. part_line (braced (labels_in p edges set))) (map set_of ss)
       each [] = refl
-      each (s ∷ ss) = ap₂ (λ y z. part_line (braced y) ++ z) (texts_kept p edges [] (numbers s.events.items)) (each ss)
+      each (s ∷ ss) = ap₂ (λ y z. part_line (braced y) ++ z) (texts_kept p edges [] (event_numbers s.events.items))
+          (each ss)
 
   group_texts : (ms : List Module) (gs : List Group) → Along (IsGroupOf edges) ms gs
       → groups_lines p gs ≡ flat_map (module_lines p edges) (map module_of ms)
@@ -185,7 +186,7 @@ module _ (p : GtsParts) (edges : List Edge) where
       → n ≡ length lines
       → groups_lines p gs ++ (form_lines p lines ++ lines_line n)
       ≡ flat_map (module_lines p edges) (map module_of s.modules.items)
-      ++ (flat_map (form_line p edges) (map form_of s.sets.items) ++ lines_line (length s.sets.items))
+      ++ (flat_map (form_line p edges) (map short_form_of s.sets.items) ++ lines_line (length s.sets.items))
   whole_text s gs lines n a e k = ap₂ (λ y z. y ++ z) (group_texts s.modules.items gs a)
       (ap₂ (λ y z. y ++ lines_line z) (form_texts s.sets.items lines e)
       (k ∙ sym (length-map lines pieces_of) ∙ ap length e ∙ length-map s.sets.items (form_pieces edges)))

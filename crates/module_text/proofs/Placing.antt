@@ -20,7 +20,7 @@ use Rattle.ar_base.proofs.Standing.{stands_none, stands_left, stands_next, stand
 use Rattle.ar_firing.proofs.OneListing.{ascending_same}
 use Rattle.flow_blocks.specs.Bits.{row_of}
 use Rattle.flow_blocks.proofs.RowLemmas.{row_set_same, row_set_other}
-use Rattle.gate_modules.specs.Shortened.{numbers}
+use Rattle.gate_modules.specs.Shortened.{event_numbers}
 use Rattle.mode_trees.specs.declared.forests.Edge.{Edge}
 use Rattle.zdd_families.specs.Families.{holds}
 use Rattle.zdd_families.proofs.Ascending.{IsAscending, ascends_from}
@@ -156,35 +156,35 @@ row_past (x ∷ rows) (suc e) h = row_past rows e (omega arith)
 
 -- ---- spots
 pub numbers_more : (events : List EventId) (i : ℕ) (d : EventId) → i < length events
-    → numbers (take (i + 1) events) ≡ numbers (take i events) ++ (get_or events i d).n ∷ []
-numbers_more events i d lt = ap numbers (take_more events i d lt)
+    → event_numbers (take (i + 1) events) ≡ event_numbers (take i events) ++ (get_or events i d).n ∷ []
+numbers_more events i d lt = ap event_numbers (take_more events i d lt)
     ∙ map-append (λ (e : EventId). e.n) (take i events) (get_or events i d ∷ [])
 
 pub none_placed : (rows : List Row) (p : ℕ) → IsOneOf [] p ↔ IsPlaced rows [] p
 none_placed rows p = (λ o. absurd (one_none p o), λ h. absurd (one_none h.event h.is_one))
 
 pub placed_more : (rows : List Row) (events : List EventId) (i : ℕ) (d : EventId) (old new : List ℕ)
-    → i < length events → ((p : ℕ) → IsOneOf old p ↔ IsPlaced rows (numbers (take i events)) p)
+    → i < length events → ((p : ℕ) → IsOneOf old p ↔ IsPlaced rows (event_numbers (take i events)) p)
     → new ≡ old ++ row_of rows (get_or events i d).n → (p : ℕ)
-    → IsOneOf new p ↔ IsPlaced rows (numbers (take (i + 1) events)) p
+    → IsOneOf new p ↔ IsPlaced rows (event_numbers (take (i + 1) events)) p
 placed_more rows events i d old new lt before grown p = (on, off)
   where
     x : ℕ
     x = (get_or events i d).n
 
     first : List ℕ
-    first = numbers (take i events)
+    first = event_numbers (take i events)
 
-    now : (y : ℕ) → IsOneOf (first ++ x ∷ []) y → IsOneOf (numbers (take (i + 1) events)) y
+    now : (y : ℕ) → IsOneOf (first ++ x ∷ []) y → IsOneOf (event_numbers (take (i + 1) events)) y
     now y o = subst (λ (z : List ℕ). IsOneOf z y) (sym (numbers_more events i d lt)) o
 
-    on : IsOneOf new p → IsPlaced rows (numbers (take (i + 1) events)) p
+    on : IsOneOf new p → IsPlaced rows (event_numbers (take (i + 1) events)) p
     on o = elim (one_split old (row_of rows x) p (subst (λ (z : List ℕ). IsOneOf z p) grown o)) [
       | inl q ↦ let h = (before p).0 q in record { event = h.event; is_one = now h.event (one_left first (x ∷ []) h.event h.is_one); placed = h.placed }
       | inr q ↦ record { event = x; is_one = now x (one_right first (x ∷ []) x (one_first x [])); placed = q }
     ]
 
-    off : IsPlaced rows (numbers (take (i + 1) events)) p → IsOneOf new p
+    off : IsPlaced rows (event_numbers (take (i + 1) events)) p → IsOneOf new p
     off h = subst (λ (z : List ℕ). IsOneOf z p) (sym grown)
         (elim (one_split first (x ∷ []) h.event
         (subst (λ (z : List ℕ). IsOneOf z h.event) (numbers_more events i d lt) h.is_one)) [

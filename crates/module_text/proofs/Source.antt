@@ -39,7 +39,7 @@ use Rattle.text_pieces.proofs.Ways.{label_alike}
 use Rattle.zdd_families.specs.Families.{holds}
 use Rattle.cut_text.specs.Printed.{edges_of, things_of, IsForestOf}
 use Rattle.cut_text.specs.Texts.{braced, labels_text}
-use Rattle.gate_modules.specs.Shortened.{UnitSets, Form, Shortens, module_of, form_of}
+use Rattle.gate_modules.specs.Shortened.{UnitSets, ShortForm, Shortens, module_of, short_form_of}
 use Rattle.gate_modules.specs.declared.ranges.Range.{Range}
 use Rattle.gate_modules.specs.declared.ranges.Short.{Short}
 use Rattle.module_text.specs.Printed.{labels_in, module_lines, form_line, short_lines}
@@ -138,17 +138,17 @@ module _ (x : Elaborated) (p : GtsParts) (flat : System ℕ) (dropped : List ℕ
       (λ set. part_line (labels_text names x.system (in_firing_order trees set)))
       (λ set. ap (λ z. part_line (braced z)) (labels_are set)) m.sets)
 
-  forms_are : (form : Form) → form_line p edges form ≡ form_text names units x.system trees form
+  forms_are : (form : ShortForm) → form_line p edges form ≡ form_text names units x.system trees form
   forms_are form = ap₂ (λ y z. line (braced (y ++ z)))
       (ap (λ z. map (λ u. unit_mark (text_at z u)) form.units) h.is_flat.units_are) (labels_are form.events)
 
   pub text_is : (short : Short) → short_lines p f short
-      ≡ short_text names units x.system trees (map module_of short.modules.items) (map form_of short.sets.items)
+      ≡ short_text names units x.system trees (map module_of short.modules.items) (map short_form_of short.sets.items)
   text_is short = ap₂ (λ y z. y ++ z)
       (flat_same (module_lines p edges) (module_text names units x.system trees) modules_are
       (map module_of short.modules.items))
       (ap₂ (λ y z. y ++ lines_line z) (flat_same (form_line p edges) (form_text names units x.system trees) forms_are
-      (map form_of short.sets.items)) (sym (length-map short.sets.items form_of)))
+      (map short_form_of short.sets.items)) (sym (length-map short.sets.items short_form_of)))
 
   module _ (observer : Expr Thing) (other : Expr ℕ) (q : Expr_renames (IsNumber things) observer other)
       (wanted : Value) where
@@ -166,7 +166,7 @@ module _ (x : Elaborated) (p : GtsParts) (flat : System ℕ) (dropped : List ℕ
       ranges = ranges;
       are_ranges = are;
       modules = map module_of short.modules.items;
-      forms = map form_of short.sets.items;
+      forms = map short_form_of short.sets.items;
       is_short = is;
       trees = trees;
       is_forest = forest_there (turned (IsNumber things)) flat x.system (flat_back things x.system flat is_flat_of)

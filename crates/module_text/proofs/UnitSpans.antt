@@ -5,8 +5,8 @@ use Rattle.ar_base.specs.Numbers.{UnitId}
 use Rattle.ar_base.proofs.Standing.{stands_one, stands_none, stands_within, stands_some, stands_split, stands_left, stands_right, along_on, along_back, along_length}
 use Rattle.class_table.specs.Members.{NamedMember}
 use Rattle.hierarchy.specs.Models.{RootedModel}
-use Rattle.hierarchy.specs.Units.{Level, UnitPath}
-use Rattle.hierarchy.specs.Listing.{Lists, Insides, unit, none, makes, passes, events}
+use Rattle.hierarchy.specs.Units.{UnitLevel, UnitPath}
+use Rattle.hierarchy.specs.Listing.{ListsUnits, Insides, unit, none, makes, passes, events}
 use Rattle.hierarchy.specs.Tie.{IsOwner, of_main, of_unit, IsTreeOf}
 use Rattle.hierarchy.specs.declared.tree.MemNode.{MemNode}
 use Rattle.hierarchy.specs.declared.tree.UnitNode.{UnitNode}
@@ -25,8 +25,8 @@ IsBefore us i w = (j : ℕ) × (j < i) × Stands us j w
 
 mutual
   -- the unit above a unit stands before it
-  pub lists_before : {m : RootedModel} {u : UnitPath} {us : List UnitPath} → Lists m true u us
-      → (i : ℕ) (l : Level) (w : UnitPath) → Stands us i (l ∷ w) → (l ∷ w ≡ u) ⊎ IsBefore us i w
+  pub lists_before : {m : RootedModel} {u : UnitPath} {us : List UnitPath} → ListsUnits m true u us
+      → (i : ℕ) (l : UnitLevel) (w : UnitPath) → Stands us i (l ∷ w) → (l ∷ w ≡ u) ⊎ IsBefore us i w
   lists_before {u = u} (unit {us = us} d) zero l w s = inl (sym (stands_one (u ∷ us) 0 u (l ∷ w) refl s))
   lists_before {u = u} (unit {us = us} d) (suc i) l w s = elim (insides_before d i l w s) [
     | inl e ↦ inr (0, omega arith, subst (λ (z : UnitPath). Stands (u ∷ us) 0 z) (sym e) refl)
@@ -34,7 +34,8 @@ mutual
   ]
 
   insides_before : {m : RootedModel} {u : UnitPath} {gs : List NamedMember} {us : List UnitPath}
-      → Insides m true u gs us → (i : ℕ) (l : Level) (w : UnitPath) → Stands us i (l ∷ w) → (w ≡ u) ⊎ IsBefore us i w
+      → Insides m true u gs us → (i : ℕ) (l : UnitLevel) (w : UnitPath) → Stands us i (l ∷ w)
+      → (w ≡ u) ⊎ IsBefore us i w
   insides_before none i l w s = absurd (stands_none i (l ∷ w) s)
   insides_before {m = m} {u = u} (makes {v = v} {g = g} {us = us} {vs = vs} k d ds) i l w s =
       elim (stands_split us vs i (l ∷ w) s) [
@@ -53,12 +54,12 @@ mutual
       ]
   insides_before (passes n ds) i l w s = insides_before ds i l w s
 
-first_unit : {m : RootedModel} {u : UnitPath} {us : List UnitPath} → Lists m true u us → Stands us 0 u
+first_unit : {m : RootedModel} {u : UnitPath} {us : List UnitPath} → ListsUnits m true u us → Stands us 0 u
 first_unit (unit d) = refl
 
 -- what the number of the unit above says
 record IsOwned (units : List UnitPath) (w : UnitPath) (o : UnitId) : Type 0 where
-  level : Level
+  level : UnitLevel
   rest : UnitPath
   is : w ≡ level ∷ rest
   stands : Stands units o.n rest
@@ -76,7 +77,7 @@ record HasAbove (units : List UnitPath) (rest : UnitPath) (p : Option UnitId) : 
   is : p ≡ Some id
   stands : Stands units id.n rest
 
-has_above : (units : List UnitPath) (l : Level) (rest : UnitPath) (p : Option UnitId) → IsOwner units (l ∷ rest) p
+has_above : (units : List UnitPath) (l : UnitLevel) (rest : UnitPath) (p : Option UnitId) → IsOwner units (l ∷ rest) p
     → HasAbove units rest p
 has_above units l rest p (of_unit {id = id} s) = record { id = id; is = refl; stands = s }
 
@@ -107,7 +108,7 @@ module _ (m : RootedModel) (units : List UnitPath) (tree : Tree) (is : IsTreeOf 
   record IsWithin (k : ℕ) (w : UnitPath) : Type 0 where
     outer : UnitPath
     stands : Stands units k outer
-    levels : List Level
+    levels : List UnitLevel
     is_within : w ≡ levels ++ outer
 
   over_within : {k u : ℕ} → IsOver nodes k u → (w : UnitPath) → Stands units u w → IsWithin k w
@@ -127,7 +128,7 @@ module _ (m : RootedModel) (units : List UnitPath) (tree : Tree) (is : IsTreeOf 
   no_main : (k : ℕ) → Stands units (suc k) [] → ⊥
   no_main k s = let e = different.one (suc k) 0 [] s (first_unit is.are_units) in omega (arith, e)
 
-  within_over : (k : ℕ) (v : UnitPath) → Stands units (suc k) v → (levels : List Level) (u : ℕ)
+  within_over : (k : ℕ) (v : UnitPath) → Stands units (suc k) v → (levels : List UnitLevel) (u : ℕ)
       → Stands units u (levels ++ v) → IsOver nodes (suc k) u
   within_over k [] s levels u t = absurd (no_main k s)
   within_over k (l ∷ v) s [] u t =

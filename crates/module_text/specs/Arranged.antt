@@ -8,7 +8,7 @@ use Rattle.gts_core.specs.declared.system.GtsParts.{GtsParts}
 use Rattle.mode_trees.specs.declared.forests.Edge.{Edge}
 use Rattle.text_pieces.specs.WayLabels.{way_label}
 use Rattle.zdd_families.specs.Families.{holds}
-use Rattle.gate_modules.specs.Shortened.{numbers}
+use Rattle.gate_modules.specs.Shortened.{event_numbers}
 use Rattle.gate_modules.specs.declared.ranges.EventSet.{EventSet}
 use Rattle.gate_modules.specs.declared.ranges.Module.{Module}
 use Rattle.gate_modules.specs.declared.ranges.ShortSet.{ShortSet}
@@ -33,11 +33,11 @@ line_pieces edges units set = unit_pieces units ++ way_pieces edges set
 
 -- the line of a set of events
 abbrev pub part_pieces : List Edge → EventSet → List Piece
-part_pieces edges s = line_pieces edges [] (numbers s.events.items)
+part_pieces edges s = line_pieces edges [] (event_numbers s.events.items)
 
 -- the line of a short form
 abbrev pub form_pieces : List Edge → ShortSet → List Piece
-form_pieces edges s = line_pieces edges s.units.items (numbers s.events.items)
+form_pieces edges s = line_pieces edges s.units.items (event_numbers s.events.items)
 
 -- what stands in the line
 abbrev pub pieces_of : Line → List Piece

@@ -9,7 +9,7 @@ use Rattle.text_pieces.specs.WayLabels.{way_label}
 use Rattle.zdd_families.specs.Families.{holds}
 use Rattle.cut_text.specs.Printed.{edges_of}
 use Rattle.cut_text.specs.Texts.{braced}
-use Rattle.gate_modules.specs.Shortened.{UnitSets, Form, module_of, form_of}
+use Rattle.gate_modules.specs.Shortened.{UnitSets, ShortForm, module_of, short_form_of}
 use Rattle.gate_modules.specs.declared.ranges.Short.{Short}
 use Rattle.module_text.specs.Texts.{module_line, part_line, unit_mark, lines_line}
 
@@ -23,7 +23,7 @@ module_lines p edges m = module_line (text_at p.units.items m.unit) ++ flat_map
     (λ set. part_line (braced (labels_in p edges set))) m.sets
 
 -- the line of a short form
-abbrev pub form_line : GtsParts → List Edge → Form → List ℕ
+abbrev pub form_line : GtsParts → List Edge → ShortForm → List ℕ
 form_line p edges form = line (braced
     (map (λ u. unit_mark (text_at p.units.items u)) form.units ++ labels_in p edges form.events))
 
@@ -31,4 +31,5 @@ form_line p edges form = line (braced
 abbrev pub short_lines : GtsParts → Forest → Short → List ℕ
 short_lines p f s =
     flat_map (module_lines p (edges_of f.trees.items)) (map module_of s.modules.items)
-    ++ (flat_map (form_line p (edges_of f.trees.items)) (map form_of s.sets.items) ++ lines_line (length s.sets.items))
+    ++ (flat_map (form_line p (edges_of f.trees.items)) (map short_form_of s.sets.items) ++ lines_line
+    (length s.sets.items))

@@ -2,7 +2,7 @@
 use Rattle.std.specs.Prelude.{◌≡◌, ◌↔◌, ℕ, suc, true, List, ◌++◌, length}
 use Rattle.ar_base.specs.Lists.{Stands}
 use Rattle.hierarchy.specs.Models.{RootedModel}
-use Rattle.hierarchy.specs.Units.{Level, UnitPath, Thing}
+use Rattle.hierarchy.specs.Units.{UnitLevel, UnitPath, Thing}
 use Rattle.hierarchy.specs.Listing.{events}
 use Rattle.gate_modules.specs.Modules.{lies}
 use Rattle.gate_modules.specs.declared.ranges.Range.{Range}
@@ -13,7 +13,7 @@ pub record HasEvent (m : RootedModel) (units : List UnitPath) (k e : ℕ) : Type
   pub is_unit : Stands units k unit
   pub event : Thing
   pub is_event : Stands (events m units) e event
-  pub within : List Level
+  pub within : List UnitLevel
   pub is_within : event.unit ≡ within ++ unit
 
 -- the range is that of unit number k, with exactly its events and those of the units within it

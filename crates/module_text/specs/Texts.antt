@@ -16,7 +16,7 @@ use Rattle.hierarchy.specs.Units.{Thing}
 use Rattle.gts_flatten.specs.Elaborating.{Elaborated}
 use Rattle.gts_flatten.specs.Flat.{naming_of}
 use Rattle.cut_text.specs.Texts.{braced, labels_text}
-use Rattle.gate_modules.specs.Shortened.{UnitSets, Form, IsShortened}
+use Rattle.gate_modules.specs.Shortened.{UnitSets, ShortForm, IsShortened}
 use Rattle.gate_modules.specs.declared.ranges.Range.{Range}
 use Rattle.module_text.specs.Ranges.{AreRangesOf}
 
@@ -52,14 +52,14 @@ module_text names units sys trees m =
     (λ set. part_line (labels_text names sys (in_firing_order trees set))) m.sets
 
 -- the line of a short form: its units by number, then the labels of its other events in firing order
-abbrev pub form_text : {V : Type 0} → Naming → List (List ℕ) → System V → List ModeTree → Form → List ℕ
+abbrev pub form_text : {V : Type 0} → Naming → List (List ℕ) → System V → List ModeTree → ShortForm → List ℕ
 form_text names units sys trees form =
     line (braced (map (λ u. unit_mark (text_at units u)) form.units ++ map (label_text names sys)
     (in_firing_order trees form.events)))
 
 -- the lines of modules and short forms, and last how many short forms there are
-abbrev pub short_text : {V : Type 0} → Naming → List (List ℕ) → System V → List ModeTree → List UnitSets → List Form
-    → List ℕ
+abbrev pub short_text : {V : Type 0} → Naming → List (List ℕ) → System V → List ModeTree → List UnitSets → List
+    ShortForm → List ℕ
 short_text names units sys trees modules forms =
     flat_map (module_text names units sys trees)
     modules ++ (flat_map (form_text names units sys trees) forms ++ lines_line (length forms))
@@ -73,7 +73,7 @@ pub record IsModuleText (x : Elaborated) (dropped : List ℕ) (observer : Expr T
   pub ranges : List Range
   pub are_ranges : AreRangesOf x.declarations.model x.declarations.units ranges
   pub modules : List UnitSets
-  pub forms : List Form
+  pub forms : List ShortForm
   pub is_short : IsShortened cuts ranges modules forms
   pub trees : List ModeTree
   pub is_forest : IsForest x.system dropped trees

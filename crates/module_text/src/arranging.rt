@@ -2,7 +2,7 @@
 
 ghost use Rattle.std.specs.Prelude.{◌≡◌, ◌<◌, ◌++◌, ℕ, List, IfOk, OnOk, map, length};
 ghost use Rattle.ar_base.specs.Lists.{Along, IsOneOf};
-ghost use Rattle.gate_modules.specs.Shortened.{numbers};
+ghost use Rattle.gate_modules.specs.Shortened.{event_numbers};
 ghost use Rattle.mode_trees.specs.declared.forests.Edge.{Edge};
 ghost use Rattle.module_text.specs.Arranged.{line_pieces, part_pieces, form_pieces, IsGroupOf};
 ghost use Rattle.module_text.specs.Arranged.{pieces_of, unit_pieces};
@@ -97,7 +97,7 @@ fn line_of(
 ) -> Result<Line, Memory>
     requires { IsOfEdges table.now }
     ensures { (edges : List Edge) → ArePlacesOf edges table.now → IfOk result
-        (λ line. line.pieces.items ≡ line_pieces edges units.now (numbers events.now)) }
+        (λ line. line.pieces.items ≡ line_pieces edges units.now (event_numbers events.now)) }
 {
     let spots = spots_of(alloc, &table.places, events)?;
     let mut pieces = Vec::new(alloc);

@@ -11,7 +11,7 @@ ghost use Rattle.ar_firing.specs.Listed.{AreListed};
 ghost use Rattle.gts_core.specs.declared.system.GtsParts.{GtsParts};
 ghost use Rattle.gts_flatten.specs.Elaborating.{Elaborated};
 ghost use Rattle.hierarchy.specs.Listing.{AreUnits};
-ghost use Rattle.hierarchy.specs.Models.{IsKept};
+ghost use Rattle.hierarchy.specs.Models.{KeepsTextRules};
 ghost use Rattle.hierarchy.specs.Units.{Thing};
 ghost use Rattle.mode_trees.specs.declared.forests.Forest.{Forest as TheForest};
 ghost use Rattle.cut_text.specs.Printed.{things_of, IsForestOf};
@@ -45,6 +45,6 @@ pub fn modules_of_the_source()
 pub fn combinations_are_cuts()
     ensures { (x : Elaborated) (dropped : List ℕ) (observer : Expr Thing) (wanted : Value)
         (text : List ℕ)
-        (t : IsModuleText x dropped observer wanted text) → IsKept x.declarations.model
+        (t : IsModuleText x dropped observer wanted text) → KeepsTextRules x.declarations.model
         → AreUnits x.declarations.model x.declarations.units → StandFor t.cuts t.modules t.forms }
 {}

@@ -5,7 +5,7 @@ ghost use Rattle.ar_base.specs.Lists.{IsOneOf};
 ghost use Rattle.ar_base.specs.Sets.{Ascends};
 ghost use Rattle.cut_text.specs.Printed.{edges_of};
 ghost use Rattle.flow_blocks.specs.Bits.{row_of};
-ghost use Rattle.gate_modules.specs.Shortened.{numbers};
+ghost use Rattle.gate_modules.specs.Shortened.{event_numbers};
 ghost use Rattle.mode_trees.specs.declared.forests.Edge.{Edge as TheEdge};
 ghost use Rattle.module_text.specs.Places.{ArePlacesOf, IsPlaced};
 
@@ -78,7 +78,7 @@ pub(crate) fn spots_of(
 ) -> Result<Vec<usize>, Memory>
     ensures ascends { IfOk result (λ spots. Ascends spots.items) }
     ensures each { IfOk result (λ spots. (p : ℕ)
-        → IsOneOf spots.items p ↔ IsPlaced places.now (numbers events.now) p) }
+        → IsOneOf spots.items p ↔ IsPlaced places.now (event_numbers events.now) p) }
 {
     let mut spots = Vec::new(alloc);
     for event in events {

@@ -7,7 +7,7 @@ use Rattle.ar_base.proofs.Truths.{not_true}
 use Rattle.ar_lexer.specs.declared.token.TokenKind.{TokenKind}
 use Rattle.ar_lexer.proofs.NumberLemmas.{cons_head}
 use Rattle.ar_grammar.specs.declared.lexeme.Lexeme.{Lexeme}
-use Rattle.ar_grammar.specs.Words.{Form, Tokens, kind_or, token, ◌▸◌, nothing, each, separated, groups, concat, standing, StandsAt}
+use Rattle.ar_grammar.specs.Words.{Form, Tokens, kind_or, token, ◌▸◌, nothing, each, separated_by, groups, concat, standing, StandsAt}
 use Rattle.ar_grammar.specs.Results.{kind_at, anything}
 use Rattle.ar_grammar.proofs.Finding.{kind_before, kind_join, token_kind}
 
@@ -197,7 +197,7 @@ pub agree_separated : {X : Type 0} {One : X → Form} {ends ends' : TokenKind �
     (separator : TokenKind) → ((x y : X) → Agree ends (One x) (One y) (R x y)) → ends separator ≡ true
     → ends' separator ≡ false →
     ((k : TokenKind) → ends' k ≡ true → ends k ≡ true) → (xs ys : List X)
-    → Agree ends' (separated separator One xs) (separated separator One ys) (Along R xs ys)
+    → Agree ends' (separated_by separator One xs) (separated_by separator One ys) (Along R xs ys)
 agree_separated separator item e e' w [] ys = record { holds = λ a b rest rest' h k q s s'. elim h [ ] }
 agree_separated separator item e e' w (x ∷ xs) [] = record { holds = λ a b rest rest' h k q s s'. elim k [ ] }
 agree_separated {X} {One} {ends} {ends'} {R} separator item e e' w (x ∷ xs) (y ∷ ys) =

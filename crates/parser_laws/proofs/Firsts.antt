@@ -7,10 +7,10 @@ use Rattle.ar_lexer.specs.declared.words.TheConstants.{BLOCK, BOOLEAN, CLONES, E
 use Rattle.ar_syntax.specs.declared.expressions.RawForm.{RawForm}
 use Rattle.ar_syntax.specs.declared.instructions.Instr.{Instr}
 use Rattle.ar_syntax.specs.declared.members.Member.{Member}
-use Rattle.ar_grammar.specs.Words.{Form, Tokens, kind_or, Has}
-use Rattle.ar_grammar.specs.Expressions.{IsExpr}
-use Rattle.ar_grammar.specs.Instructions.{IsSimpleOf, assign, tie, skip, simple, group, conditional, IsInstr}
-use Rattle.ar_grammar.specs.Members.{plain_token, unread_piece, IsSingle, extends, boolean, clones, embeds, kept_value, parameter, observer, IsSection, IsKeyed, single, block, event, hide, IsMember, keyed, named, IsLater}
+use Rattle.ar_grammar.specs.Words.{Form, Tokens, kind_or, ReadsSome}
+use Rattle.ar_grammar.specs.Expressions.{ReadsExpr}
+use Rattle.ar_grammar.specs.Instructions.{ReadsSimpleOf, assign, tie, skip, simple, group, conditional, ReadsInstr}
+use Rattle.ar_grammar.specs.Members.{plain_token, unread_piece, ReadsSingle, extends, boolean, clones, embeds, kept_value, parameter, observer, ReadsSection, ReadsKeyed, single, block, event, hide, ReadsMember, keyed, named, ReadsLater}
 use Rattle.std.specs.Prelude.{◌==◌}
 use Rattle.std.proofs.lemmas.Bool.{eqb-true, or_right, or_left}
 use Rattle.ar_grammar.specs.Results.{goes_unread, is_name, begins_instr, begins_keyed, begins_member, begins_section, begins_later}
@@ -24,17 +24,17 @@ use Rattle.ar_grammar.proofs.UnreadParts.{plain_kind}
 
 simple_first : (test : TokenKind → Bool) → test Name ≡ true → test (Reserved OWNER) ≡ true → test (Reserved MAIN) ≡ true
     → test (Reserved SKIP) ≡ true → (Expr : RawForm → Form) (i : Instr) (next : TokenKind) (ts : Tokens)
-    → IsSimpleOf Expr i next ts → test (kind_or next ts) ≡ true
+    → ReadsSimpleOf Expr i next ts → test (kind_or next ts) ≡ true
 simple_first test name owner main skips Expr i next ts (assign p e q h) =
     then_first test h (path_first test name owner main p)
 simple_first test name owner main skips Expr i next ts (tie p r q h) =
     then_first test h (path_first test name owner main p)
 simple_first test name owner main skips Expr i next ts (skip q h) = ap test (then_kind h) ∙ skips
 
-pub instr_first : (n : ℕ) (i : Instr) (next : TokenKind) (ts : Tokens) → IsInstr n i next ts
+pub instr_first : (n : ℕ) (i : Instr) (next : TokenKind) (ts : Tokens) → ReadsInstr n i next ts
     → begins_instr (kind_or next ts) ≡ true
 instr_first zero i next ts h = elim h [ ]
-instr_first (suc n) i next ts (simple h) = simple_first begins_instr refl refl refl refl (IsExpr n) i next ts h
+instr_first (suc n) i next ts (simple h) = simple_first begins_instr refl refl refl refl (ReadsExpr n) i next ts h
 instr_first (suc n) i next ts (group h) = ap begins_instr (then_kind h.reads)
 instr_first (suc n) i next ts (conditional h) = ap begins_instr (between_kind h.reads)
 
@@ -42,7 +42,7 @@ instr_first (suc n) i next ts (conditional h) = ap begins_instr (between_kind h.
 
 pub single_first : (test : TokenKind → Bool) → test (Reserved EXTENDS) ≡ true → test (Reserved BOOLEAN) ≡ true
     → test (Reserved CLONES) ≡ true → test (Reserved EMBEDS) ≡ true → test (Reserved PARAMETER) ≡ true
-    → test (Reserved OBSERVER) ≡ true → (n : ℕ) (m : Member) (next : TokenKind) (ts : Tokens) → IsSingle n m next ts
+    → test (Reserved OBSERVER) ≡ true → (n : ℕ) (m : Member) (next : TokenKind) (ts : Tokens) → ReadsSingle n m next ts
     → test (kind_or next ts) ≡ true
 single_first test a b c d g i n m next ts (extends name at e h) = ap test (then_kind h) ∙ a
 single_first test a b c d g i n m next ts (boolean x e) = ap test (boolean_kind x e) ∙ b
@@ -52,7 +52,7 @@ single_first test a b c d g i n m next ts (kept_value name at span e h) = ap tes
 single_first test a b c d g i n m next ts (parameter type name at value e h) = ap test (then_kind h) ∙ g
 single_first test a b c d g i n m next ts (observer type name at value e h) = ap test (then_kind h) ∙ i
 
-pub section_first : (n : ℕ) (next : TokenKind) (ts : Tokens) → Has (IsSection n) next ts
+pub section_first : (n : ℕ) (next : TokenKind) (ts : Tokens) → ReadsSome (ReadsSection n) next ts
     → begins_section (kind_or next ts) ≡ true
 section_first n next ts (ms, inl h) = ap begins_section (then_kind h)
 section_first n next ts (ms, inr h) = ap begins_section (then_kind h)
@@ -61,25 +61,25 @@ keyed_by : (test : TokenKind → Bool) → test (Reserved EXTENDS) ≡ true → 
     → test (Reserved CLONES) ≡ true → test (Reserved EMBEDS) ≡ true → test (Reserved PARAMETER) ≡ true
     → test (Reserved OBSERVER) ≡ true → test (Reserved BLOCK) ≡ true → test (Reserved EVENT) ≡ true
     → test (Reserved HIDE) ≡ true → (n : ℕ) (Body : List Member → Form) (ms : List Member) (next : TokenKind)
-    (ts : Tokens) → IsKeyed n Body ms next ts → test (kind_or next ts) ≡ true
+    (ts : Tokens) → ReadsKeyed n Body ms next ts → test (kind_or next ts) ≡ true
 keyed_by test a b c d g i u v w n Body ms next ts (single m e h) = single_first test a b c d g i n m next ts h
 keyed_by test a b c d g i u v w n Body ms next ts (block x e h) = ap test (then_kind h) ∙ u
 keyed_by test a b c d g i u v w n Body ms next ts (event h) = ap test (then_kind h) ∙ v
 keyed_by test a b c d g i u v w n Body ms next ts (hide h) = ap test (then_kind h) ∙ w
 
-pub keyed_first : (n : ℕ) (Body : List Member → Form) (next : TokenKind) (ts : Tokens) → Has (IsKeyed n Body) next ts
-    → begins_keyed (kind_or next ts) ≡ true
+pub keyed_first : (n : ℕ) (Body : List Member → Form) (next : TokenKind) (ts : Tokens) → ReadsSome (ReadsKeyed n Body)
+    next ts → begins_keyed (kind_or next ts) ≡ true
 keyed_first n Body next ts (ms, h) =
     keyed_by begins_keyed refl refl refl refl refl refl refl refl refl n Body ms next ts h
 
-pub member_first : (n : ℕ) (Body : List Member → Form) (next : TokenKind) (ts : Tokens) → Has (IsMember n Body) next ts
-    → begins_member (kind_or next ts) ≡ true
+pub member_first : (n : ℕ) (Body : List Member → Form) (next : TokenKind) (ts : Tokens) → ReadsSome (ReadsMember n Body)
+    next ts → begins_member (kind_or next ts) ≡ true
 member_first n Body next ts (ms, keyed h) =
     or_right (is_name (kind_or next ts)) (begins_keyed (kind_or next ts)) (keyed_first n Body next ts (ms, h))
 member_first n Body next ts (ms, named m e d id f) = ap begins_member (named_kind id d f)
 
-pub later_first : (n : ℕ) (Body : List Member → Form) (next : TokenKind) (ts : Tokens) → Has (IsLater n Body) next ts
-    → begins_later (kind_or next ts) ≡ true
+pub later_first : (n : ℕ) (Body : List Member → Form) (next : TokenKind) (ts : Tokens) → ReadsSome (ReadsLater n Body)
+    next ts → begins_later (kind_or next ts) ≡ true
 later_first n Body next ts (ms, inl h) =
     or_left (begins_section (kind_or next ts)) (begins_keyed (kind_or next ts)) (section_first n next ts (ms, h))
 later_first n Body next ts (ms, inr h) =

@@ -14,10 +14,10 @@ use Rattle.ar_syntax.specs.declared.expressions.RawExpr.{RawExpr}
 use Rattle.ar_syntax.specs.declared.expressions.RawForm.{RawForm}
 use Rattle.ar_grammar.specs.declared.lexeme.Lexeme.{Lexeme}
 use Rattle.ar_base.specs.Numbers.{NameId}
-use Rattle.ar_grammar.specs.Words.{Form, Tokens, kind_or, token, ◌▸◌, between, each, separated, standing, StandsAt}
-use Rattle.ar_grammar.specs.Paths.{IsName, IsPlacedName, AreNames, IsStart, IsPath}
+use Rattle.ar_grammar.specs.Words.{Form, Tokens, kind_or, token, ◌▸◌, between, each, separated_by, standing, StandsAt}
+use Rattle.ar_grammar.specs.Paths.{ReadsName, ReadsPlacedName, ReadsNames, ReadsStart, ReadsPath}
 use Rattle.ar_grammar.specs.Expressions as tree
-use Rattle.ar_grammar.specs.Expressions.{Node, OneOrMore, IsProduct, IsTerm, AreTerms, IsSum, IsCompare, IsNegation, IsAnd, IsOr, IsIf, IsChoice, IsCase, IsSwitch, AreOperands, IsPrimary, IsMinusOf, IsExpr, IsNot, IsMinus}
+use Rattle.ar_grammar.specs.Expressions.{Node, OneOrMore, ReadsProduct, ReadsTerm, ReadsTerms, ReadsSum, ReadsCompare, ReadsNegation, ReadsAnd, ReadsOr, ReadsIf, ReadsChoice, ReadsCase, ReadsSwitch, ReadsOperands, ReadsPrimary, ReadsMinusOf, ReadsExpr, ReadsNot, ReadsMinus}
 use Rattle.ar_grammar.proofs.ExpressionForms.{then_some, token_some}
 use Rattle.ar_grammar.proofs.MemberParts.{name_some}
 use Rattle.parser_laws.specs.Expressions.{Listed, all, any, product, least, greatest, count, form_of}
@@ -41,10 +41,10 @@ use Rattle.ar_syntax.specs.declared.items.Item.{Item}
 use Rattle.ar_syntax.specs.declared.items.Item.TheVariants as item
 use Rattle.ar_grammar.specs.Words.{groups, concat}
 use Rattle.ar_grammar.specs.Instructions as step
-use Rattle.ar_grammar.specs.Instructions.{IsElse, IsSimpleOf, IsInstr}
+use Rattle.ar_grammar.specs.Instructions.{ReadsElse, ReadsSimpleOf, ReadsInstr}
 use Rattle.ar_grammar.specs.Members as grammar
-use Rattle.ar_grammar.specs.Members.{IsTypeForm, IsType, IsWord, IsSetting, AreSettings, IsAttribute, IsEvent, IsDeclared, IsPart, IsTransition, IsAssertion, IsSection, IsHidden, IsUnit, IsSingle, IsKeyed, IsMember, IsLater, AreSections, IsBodyOf, IsBody}
-use Rattle.ar_grammar.specs.Items.{IsDomainBody, IsItem, AreItems}
+use Rattle.ar_grammar.specs.Members.{ReadsTypeForm, ReadsType, ReadsWord, ReadsSetting, ReadsSettings, ReadsAttribute, ReadsEvent, ReadsDeclared, ReadsPart, ReadsTransition, ReadsAssertion, ReadsSection, ReadsHidden, ReadsUnit, ReadsSingle, ReadsKeyed, ReadsMember, ReadsLater, ReadsSections, ReadsBodyOf, ReadsBody}
+use Rattle.ar_grammar.specs.Items.{ReadsDomainBody, ReadsItem, ReadsItems}
 use Rattle.ar_grammar.proofs.MemberParts.{word_some}
 use Rattle.parser_laws.specs.Keeps.{OptionKeeps, StepKeeps, InstrKeepsTo, InstrKeeps, TypeKeeps, WordKeeps, SettingKeeps, PartKeeps, MemberKeeps, UnitKeepsTo, UnitKeeps, DomainKeeps, ItemKeeps}
 use Rattle.std.proofs.Common.{map}
@@ -55,7 +55,7 @@ use Rattle.ar_base.specs.declared.counts.Count.TheVariants.{Nesting}
 use Rattle.ar_base.specs.Texts.{Interns, known, added}
 use Rattle.ar_lexer.specs.declared.token.TokenKind.TheVariants.{End}
 use Rattle.ar_lexer.specs.Tokens.{end_of_text}
-use Rattle.ar_parser.specs.Models.{token_of, text_of, IsNumbered, AreNumbered}
+use Rattle.ar_parser.specs.Models.{token_of, text_of, IsNumbered, AreNamesNumbered}
 use Rattle.ar_parser.specs.Models as lexing
 use Rattle.ar_parser.proofs.NameLemmas.{front_of}
 use Rattle.parser_laws.specs.Keeps.{TreesKeep}
@@ -64,7 +64,7 @@ use Rattle.parser_laws.specs.Keeps.{TreesKeep}
 abbrev pub Some_of : Form → Type 0
 Some_of A = (next : TokenKind) (ts : Tokens) → A next ts → ts ≡ [] → ⊥
 
-pub some_placed : (x : NameId × Place) → Some_of (IsPlacedName x)
+pub some_placed : (x : NameId × Place) → Some_of (ReadsPlacedName x)
 some_placed x next ts h z = let q : h.one ∷ [] ≡ [] = sym h.alone ∙ z in absurd (cc)
 
 pub some_standing : (at : Place) (A : Form) → Some_of (standing at A)
@@ -96,25 +96,25 @@ pub all_append : {X : Type 0} (P : X → Type 0) (a b : List X) → AllByRecursi
 all_append P [] b f g = g
 all_append P (x ∷ a) b f g = (f.0, all_append P a b f.1 g)
 
-some_simple : (n : ℕ) (i : Instr) → Some_of (IsSimpleOf (IsExpr n) i)
+some_simple : (n : ℕ) (i : Instr) → Some_of (ReadsSimpleOf (ReadsExpr n) i)
 some_simple n i next ts (step.assign p e q h) = some_then _ _ (some_standing p.at _) next ts h
 some_simple n i next ts (step.tie p r q h) = some_then _ _ (some_standing p.at _) next ts h
 some_simple n i next ts (step.skip q h) = some_then _ _ (some_token _) next ts h
 
-some_instr : (n : ℕ) (i : Instr) → Some_of (IsInstr n i)
+some_instr : (n : ℕ) (i : Instr) → Some_of (ReadsInstr n i)
 some_instr zero i next ts h = elim h [ ]
 some_instr (suc n) i next ts (step.simple h) = some_simple n i next ts h
 some_instr (suc n) i next ts (step.group h) = some_then _ _ (some_token _) next ts h.reads
 some_instr (suc n) i next ts (step.conditional h) = some_then _ _ (some_then _ _ (some_token _)) next ts h.reads
 
-some_transition : (n : ℕ) (m : Member) → Some_of (IsTransition n m)
+some_transition : (n : ℕ) (m : Member) → Some_of (ReadsTransition n m)
 some_transition n m next ts (grammar.sync name at parts e h) = some_then _ _ (some_placed (name, at)) next ts h
 some_transition n m next ts (grammar.local name at guard action e h) = some_then _ _ (some_placed (name, at)) next ts h
 
-some_declared : (n : ℕ) (m : Member) → Some_of (IsDeclared n m)
+some_declared : (n : ℕ) (m : Member) → Some_of (ReadsDeclared n m)
 some_declared n m next ts h = some_then _ _ (some_standing h.type.at _) next ts h.reads
 
-some_single : (n : ℕ) (m : Member) → Some_of (IsSingle n m)
+some_single : (n : ℕ) (m : Member) → Some_of (ReadsSingle n m)
 some_single n m next ts (grammar.extends name at e h) = some_then _ _ (some_token _) next ts h
 some_single n m next ts (grammar.boolean h e) = some_declared n m next ts h
 some_single n m next ts (grammar.clones p name at e h) = some_then _ _ (some_token _) next ts h
@@ -123,7 +123,7 @@ some_single n m next ts (grammar.kept_value name at span e h) = some_then _ _ (s
 some_single n m next ts (grammar.parameter type name at value e h) = some_then _ _ (some_token _) next ts h
 some_single n m next ts (grammar.observer type name at value e h) = some_then _ _ (some_token _) next ts h
 
-some_item : (n : ℕ) (x : Item) → Some_of (IsItem n x)
+some_item : (n : ℕ) (x : Item) → Some_of (ReadsItem n x)
 some_item n (item.Domain d) = some_then _ _ (some_token _)
 some_item n (item.Class u) = some_then _ _ (some_token _)
 some_item n (item.Block u) = some_then _ _ (some_token _)
@@ -168,11 +168,11 @@ module _ (names room : ℕ) where
         h.back h.second (fine_back h.front h.back ts h.split f),
   )
 
-  pub keeps_name : (id : NameId) → Keeps (IsName id) (IsNameIn names id)
+  pub keeps_name : (id : NameId) → Keeps (ReadsName id) (IsNameIn names id)
   keeps_name id next ts h f = subst (λ (x : NameId). IsNameIn names x) (sym h.number)
       ((subst (AllByRecursion (λ t. t.kind ≡ Name → t.name.n < names)) h.alone f.named).0 h.of_kind)
 
-  pub keeps_placed : (x : NameId × Place) → Keeps (IsPlacedName x) (IsNameIn names x.0)
+  pub keeps_placed : (x : NameId × Place) → Keeps (ReadsPlacedName x) (IsNameIn names x.0)
   keeps_placed x next ts h f = subst (λ (y : NameId). IsNameIn names y) (sym h.number)
       ((subst (AllByRecursion (λ t. t.kind ≡ Name → t.name.n < names)) h.alone f.named).0 h.of_kind)
 
@@ -192,7 +192,7 @@ module _ (names room : ℕ) where
 
   pub keeps_some : {X : Type 0} (separator : TokenKind) (One : X → Form) (P : X → Type 0) → ((x : X) → Some_of (One x))
       → ((x : X) → Keeps (One x) (P x)) → (xs : List X) (next : TokenKind) (ts : Tokens)
-      → separated separator One xs next ts → Fine ts → (length xs ≤ length ts) × AllByRecursion P xs
+      → separated_by separator One xs next ts → Fine ts → (length xs ≤ length ts) × AllByRecursion P xs
   keeps_some separator One P some keep [] next ts h f = elim h [ ]
   keeps_some separator One P some keep (x ∷ xs) next ts h f =
       let a = keep x (kind_or next h.back) h.front h.first (fine_front h.front h.back ts h.split f) in
@@ -211,13 +211,14 @@ module _ (names room : ℕ) where
   as_list P xs f h = let l = h.0 in let r = f.fits in (omega (arith, l, r), h.1)
 
   pub keeps_list : {X : Type 0} (separator : TokenKind) (One : X → Form) (P : X → Type 0) → ((x : X) → Some_of (One x))
-      → ((x : X) → Keeps (One x) (P x)) → (xs : List X) → Keeps (separated separator One xs) (IsListOf room P xs)
+      → ((x : X) → Keeps (One x) (P x)) → (xs : List X) → Keeps (separated_by separator One xs) (IsListOf room P xs)
   keeps_list separator One P some keep xs next ts h f =
       as_list P xs f (keeps_some separator One P some keep xs next ts h f)
 
-  pub keeps_path : (p : Path) → Keeps (IsPath p) (PathKeeps names room p)
-  keeps_path p next ts h f = (keeps_then (keeps_any (IsStart p.start))
-      (keeps_list (Sign DOT) IsName (IsNameIn names) (λ id. name_some id) keeps_name p.names.items) next ts h.form f).1
+  pub keeps_path : (p : Path) → Keeps (ReadsPath p) (PathKeeps names room p)
+  keeps_path p next ts h f = (keeps_then (keeps_any (ReadsStart p.start))
+      (keeps_list (Sign DOT) ReadsName (IsNameIn names) (λ id. name_some id) keeps_name p.names.items) next ts h.form
+      f).1
 
   -- Expressions
 
@@ -234,7 +235,7 @@ module _ (names room : ℕ) where
 
   module _ (Is : RawForm → Form) (k : (g : RawForm) → Keeps (Is g) (FormOk g)) where
     keeps_nodes : (separator : TokenKind) (xs : List RawExpr) (d : ℕ)
-        → Keeps (separated separator (Node Is) xs) (IsListOf room (ExprKeepsTo names room d) xs)
+        → Keeps (separated_by separator (Node Is) xs) (IsListOf room (ExprKeepsTo names room d) xs)
     keeps_nodes separator xs d = keeps_list separator (Node Is) (ExprKeepsTo names room d) (some_node Is)
         (λ x next ts h f. keeps_node Is k x next ts h f d) xs
 
@@ -244,19 +245,19 @@ module _ (names room : ℕ) where
     keeps_chain l separator f next ts (tree.more v e several h) fine =
         λ d. keeps.listed l v e (keeps_nodes separator v.items d next ts h fine)
 
-    keeps_term : (x : Bool × RawExpr) (d : ℕ) → Keeps (IsTerm Is x) (ExprKeepsTo names room d x.1)
+    keeps_term : (x : Bool × RawExpr) (d : ℕ) → Keeps (ReadsTerm Is x) (ExprKeepsTo names room d x.1)
     keeps_term (plus, e) d next ts h f = (keeps_then (keeps_any (token _)) (keeps_node Is k e) next ts h f).1 d
 
-    some_term : (x : Bool × RawExpr) → Some_of (IsTerm Is x)
+    some_term : (x : Bool × RawExpr) → Some_of (ReadsTerm Is x)
     some_term (plus, e) = some_then (token _) (Node Is e) (some_token _)
 
     keeps_terms : (xs : List (Bool × RawExpr)) (d : ℕ)
-        → Keeps (AreTerms Is xs) (IsListOf room (λ s. ExprKeepsTo names room d s.1) xs)
+        → Keeps (ReadsTerms Is xs) (IsListOf room (λ s. ExprKeepsTo names room d s.1) xs)
     keeps_terms [] d next ts h f = elim h [ ]
     keeps_terms ((plus, e) ∷ xs) d next ts h f =
         let g = h.1 in
         let a = keeps_node Is k e (kind_or next g.back) g.front g.first (fine_front g.front g.back ts g.split f) d in
-        let b = keeps_each (IsTerm Is) (λ s. ExprKeepsTo names room d s.1) some_term (λ x. keeps_term x d) xs next
+        let b = keeps_each (ReadsTerm Is) (λ s. ExprKeepsTo names room d s.1) some_term (λ x. keeps_term x d) xs next
         g.back g.second (fine_back g.front g.back ts g.split f) in
         let s = some_length g.front (some_node Is e (kind_or next g.back) g.front g.first) in
         let l : length ts ≡ length g.front + length g.back = ap length g.split ∙ length-append g.front g.back in
@@ -264,18 +265,18 @@ module _ (names room : ℕ) where
         let r = f.fits in
         (omega (arith, s, l, m, r), (a, b.1))
 
-    keeps_sum : (f : RawForm) → Keeps (IsSum Is f) (FormOk f)
+    keeps_sum : (f : RawForm) → Keeps (ReadsSum Is f) (FormOk f)
     keeps_sum f next ts (tree.one h) fine = k f next ts h fine
     keeps_sum f next ts (tree.more v e several h) fine = λ d. keeps.sum v e (keeps_terms v.items d next ts h fine)
 
-    keeps_compare : (f : RawForm) → Keeps (IsCompare Is f) (FormOk f)
+    keeps_compare : (f : RawForm) → Keeps (ReadsCompare Is f) (FormOk f)
     keeps_compare f next ts (tree.one h) fine = k f next ts h fine
     keeps_compare f next ts (tree.two r x y e h) fine =
         let s = keeps_then (keeps_node Is k x.value) (keeps_then (keeps_any (token _)) (keeps_node Is k y.value)) next
         ts h fine in
         λ d. keeps.compared r x y e (s.0 d) (s.1.1 d)
 
-    keeps_if : (f : RawForm) → Keeps (IsIf Is f) (FormOk f)
+    keeps_if : (f : RawForm) → Keeps (ReadsIf Is f) (FormOk f)
     keeps_if f next ts h fine =
         let s = keeps_then (keeps_then (keeps_any (token _))
         (keeps_then (keeps_node Is k h.test) (keeps_any (token _))))
@@ -289,21 +290,21 @@ module _ (names room : ℕ) where
         (omega (arith, r, t), ((s.0.1.0 d, s.1.0 d), tt))) (s.1.1.1 d)
 
     keeps_case : (x : RawExpr × RawExpr) (d : ℕ)
-        → Keeps (IsCase Is x) (ExprKeepsTo names room d x.0 × ExprKeepsTo names room d x.1)
+        → Keeps (ReadsCase Is x) (ExprKeepsTo names room d x.0 × ExprKeepsTo names room d x.1)
     keeps_case (x, y) d next ts h f =
         let s = keeps_then (keeps_then (keeps_any (token _)) (keeps_then (keeps_node Is k x) (keeps_any (token _))))
         (keeps_node Is k y) next ts h f in
         (s.0.1.0 d, s.1 d)
 
-    some_case : (x : RawExpr × RawExpr) → Some_of (IsCase Is x)
+    some_case : (x : RawExpr × RawExpr) → Some_of (ReadsCase Is x)
     some_case (x, y) = some_then _ _ (some_then _ _ (some_token (Reserved CASE)))
 
-    keeps_switch : (f : RawForm) → Keeps (IsSwitch Is f) (FormOk f)
+    keeps_switch : (f : RawForm) → Keeps (ReadsSwitch Is f) (FormOk f)
     keeps_switch f next ts h fine = λ d.
         let s = keeps_then (keeps_any (token _))
         (keeps_then (keeps_any (token _))
-        (keeps_then {A = each (IsCase Is) h.cases.items}
-        (λ next ts j g. as_list _ _ g (keeps_each (IsCase Is)
+        (keeps_then {A = each (ReadsCase Is) h.cases.items}
+        (λ next ts j g. as_list _ _ g (keeps_each (ReadsCase Is)
         (λ c. ExprKeepsTo names room d c.0 × ExprKeepsTo names room d c.1) some_case (λ x. keeps_case x d)
         h.cases.items next ts j g)) (keeps_then (keeps_any (token _))
         (keeps_then (keeps_any (token _)) (keeps_then (keeps_node Is k h.other.value) (keeps_any (token _)))))))
@@ -311,11 +312,11 @@ module _ (names room : ℕ) where
         keeps.choice h.cases h.other h.is s.1.1.0 (s.1.1.1.1.1.0 d)
 
     keeps_operands : (xs : List RawExpr) (d : ℕ)
-        → Keeps (AreOperands Is xs) (IsListOf room (ExprKeepsTo names room d) xs)
+        → Keeps (ReadsOperands Is xs) (IsListOf room (ExprKeepsTo names room d) xs)
     keeps_operands xs d next ts h f = (keeps_then (keeps_any (token _))
         (keeps_then (keeps_nodes (Sign COMMA) xs d) (keeps_any (token _))) next ts h f).1.0
 
-    keeps_primary : (f : RawForm) → Keeps (IsPrimary Is f) (FormOk f)
+    keeps_primary : (f : RawForm) → Keeps (ReadsPrimary Is f) (FormOk f)
     keeps_primary f next ts (tree.truth e h) fine = λ d. keeps.truth _ e
     keeps_primary f next ts (tree.falsehood e h) fine = λ d. keeps.truth _ e
     keeps_primary f next ts (tree.whole n e h) fine = λ d. keeps.whole n e
@@ -332,38 +333,39 @@ module _ (names room : ℕ) where
     keeps_primary f next ts (tree.switch h) fine = keeps_switch f next ts h fine
 
   mutual
-    expr_keeps : (n : ℕ) (f : RawForm) (next : TokenKind) (ts : Tokens) → IsExpr n f next ts → Fine ts → FormOk f
+    expr_keeps : (n : ℕ) (f : RawForm) (next : TokenKind) (ts : Tokens) → ReadsExpr n f next ts → Fine ts → FormOk f
     expr_keeps zero f next ts h fine = elim h [ ]
     expr_keeps (suc n) f next ts (tree.choice h) fine =
-        keeps_if (IsExpr n) (λ g next ts j x. expr_keeps n g next ts j x) f next ts h fine
+        keeps_if (ReadsExpr n) (λ g next ts j x. expr_keeps n g next ts j x) f next ts h fine
     expr_keeps (suc n) f next ts (tree.plain h) fine =
-        keeps_chain (IsAnd (IsNot n)) (λ g next ts j x. keeps_chain (IsNot n)
+        keeps_chain (ReadsAnd (ReadsNot n)) (λ g next ts j x. keeps_chain (ReadsNot n)
         (λ g next ts j x. not_keeps n g next ts j x) all (Reserved AND) g next ts j x) any (Reserved OR) f next ts h
         fine
 
-    not_keeps : (n : ℕ) (f : RawForm) (next : TokenKind) (ts : Tokens) → IsNot n f next ts → Fine ts → FormOk f
+    not_keeps : (n : ℕ) (f : RawForm) (next : TokenKind) (ts : Tokens) → ReadsNot n f next ts → Fine ts → FormOk f
     not_keeps zero f next ts h fine = elim h [ ]
     not_keeps (suc n) f next ts (tree.negated x e h) fine =
         let s = keeps_then (keeps_any (token _))
-        (keeps_node (IsNot n) (λ g next ts j x. not_keeps n g next ts j x) x.value) next ts h fine in
+        (keeps_node (ReadsNot n) (λ g next ts j x. not_keeps n g next ts j x) x.value) next ts h fine in
         λ d. keeps.negation x e (s.1 d)
     not_keeps (suc n) f next ts (tree.plain h) fine =
-        keeps_compare (IsSum (IsProduct (IsMinus n)))
-        (λ g next ts j x. keeps_sum (IsProduct (IsMinus n))
-        (λ g next ts j x. keeps_chain (IsMinus n) (λ g next ts j x. minus_keeps n g next ts j x) product (Sign STAR) g
+        keeps_compare (ReadsSum (ReadsProduct (ReadsMinus n)))
+        (λ g next ts j x. keeps_sum (ReadsProduct (ReadsMinus n))
+        (λ g next ts j x. keeps_chain (ReadsMinus n) (λ g next ts j x. minus_keeps n g next ts j x) product (Sign STAR)
+        g
         next ts j x) g next ts j x) f next ts h fine
 
-    minus_keeps : (n : ℕ) (f : RawForm) (next : TokenKind) (ts : Tokens) → IsMinus n f next ts → Fine ts → FormOk f
+    minus_keeps : (n : ℕ) (f : RawForm) (next : TokenKind) (ts : Tokens) → ReadsMinus n f next ts → Fine ts → FormOk f
     minus_keeps zero f next ts h fine = elim h [ ]
     minus_keeps (suc n) f next ts (tree.negated x e h) fine =
         let s = keeps_then (keeps_any (token _))
-        (keeps_node (IsMinus n) (λ g next ts j x. minus_keeps n g next ts j x) x.value) next ts h fine in
+        (keeps_node (ReadsMinus n) (λ g next ts j x. minus_keeps n g next ts j x) x.value) next ts h fine in
         λ d. keeps.minus x e (s.1 d)
     minus_keeps (suc n) f next ts (tree.plain h) fine =
-        keeps_primary (IsExpr n) (λ g next ts j x. expr_keeps n g next ts j x) f next ts h fine
+        keeps_primary (ReadsExpr n) (λ g next ts j x. expr_keeps n g next ts j x) f next ts h fine
 
-  pub keeps_expr : (n : ℕ) (e : RawExpr) → Keeps (Node (IsExpr n) e) (ExprKeeps names room e)
-  keeps_expr n = keeps_node (IsExpr n) (λ g next ts h f. expr_keeps n g next ts h f)
+  pub keeps_expr : (n : ℕ) (e : RawExpr) → Keeps (Node (ReadsExpr n) e) (ExprKeeps names room e)
+  keeps_expr n = keeps_node (ReadsExpr n) (λ g next ts h f. expr_keeps n g next ts h f)
 
   -- Instructions
 
@@ -376,11 +378,11 @@ module _ (names room : ℕ) where
 
   keeps_else : (Inner : Instr → Form) → ((i : Instr) → Keeps (Inner i) (InstrKeeps names room i))
       → (no : Option (Box Instr Global))
-      → Keeps (IsElse Inner no) ((d : ℕ) → OptionKeeps (InstrKeepsTo names room d) no)
+      → Keeps (ReadsElse Inner no) ((d : ℕ) → OptionKeeps (InstrKeepsTo names room d) no)
   keeps_else Inner k None next ts h f = λ d. tt
   keeps_else Inner k (Some b) next ts h f = (keeps_then (keeps_any (token _)) (k b.value) next ts h f).1
 
-  instr_keeps : (n : ℕ) (i : Instr) (next : TokenKind) (ts : Tokens) → IsInstr n i next ts → Fine ts
+  instr_keeps : (n : ℕ) (i : Instr) (next : TokenKind) (ts : Tokens) → ReadsInstr n i next ts → Fine ts
       → InstrKeeps names room i
   instr_keeps zero i next ts h f = elim h [ ]
   instr_keeps (suc n) i next ts (step.simple (step.assign p e q h)) f =
@@ -394,50 +396,50 @@ module _ (names room : ℕ) where
   instr_keeps (suc n) i next ts (step.simple (step.skip q h)) f = steps_keep i (λ d. keeps.skip q)
   instr_keeps (suc n) i next ts (step.group h) f = steps_keep i (λ d.
       keeps.group h.instrs h.is (keeps_then (keeps_any (token _))
-      (keeps_then {A = each (IsInstr n) h.instrs.items}
-      (λ next ts j g. as_list _ _ g (keeps_each (IsInstr n) (InstrKeepsTo names room d) (some_instr n)
+      (keeps_then {A = each (ReadsInstr n) h.instrs.items}
+      (λ next ts j g. as_list _ _ g (keeps_each (ReadsInstr n) (InstrKeepsTo names room d) (some_instr n)
       (λ j next ts k g. instr_keeps n j next ts k g d) h.instrs.items next ts j g)) (keeps_any (token _))) next ts
       h.reads f).1.0)
   instr_keeps (suc n) i next ts (step.conditional h) f =
       let s = keeps_then (keeps_then (keeps_any (token _)) (keeps_then (keeps_expr n h.test) (keeps_any (token _))))
-      (keeps_then {A = IsInstr n h.yes.value} {B = IsElse (IsInstr n) h.no}
+      (keeps_then {A = ReadsInstr n h.yes.value} {B = ReadsElse (ReadsInstr n) h.no}
       (λ next ts k g. instr_keeps n h.yes.value next ts k g)
-      (keeps_else (IsInstr n) (λ j next ts k g. instr_keeps n j next ts k g) h.no)) next ts h.reads f in
+      (keeps_else (ReadsInstr n) (λ j next ts k g. instr_keeps n j next ts k g) h.no)) next ts h.reads f in
       steps_keep i (λ d. keeps.conditional h.test h.yes h.no h.is s.0.1.0 (s.1.0 d) (s.1.1 d))
 
   -- Parts of members
 
-  keeps_type : (t : TypeName) → Keeps (IsType t) (TypeKeeps names t.form)
+  keeps_type : (t : TypeName) → Keeps (ReadsType t) (TypeKeeps names t.form)
   keeps_type t next ts h f = by_form t.form h.form
     where
-      by_form : (x : TypeForm) → IsTypeForm x next ts → TypeKeeps names x
+      by_form : (x : TypeForm) → ReadsTypeForm x next ts → TypeKeeps names x
       by_form type_form.Boolean j = tt
       by_form type_form.Integer j = tt
       by_form (type_form.Named id) j = keeps_name id next ts j f
 
-  keeps_word : (w : Word) → Keeps (IsWord w) (WordKeeps names w)
+  keeps_word : (w : Word) → Keeps (ReadsWord w) (WordKeeps names w)
   keeps_word (word.Name id) = keeps_name id
   keeps_word word.Init = keeps_any (token _)
   keeps_word word.Reset = keeps_any (token _)
 
-  keeps_names : (xs : List (NameId × Place)) → Keeps (AreNames xs) (IsListOf room (λ x. IsNameIn names x.0) xs)
-  keeps_names xs = keeps_list (Sign COMMA) IsPlacedName (λ x. IsNameIn names x.0) some_placed keeps_placed xs
+  keeps_names : (xs : List (NameId × Place)) → Keeps (ReadsNames xs) (IsListOf room (λ x. IsNameIn names x.0) xs)
+  keeps_names xs = keeps_list (Sign COMMA) ReadsPlacedName (λ x. IsNameIn names x.0) some_placed keeps_placed xs
 
-  keeps_setting : (n : ℕ) (s : Setting) → Keeps (IsSetting n s) (SettingKeeps names room s)
+  keeps_setting : (n : ℕ) (s : Setting) → Keeps (ReadsSetting n s) (SettingKeeps names room s)
   keeps_setting n s next ts h f =
-      let r = keeps_then {A = standing s.at (separated (Sign DOT) IsWord s.target.items)}
-      (λ next ts j g. keeps_list (Sign DOT) IsWord (WordKeeps names) word_some keeps_word s.target.items next ts
+      let r = keeps_then {A = standing s.at (separated_by (Sign DOT) ReadsWord s.target.items)}
+      (λ next ts j g. keeps_list (Sign DOT) ReadsWord (WordKeeps names) word_some keeps_word s.target.items next ts
       j.form g) (keeps_then (keeps_any (token _)) (keeps_expr n s.value)) next ts h f in
       (r.0, r.1.1)
 
-  keeps_settings : (n : ℕ) (xs : List Setting) → Keeps (AreSettings n xs) (IsListOf room (SettingKeeps names room) xs)
+  keeps_settings : (n : ℕ) (xs : List Setting) → Keeps (ReadsSettings n xs) (IsListOf room (SettingKeeps names room) xs)
   keeps_settings n [] next ts h f = (omega arith, tt)
   keeps_settings n (s ∷ more) next ts h f =
       (keeps_then (keeps_any (token _)) (keeps_then
-      (keeps_list (Sign COMMA) (IsSetting n) (SettingKeeps names room) (λ x. some_then _ _ (some_standing x.at _))
+      (keeps_list (Sign COMMA) (ReadsSetting n) (SettingKeeps names room) (λ x. some_then _ _ (some_standing x.at _))
       (keeps_setting n) (s ∷ more)) (keeps_any (token _))) next ts h f).1.0
 
-  keeps_part : (p : Part) → Keeps (IsPart p) (PartKeeps names room p)
+  keeps_part : (p : Part) → Keeps (ReadsPart p) (PartKeeps names room p)
   keeps_part p next ts h f = (keeps_then (keeps_any (token _)) (keeps_path p.event) next ts h f).1
 
   -- Members, where the units inside pass a test
@@ -445,25 +447,25 @@ module _ (names room : ℕ) where
     abbrev Ok : Member → Type 0
     Ok m = MemberKeeps names room Inside m
 
-    keeps_declared : (n : ℕ) (m : Member) → Keeps (IsDeclared n m) (Ok m)
+    keeps_declared : (n : ℕ) (m : Member) → Keeps (ReadsDeclared n m) (Ok m)
     keeps_declared n m next ts h f =
         let s = keeps_then (keeps_type h.type)
         (keeps_then (keeps_names h.names.items)
         (keeps_then (keeps_settings n h.settings.items) (keeps_any (token _)))) next ts h.reads f in
         keeps.declared h.type h.names h.settings h.is s.0 s.1.0 s.1.1.0
 
-    keeps_event : (n : ℕ) (m : Member) → Keeps (IsEvent n m) (Ok m)
+    keeps_event : (n : ℕ) (m : Member) → Keeps (ReadsEvent n m) (Ok m)
     keeps_event n m next ts h f = keeps.event h.name h.at h.attribute h.is
-        (keeps_then (keeps_placed (h.name, h.at)) (keeps_any (IsAttribute n h.attribute)) next ts h.reads f).0
+        (keeps_then (keeps_placed (h.name, h.at)) (keeps_any (ReadsAttribute n h.attribute)) next ts h.reads f).0
 
-    keeps_hidden : (m : Member) → Keeps (IsHidden m) (Ok m)
+    keeps_hidden : (m : Member) → Keeps (ReadsHidden m) (Ok m)
     keeps_hidden m next ts h f = keeps.hide h.event h.is (keeps_path h.event next ts h.reads f)
 
-    keeps_transition : (n : ℕ) (m : Member) → Keeps (IsTransition n m) (Ok m)
+    keeps_transition : (n : ℕ) (m : Member) → Keeps (ReadsTransition n m) (Ok m)
     keeps_transition n m next ts (grammar.sync name at parts e h) f =
         let s = keeps_then (keeps_placed (name, at))
         (keeps_then (keeps_any (token _))
-        (keeps_then (keeps_list (Sign AMPERSAND) IsPart (PartKeeps names room)
+        (keeps_then (keeps_list (Sign AMPERSAND) ReadsPart (PartKeeps names room)
         (λ p. some_then _ _ (some_token _)) keeps_part parts.items) (keeps_any (token _)))) next ts h f in
         keeps.sync name at parts e s.0 s.1.1.0
     keeps_transition n m next ts (grammar.local name at guard action e h) f =
@@ -472,10 +474,10 @@ module _ (names room : ℕ) where
         (instr_keeps n action)) next ts h f in
         keeps.local name at guard action e s.0 s.1.0.1.0 s.1.1
 
-    keeps_assertion : (n : ℕ) (m : Member) → Keeps (IsAssertion n m) (Ok m)
+    keeps_assertion : (n : ℕ) (m : Member) → Keeps (ReadsAssertion n m) (Ok m)
     keeps_assertion n m next ts h f = keeps.assertion h.i h.is (instr_keeps n h.i next ts h.reads f)
 
-    keeps_single : (n : ℕ) (m : Member) → Keeps (IsSingle n m) (Ok m)
+    keeps_single : (n : ℕ) (m : Member) → Keeps (ReadsSingle n m) (Ok m)
     keeps_single n m next ts (grammar.extends name at e h) f =
         keeps.extends name at e (keeps_then (keeps_any (token _))
         (keeps_then (keeps_placed (name, at)) (keeps_any (token _))) next ts h f).1.0
@@ -544,20 +546,20 @@ module _ (names room : ℕ) where
           all = subst (λ (zs : List Member). AllByRecursion Ok zs) (sym e) (all_append Ok xs ys k.all l.all);
         }
 
-    keeps_section : (n : ℕ) (ms : List Member) (next : TokenKind) (ts : Tokens) → IsSection n ms next ts → Fine ts
+    keeps_section : (n : ℕ) (ms : List Member) (next : TokenKind) (ts : Tokens) → ReadsSection n ms next ts → Fine ts
         → Kept ms ts
     keeps_section n ms next ts (inl h) f =
         kept_behind h.front h.split (kept_pair
-        (keeps_each (IsTransition n) Ok (some_transition n) (keeps_transition n) ms next h.back h.second
+        (keeps_each (ReadsTransition n) Ok (some_transition n) (keeps_transition n) ms next h.back h.second
         (fine_back h.front h.back ts h.split f)))
     keeps_section n ms next ts (inr h) f =
         kept_behind h.front h.split (kept_pair
-        (keeps_each (IsAssertion n) Ok (λ m next ts j. some_instr n j.i next ts j.reads) (keeps_assertion n) ms next
+        (keeps_each (ReadsAssertion n) Ok (λ m next ts j. some_instr n j.i next ts j.reads) (keeps_assertion n) ms next
         h.back h.second (fine_back h.front h.back ts h.split f)))
 
     keeps_listed : (One : Member → Form) → ((m : Member) → Some_of (One m)) → ((m : Member) → Keeps (One m) (Ok m))
         → (opens closes : TokenKind) (ms : List Member) (next : TokenKind) (ts : Tokens)
-        → between opens closes (separated (Sign COMMA) One ms) next ts → Fine ts → Kept ms ts
+        → between opens closes (separated_by (Sign COMMA) One ms) next ts → Fine ts → Kept ms ts
     keeps_listed One some keep opens closes ms next ts h f =
         let g = h.second in
         let b = fine_back h.front h.back ts h.split f in
@@ -565,8 +567,8 @@ module _ (names room : ℕ) where
         (kept_pair (keeps_some (Sign COMMA) One Ok some keep ms (kind_or next g.back) g.front g.first
         (fine_front g.front g.back h.back g.split b))))
 
-    module _ (n : ℕ) (Body : List Member → Form) (keep : (u : UnitTree) → Keeps (IsUnit Body u) (Inside u)) where
-      keeps_keyed : (ms : List Member) (next : TokenKind) (ts : Tokens) → IsKeyed n Body ms next ts → Fine ts
+    module _ (n : ℕ) (Body : List Member → Form) (keep : (u : UnitTree) → Keeps (ReadsUnit Body u) (Inside u)) where
+      keeps_keyed : (ms : List Member) (next : TokenKind) (ts : Tokens) → ReadsKeyed n Body ms next ts → Fine ts
           → Kept ms ts
       keeps_keyed ms next ts (grammar.single m e h) f =
           kept_one m e (keeps_single n m next ts h f) (some_single n m next ts h)
@@ -574,19 +576,21 @@ module _ (names room : ℕ) where
           kept_one _ e (keeps.block u refl (keeps_then (keeps_any (token _)) (keep u) next ts h f).1)
           (some_then _ _ (some_token _) next ts h)
       keeps_keyed ms next ts (grammar.event h) f =
-          keeps_listed (IsEvent n) (λ m next ts j. some_then _ _ (some_placed _) next ts j.reads) (keeps_event n) _ _ ms
+          keeps_listed (ReadsEvent n) (λ m next ts j. some_then _ _ (some_placed _) next ts j.reads) (keeps_event n) _ _
+          ms
           next ts h f
       keeps_keyed ms next ts (grammar.hide h) f =
-          keeps_listed IsHidden (λ m next ts j. some_standing j.event.at _ next ts j.reads) keeps_hidden _ _ ms next ts
+          keeps_listed ReadsHidden (λ m next ts j. some_standing j.event.at _ next ts j.reads) keeps_hidden _ _ ms next
+          ts
           h f
 
-      keeps_member : (ms : List Member) (next : TokenKind) (ts : Tokens) → IsMember n Body ms next ts → Fine ts
+      keeps_member : (ms : List Member) (next : TokenKind) (ts : Tokens) → ReadsMember n Body ms next ts → Fine ts
           → Kept ms ts
       keeps_member ms next ts (grammar.keyed h) f = keeps_keyed ms next ts h f
       keeps_member ms next ts (grammar.named m e h id g) f =
           kept_one m e (keeps_declared n m next ts h f) (some_declared n m next ts h)
 
-      keeps_later : (ms : List Member) (next : TokenKind) (ts : Tokens) → IsLater n Body ms next ts → Fine ts
+      keeps_later : (ms : List Member) (next : TokenKind) (ts : Tokens) → ReadsLater n Body ms next ts → Fine ts
           → Kept ms ts
       keeps_later ms next ts (inl h) f = keeps_section n ms next ts h f
       keeps_later ms next ts (inr h) f = keeps_keyed ms next ts h f
@@ -606,20 +610,20 @@ module _ (names room : ℕ) where
       keeps_groups One k ms next ts h f =
           subst (λ (xs : List Member). Kept xs ts) (sym h.all) (keeps_parts One k h.parts next ts h.are f)
 
-      keeps_sections : (ms : List Member) (next : TokenKind) (ts : Tokens) → AreSections n Body ms next ts → Fine ts
+      keeps_sections : (ms : List Member) (next : TokenKind) (ts : Tokens) → ReadsSections n Body ms next ts → Fine ts
           → Kept ms ts
       keeps_sections ms next ts (grammar.none e h) f =
           subst (λ (xs : List Member). Kept xs ts) (sym e) (record { count = omega arith; all = tt })
       keeps_sections ms next ts (grammar.some xs ys e h) f =
           kept_both e h.split (keeps_section n xs (kind_or next h.back) h.front h.first
           (fine_front h.front h.back ts h.split f))
-          (keeps_groups (IsLater n Body) keeps_later ys next h.back h.second (fine_back h.front h.back ts h.split f))
+          (keeps_groups (ReadsLater n Body) keeps_later ys next h.back h.second (fine_back h.front h.back ts h.split f))
 
-      keeps_body_of : (ms : List Member) (next : TokenKind) (ts : Tokens) → IsBodyOf n Body ms next ts → Fine ts
+      keeps_body_of : (ms : List Member) (next : TokenKind) (ts : Tokens) → ReadsBodyOf n Body ms next ts → Fine ts
           → Kept ms ts
       keeps_body_of ms next ts h f =
           let g = h.reads in
-          kept_both h.all g.split (keeps_groups (IsMember n Body) keeps_member h.xs (kind_or next g.back) g.front
+          kept_both h.all g.split (keeps_groups (ReadsMember n Body) keeps_member h.xs (kind_or next g.back) g.front
           g.first (fine_front g.front g.back ts g.split f))
           (keeps_sections h.ys next g.back g.second (fine_back g.front g.back ts g.split f))
 
@@ -627,7 +631,7 @@ module _ (names room : ℕ) where
 
   unit_keeps : (Body : List Member → Form)
       → ((d : ℕ) (ms : List Member) (next : TokenKind) (ts : Tokens) → Body ms next ts → Fine ts
-      → Kept (UnitKeepsTo names room d) ms ts) → (u : UnitTree) → Keeps (IsUnit Body u) (UnitKeeps names room u)
+      → Kept (UnitKeepsTo names room d) ms ts) → (u : UnitTree) → Keeps (ReadsUnit Body u) (UnitKeeps names room u)
   unit_keeps Body keep u next ts j g = λ d. by_depth d
     where
       by_depth : (d : ℕ) → UnitKeepsTo names room d u
@@ -643,26 +647,26 @@ module _ (names room : ℕ) where
             (omega (arith, c, r), k.all),
           )
 
-  body_keeps : (n d : ℕ) (ms : List Member) (next : TokenKind) (ts : Tokens) → IsBody n ms next ts → Fine ts
+  body_keeps : (n d : ℕ) (ms : List Member) (next : TokenKind) (ts : Tokens) → ReadsBody n ms next ts → Fine ts
       → Kept (UnitKeepsTo names room d) ms ts
   body_keeps zero d ms next ts h f = subst (λ (xs : List Member). Kept (UnitKeepsTo names room d) xs ts) (sym h.0)
       (record { count = omega arith; all = tt })
   body_keeps (suc n) d ms next ts h f =
-      keeps_body_of (UnitKeepsTo names room d) n (IsBody n)
-      (λ u next ts j g. unit_keeps (IsBody n) (λ e ms next ts j g. body_keeps n e ms next ts j g) u next ts j g d) ms
+      keeps_body_of (UnitKeepsTo names room d) n (ReadsBody n)
+      (λ u next ts j g. unit_keeps (ReadsBody n) (λ e ms next ts j g. body_keeps n e ms next ts j g) u next ts j g d) ms
       next ts h f
 
-  keeps_unit : (n : ℕ) (u : UnitTree) → Keeps (IsUnit (IsBody n) u) (UnitKeeps names room u)
-  keeps_unit n = unit_keeps (IsBody n) (body_keeps n)
+  keeps_unit : (n : ℕ) (u : UnitTree) → Keeps (ReadsUnit (ReadsBody n) u) (UnitKeeps names room u)
+  keeps_unit n = unit_keeps (ReadsBody n) (body_keeps n)
 
   -- Items
 
-  keeps_domain_body : (b : DomainBody) → Keeps (IsDomainBody b) (DomainKeeps names room b)
+  keeps_domain_body : (b : DomainBody) → Keeps (ReadsDomainBody b) (DomainKeeps names room b)
   keeps_domain_body (domain.Symbols ids) next ts h f =
       (keeps_then (keeps_any (token _)) (keeps_then (keeps_names ids.items) (keeps_any (token _))) next ts h f).1.0
   keeps_domain_body (domain.Range low high) next ts h f = tt
 
-  keeps_item : (n : ℕ) (x : Item) → Keeps (IsItem n x) (ItemKeeps names room x)
+  keeps_item : (n : ℕ) (x : Item) → Keeps (ReadsItem n x) (ItemKeeps names room x)
   keeps_item n (item.Domain d) next ts h f =
       let s = keeps_then (keeps_any (token _))
       (keeps_then (keeps_placed (d.name, d.at)) (keeps_then (keeps_domain_body d.body) (keeps_any _))) next ts h
@@ -671,11 +675,11 @@ module _ (names room : ℕ) where
   keeps_item n (item.Class u) next ts h f = (keeps_then (keeps_any (token _)) (keeps_unit n u) next ts h f).1
   keeps_item n (item.Block u) next ts h f = (keeps_then (keeps_any (token _)) (keeps_unit n u) next ts h f).1
 
-  pub keeps_items : (n : ℕ) (xs : List Item) → Keeps (AreItems n xs) (IsListOf room (ItemKeeps names room) xs)
+  pub keeps_items : (n : ℕ) (xs : List Item) → Keeps (ReadsItems n xs) (IsListOf room (ItemKeeps names room) xs)
   keeps_items n [] next ts h f = elim h [ ]
   keeps_items n (x ∷ xs) next ts h f =
       as_list (ItemKeeps names room) (x ∷ xs) f
-      (keeps_each (IsItem n) (ItemKeeps names room) (some_item n) (keeps_item n) (x ∷ xs) next ts h f)
+      (keeps_each (ReadsItem n) (ItemKeeps names room) (some_item n) (keeps_item n) (x ∷ xs) next ts h f)
 
 -- Texts
 
@@ -688,7 +692,7 @@ numbered_more bytes old new l (lexing.name k i s) = by_case new i
     by_case new (added h) = let n = length-append old (text_of bytes l ∷ []) in omega (arith, n)
 numbered_more bytes old new l (lexing.other k e z) = let n : length new ≡ length old = ap length e in omega (arith, n)
 
-numbers_more : (bytes : List ℕ) (old new : List (List ℕ)) (ls : Tokens) → AreNumbered bytes old ls new
+numbers_more : (bytes : List ℕ) (old new : List (List ℕ)) (ls : Tokens) → AreNamesNumbered bytes old ls new
     → length old ≤ length new
 numbers_more bytes old new [] h = let n : length new ≡ length old = ap length h in omega (arith, n)
 numbers_more bytes old new (l ∷ ls) (mid, h, more) =
@@ -696,7 +700,7 @@ numbers_more bytes old new (l ∷ ls) (mid, h, more) =
     let b = numbers_more bytes mid new ls more in
     omega (arith, a, b)
 
-numbers_within : (bytes : List ℕ) (old new : List (List ℕ)) (ls : Tokens) → AreNumbered bytes old ls new
+numbers_within : (bytes : List ℕ) (old new : List (List ℕ)) (ls : Tokens) → AreNamesNumbered bytes old ls new
     → AllByRecursion (λ t. t.kind ≡ Name → t.name.n < length new) ls
 numbers_within bytes old new [] h = tt
 numbers_within bytes old new (l ∷ ls) (mid, h, more) = (by_case h, numbers_within bytes mid new ls more)

@@ -20,9 +20,9 @@ use Rattle.ar_syntax.specs.declared.members.Unit.{Unit as UnitTree}
 use Rattle.ar_base.specs.Numbers.{NameId}
 use Rattle.ar_base.proofs.Truths.{not_true}
 use Rattle.ar_grammar.specs.Words.{Form, Tokens, kind_or, token, ◌▸◌, between, groups, covering}
-use Rattle.ar_grammar.specs.Paths.{IsPlacedName, IsPath}
-use Rattle.ar_grammar.specs.Expressions.{Node, IsExpr}
-use Rattle.ar_grammar.specs.Members.{IsTypeForm, IsType, IsEvent, IsDeclared, IsTransition, IsAssertion, IsSection, IsHidden, IsUnit, IsSingle, extends, boolean, clones, embeds, kept_value, parameter, observer, IsKeyed, single, block, event, hide, IsMember, keyed, named, IsLater, AreSections, some, IsBodyOf, IsBody, kept}
+use Rattle.ar_grammar.specs.Paths.{ReadsPlacedName, ReadsPath}
+use Rattle.ar_grammar.specs.Expressions.{Node, ReadsExpr}
+use Rattle.ar_grammar.specs.Members.{ReadsTypeForm, ReadsType, ReadsEvent, ReadsDeclared, ReadsTransition, ReadsAssertion, ReadsSection, ReadsHidden, ReadsUnit, ReadsSingle, extends, boolean, clones, embeds, kept_value, parameter, observer, ReadsKeyed, single, block, event, hide, ReadsMember, keyed, named, ReadsLater, ReadsSections, some, ReadsBodyOf, ReadsBody, kept}
 use Rattle.ar_grammar.specs.Members as grammar
 use Rattle.ar_grammar.specs.Results.{kind_at, anything, is_word, ends_path, ends_attribute, ends_semicolon, ends_body, ends_members, ends_section, begins_instr, begins_keyed, begins_section, begins_later}
 use Rattle.ar_grammar.proofs.Finding.{fails, token_kind, then_kind, kind_join}
@@ -41,7 +41,7 @@ use Rattle.parser_laws.proofs.OneMember.{every, agree_type, agree_declared, agre
 -- Clauses of one member
 
 -- the word that a clause begins with
-abbrev word_of : {n : ℕ} {m : Member} {next : TokenKind} {ts : Tokens} → IsSingle n m next ts → ℕ
+abbrev word_of : {n : ℕ} {m : Member} {next : TokenKind} {ts : Tokens} → ReadsSingle n m next ts → ℕ
 word_of (extends name at u h) = words.EXTENDS
 word_of (boolean h e) = words.BOOLEAN
 word_of (clones p name at u h) = words.CLONES
@@ -50,14 +50,14 @@ word_of (kept_value name at span u h) = words.PARAMETER
 word_of (parameter t name at e u h) = words.PARAMETER
 word_of (observer t name at e u h) = words.OBSERVER
 
-boolean_kind : {n : ℕ} {m : Member} {next : TokenKind} {ts : Tokens} → (h : IsDeclared n m next ts)
+boolean_kind : {n : ℕ} {m : Member} {next : TokenKind} {ts : Tokens} → (h : ReadsDeclared n m next ts)
     → h.type.form ≡ type_form.Boolean → kind_or next ts ≡ Reserved words.BOOLEAN
 boolean_kind {next = next} h e =
     ap (kind_or next) h.reads.split ∙ kind_join h.reads.front h.reads.back next
-    ∙ token_kind (subst (λ (f : TypeForm). IsTypeForm f (kind_or next h.reads.back) h.reads.front) e
+    ∙ token_kind (subst (λ (f : TypeForm). ReadsTypeForm f (kind_or next h.reads.back) h.reads.front) e
     h.reads.first.form)
 
-single_kind : {n : ℕ} {m : Member} {next : TokenKind} {ts : Tokens} → (h : IsSingle n m next ts)
+single_kind : {n : ℕ} {m : Member} {next : TokenKind} {ts : Tokens} → (h : ReadsSingle n m next ts)
     → kind_or next ts ≡ Reserved (word_of h)
 single_kind (extends name at u h) = then_kind h
 single_kind (boolean h e) = boolean_kind h e
@@ -72,7 +72,7 @@ word_in v w e = cc
 
 -- what stands behind the word of a valued clause
 abbrev valued : ℕ → TypeName → (NameId × Place) → RawExpr → Form
-valued n t x e = IsType t ▸ IsPlacedName x ▸ between (Sign EQUALS) (Sign SEMICOLON) (Node (IsExpr n) e)
+valued n t x e = ReadsType t ▸ ReadsPlacedName x ▸ between (Sign EQUALS) (Sign SEMICOLON) (Node (ReadsExpr n) e)
 
 agree_valued : (n : ℕ) (t u : TypeName) (x y : NameId × Place) (e g : RawExpr)
     → Agree anything (valued n t x e) (valued n u y g) ((t ≡ u) × ((x ≡ y) × SameExpr e g))
@@ -80,7 +80,8 @@ agree_valued n t u x y e g = agree_next (agree_type t u)
     (agree_next (agree_placed x y) (agree_between (agree_expr n e g) refl))
 
 abbrev aliased : ℕ → Path → (NameId × Place) → Form
-aliased word p x = token (Reserved word) ▸ IsPath p ▸ between (Reserved words.AS) (Sign SEMICOLON) (IsPlacedName x)
+aliased word p x = token (Reserved word) ▸ ReadsPath p ▸ between (Reserved words.AS) (Sign SEMICOLON)
+    (ReadsPlacedName x)
 
 agree_aliased : (word : ℕ) (p q : Path) (x y : NameId × Place)
     → Agree anything (aliased word p x) (aliased word q y) (SamePath p q × (x ≡ y))
@@ -89,7 +90,7 @@ agree_aliased word p q x y =
     (first_front (first_token refl)) (agree_between {ends = anything} (agree_placed x y) refl))) (λ r. r.1)
 
 abbrev kept_form : ℕ → (NameId × Place) → Span → Form
-kept_form n x span = token (Reserved words.PARAMETER) ▸ token (Reserved words.REAL) ▸ IsPlacedName x ▸ between
+kept_form n x span = token (Reserved words.PARAMETER) ▸ token (Reserved words.REAL) ▸ ReadsPlacedName x ▸ between
     (Sign EQUALS) (Sign SEMICOLON) (covering span (kept n))
 
 agree_kept_form : (n : ℕ) (x y : NameId × Place) (s t : Span)
@@ -98,10 +99,10 @@ agree_kept_form n x y s t = agree_map
     (agree_next agree_token (agree_next agree_token
     (agree_next (agree_placed x y) (agree_between (agree_covering (agree_kept n) s t) refl)))) (λ r. r.1.1)
 
-type_first : (t : TypeName) → First (IsType t) anything (other (is_word words.REAL))
+type_first : (t : TypeName) → First (ReadsType t) anything (other (is_word words.REAL))
 type_first t = record { holds = λ next ts h s. by_form t.form next ts h.form }
   where
-    by_form : (f : TypeForm) (next : TokenKind) (ts : Tokens) → IsTypeForm f next ts
+    by_form : (f : TypeForm) (next : TokenKind) (ts : Tokens) → ReadsTypeForm f next ts
         → other (is_word words.REAL) (kind_or next ts) ≡ true
     by_form type_form.Boolean next ts h = ap (other (is_word words.REAL)) (token_kind h)
     by_form type_form.Integer next ts h = ap (other (is_word words.REAL)) (token_kind h)
@@ -115,8 +116,9 @@ kept_apart n x y s t e =
     (first_front (first_token refl)) (first_front (type_first t)) (λ k p q. not_true (is_word words.REAL k) q p)))
     (λ r. r.1)
 
-single_case : (n : ℕ) (m m' : Member) (a b rest rest' : Tokens) (h : IsSingle n m (kind_at rest) a)
-    (k : IsSingle n m' (kind_at rest') b) → a ++ rest ≡ b ++ rest' → word_of h ≡ word_of k → SameMember m m' × (a ≡ b)
+single_case : (n : ℕ) (m m' : Member) (a b rest rest' : Tokens) (h : ReadsSingle n m (kind_at rest) a)
+    (k : ReadsSingle n m' (kind_at rest') b) → a ++ rest ≡ b ++ rest' → word_of h ≡ word_of k
+    → SameMember m m' × (a ≡ b)
 single_case n m m' a b rest rest' (extends name at u h) (extends name' at' u' k) e t =
     let r = (agree_between {ends = anything} {ends' = anything} (agree_placed (name, at) (name', at')) refl).holds a b
     rest rest' h k e refl refl in
@@ -163,7 +165,7 @@ single_case n m m' a b rest rest' (observer t name at v u h) (observer t' name' 
     )
 single_case n m m' a b rest rest' h k e t = absurd (omega (arith, t))
 
-agree_single : (n : ℕ) (m m' : Member) → Agree anything (IsSingle n m) (IsSingle n m') (SameMember m m')
+agree_single : (n : ℕ) (m m' : Member) → Agree anything (ReadsSingle n m) (ReadsSingle n m') (SameMember m m')
 agree_single n m m' = record {
   holds = λ a b rest rest' h k e s s'. single_case n m m' a b rest rest' h k e
       (word_in (word_of h) (word_of k) (sym (single_kind h) ∙ meet a b rest rest' e ∙ single_kind k));
@@ -176,7 +178,7 @@ pub record OneBody (Body : List Member → Form) : Type 0 where
   pub agree : (xs ys : List Member) → Agree ends_body (Body xs) (Body ys) (Along SameMember xs ys)
 
 pub agree_unit : {Body : List Member → Form} → OneBody Body → (u w : UnitTree)
-    → Agree anything (IsUnit Body u) (IsUnit Body w) (SameUnit u w)
+    → Agree anything (ReadsUnit Body u) (ReadsUnit Body w) (SameUnit u w)
 agree_unit o u w = agree_map (agree_next (agree_placed (u.name, u.at) (w.name, w.at))
     (agree_closed (o.agree u.members.items w.members.items) refl refl))
     (λ r. record {
@@ -200,7 +202,7 @@ abbrev tag_of : TokenKind → ℕ
 tag_of (Reserved w) = if w == words.BLOCK then 1 else if w == words.EVENT then 2 else if w == words.HIDE then 3 else 0
 tag_of _ = 0
 
-single_tag : {n : ℕ} {m : Member} {next : TokenKind} {ts : Tokens} → (h : IsSingle n m next ts)
+single_tag : {n : ℕ} {m : Member} {next : TokenKind} {ts : Tokens} → (h : ReadsSingle n m next ts)
     → tag_of (Reserved (word_of h)) ≡ 0
 single_tag (extends name at u h) = refl
 single_tag (boolean h e) = refl
@@ -210,22 +212,22 @@ single_tag (kept_value name at span u h) = refl
 single_tag (parameter t name at e u h) = refl
 single_tag (observer t name at e u h) = refl
 
-named_kind : {n : ℕ} {m : Member} {next : TokenKind} {ts : Tokens} → (h : IsDeclared n m next ts) → (id : NameId)
+named_kind : {n : ℕ} {m : Member} {next : TokenKind} {ts : Tokens} → (h : ReadsDeclared n m next ts) → (id : NameId)
     → h.type.form ≡ type_form.Named id → kind_or next ts ≡ Name
 named_kind {next = next} h id e =
-    let front : IsTypeForm (type_form.Named id) (kind_or next h.reads.back) h.reads.front =
-    subst (λ (f : TypeForm). IsTypeForm f (kind_or next h.reads.back) h.reads.front) e h.reads.first.form in
+    let front : ReadsTypeForm (type_form.Named id) (kind_or next h.reads.back) h.reads.front =
+    subst (λ (f : TypeForm). ReadsTypeForm f (kind_or next h.reads.back) h.reads.front) e h.reads.first.form in
     ap (kind_or next) h.reads.split ∙ kind_join h.reads.front h.reads.back next
     ∙ ap (kind_or (kind_or next h.reads.back)) front.alone ∙ front.of_kind
 
 module _ (n : ℕ) {Body : List Member → Form} (o : OneBody Body) where
-  abbrev keyed_tag : {ms : List Member} {next : TokenKind} {ts : Tokens} → IsKeyed n Body ms next ts → ℕ
+  abbrev keyed_tag : {ms : List Member} {next : TokenKind} {ts : Tokens} → ReadsKeyed n Body ms next ts → ℕ
   keyed_tag (single m u h) = 0
   keyed_tag (block w u h) = 1
   keyed_tag (event h) = 2
   keyed_tag (hide h) = 3
 
-  keyed_tagged : {ms : List Member} {next : TokenKind} {ts : Tokens} → (h : IsKeyed n Body ms next ts)
+  keyed_tagged : {ms : List Member} {next : TokenKind} {ts : Tokens} → (h : ReadsKeyed n Body ms next ts)
       → tag_of (kind_or next ts) ≡ keyed_tag h
   keyed_tagged (single m u h) = ap tag_of (single_kind h) ∙ single_tag h
   keyed_tagged (block w u h) = ap tag_of (then_kind h)
@@ -238,8 +240,8 @@ module _ (n : ℕ) {Body : List Member → Form} (o : OneBody Body) where
   semicolon_path : (k : TokenKind) → ends_semicolon k ≡ true → ends_path k ≡ true
   semicolon_path k h = ap ends_path (sign_from SEMICOLON k h)
 
-  keyed_case : (xs ys : List Member) (a b rest rest' : Tokens) (h : IsKeyed n Body xs (kind_at rest) a)
-      (k : IsKeyed n Body ys (kind_at rest') b) → a ++ rest ≡ b ++ rest' → keyed_tag h ≡ keyed_tag k
+  keyed_case : (xs ys : List Member) (a b rest rest' : Tokens) (h : ReadsKeyed n Body xs (kind_at rest) a)
+      (k : ReadsKeyed n Body ys (kind_at rest') b) → a ++ rest ≡ b ++ rest' → keyed_tag h ≡ keyed_tag k
       → Along SameMember xs ys × (a ≡ b)
   keyed_case xs ys a b rest rest' (single m u h) (single m' u' k) e t =
       let r = (agree_single n m m').holds a b rest rest' h k e refl refl in (along_single u u' r.0, r.1)
@@ -254,19 +256,20 @@ module _ (n : ℕ) {Body : List Member → Form} (o : OneBody Body) where
       semicolon_path xs ys) refl).holds a b rest rest' h k e refl refl
   keyed_case xs ys a b rest rest' h k e t = absurd (omega (arith, t))
 
-  agree_keyed : (xs ys : List Member) → Agree anything (IsKeyed n Body xs) (IsKeyed n Body ys) (Along SameMember xs ys)
+  agree_keyed : (xs ys : List Member) → Agree anything (ReadsKeyed n Body xs) (ReadsKeyed n Body ys)
+      (Along SameMember xs ys)
   agree_keyed xs ys = record {
     holds = λ a b rest rest' h k e s s'. keyed_case xs ys a b rest rest' h k e
         (sym (keyed_tagged h) ∙ ap tag_of (meet a b rest rest' e) ∙ keyed_tagged k);
   }
 
-  first_keyed : (xs : List Member) → First (IsKeyed n Body xs) anything begins_keyed
+  first_keyed : (xs : List Member) → First (ReadsKeyed n Body xs) anything begins_keyed
   first_keyed xs = record { holds = λ next ts h s. keyed_first n Body next ts (xs, h) }
 
   -- Members
 
-  member_case : (xs ys : List Member) (a b rest rest' : Tokens) → IsMember n Body xs (kind_at rest) a
-      → IsMember n Body ys (kind_at rest') b → a ++ rest ≡ b ++ rest' → Along SameMember xs ys × (a ≡ b)
+  member_case : (xs ys : List Member) (a b rest rest' : Tokens) → ReadsMember n Body xs (kind_at rest) a
+      → ReadsMember n Body ys (kind_at rest') b → a ++ rest ≡ b ++ rest' → Along SameMember xs ys × (a ≡ b)
   member_case xs ys a b rest rest' (keyed h) (keyed k) e = (agree_keyed xs ys).holds a b rest rest' h k e refl refl
   member_case xs ys a b rest rest' (keyed h) (named m u k id i) e =
       fails begins_keyed ((first_keyed xs).holds (kind_at rest) a h refl) (meet a b rest rest' e ∙ named_kind k id i)
@@ -278,7 +281,7 @@ module _ (n : ℕ) {Body : List Member → Form} (o : OneBody Body) where
       let r = (agree_declared n m m').holds a b rest rest' h k e refl refl in (along_single u u' r.0, r.1)
 
   agree_member : (xs ys : List Member)
-      → Agree anything (IsMember n Body xs) (IsMember n Body ys) (Along SameMember xs ys)
+      → Agree anything (ReadsMember n Body xs) (ReadsMember n Body ys) (Along SameMember xs ys)
   agree_member xs ys = record { holds = λ a b rest rest' h k e s s'. member_case xs ys a b rest rest' h k e }
 
   -- Sections
@@ -287,18 +290,18 @@ module _ (n : ℕ) {Body : List Member → Form} (o : OneBody Body) where
   no_step k h = not_both (begins_instr k) (ends_section k)
       (λ x y. not_true (begins_instr k) (section_ends_assertions k y) x) h
 
-  transition_first : (m : Member) → First (IsTransition n m) anything (other ends_section)
+  transition_first : (m : Member) → First (ReadsTransition n m) anything (other ends_section)
   transition_first m = record { holds = λ next ts h s. by_case next ts h }
     where
-      by_case : (next : TokenKind) (ts : Tokens) → IsTransition n m next ts
+      by_case : (next : TokenKind) (ts : Tokens) → ReadsTransition n m next ts
           → other ends_section (kind_or next ts) ≡ true
       by_case next ts (grammar.sync name at v u h) =
           (first_front {ends = anything} (placed_first (other ends_section) refl (name, at))).holds next ts h refl
       by_case next ts (grammar.local name at g i u h) =
           (first_front {ends = anything} (placed_first (other ends_section) refl (name, at))).holds next ts h refl
 
-  section_case : (xs ys : List Member) (a b rest rest' : Tokens) → IsSection n xs (kind_at rest) a
-      → IsSection n ys (kind_at rest') b → a ++ rest ≡ b ++ rest' → ends_section (kind_at rest) ≡ true
+  section_case : (xs ys : List Member) (a b rest rest' : Tokens) → ReadsSection n xs (kind_at rest) a
+      → ReadsSection n ys (kind_at rest') b → a ++ rest ≡ b ++ rest' → ends_section (kind_at rest) ≡ true
       → ends_section (kind_at rest') ≡ true → Along SameMember xs ys × (a ≡ b)
   section_case xs ys a b rest rest' (inl h) (inl k) e s s' =
       let r = (agree_next (agree_token {ends = anything})
@@ -320,7 +323,8 @@ module _ (n : ℕ) {Body : List Member → Form} (o : OneBody Body) where
       (λ k t. refl) xs ys)).holds a b rest rest' h k e s s' in
       (r.0.1, r.1)
 
-  agree_section : (xs ys : List Member) → Agree ends_section (IsSection n xs) (IsSection n ys) (Along SameMember xs ys)
+  agree_section : (xs ys : List Member) → Agree ends_section (ReadsSection n xs) (ReadsSection n ys)
+      (Along SameMember xs ys)
   agree_section xs ys = record { holds = section_case xs ys }
 
   section_keyed : (k : TokenKind) → begins_section k ≡ true → begins_keyed k ≡ true → ⊥
@@ -329,11 +333,11 @@ module _ (n : ℕ) {Body : List Member → Form} (o : OneBody Body) where
     | inr e ↦ fails begins_keyed g (word_from words.ASSERTION k e) refl
   ]
 
-  first_section : {ends : TokenKind → Bool} (xs : List Member) → First (IsSection n xs) ends begins_section
+  first_section : {ends : TokenKind → Bool} (xs : List Member) → First (ReadsSection n xs) ends begins_section
   first_section xs = record { holds = λ next ts h s. section_first n next ts (xs, h) }
 
-  later_case : (xs ys : List Member) (a b rest rest' : Tokens) → IsLater n Body xs (kind_at rest) a
-      → IsLater n Body ys (kind_at rest') b → a ++ rest ≡ b ++ rest' → ends_section (kind_at rest) ≡ true
+  later_case : (xs ys : List Member) (a b rest rest' : Tokens) → ReadsLater n Body xs (kind_at rest) a
+      → ReadsLater n Body ys (kind_at rest') b → a ++ rest ≡ b ++ rest' → ends_section (kind_at rest) ≡ true
       → ends_section (kind_at rest') ≡ true → Along SameMember xs ys × (a ≡ b)
   later_case xs ys a b rest rest' (inl h) (inl k) e s s' = (agree_section xs ys).holds a b rest rest' h k e s s'
   later_case xs ys a b rest rest' (inl h) (inr k) e s s' =
@@ -345,16 +349,16 @@ module _ (n : ℕ) {Body : List Member → Form} (o : OneBody Body) where
   later_case xs ys a b rest rest' (inr h) (inr k) e s s' = (agree_keyed xs ys).holds a b rest rest' h k e refl refl
 
   agree_later : (xs ys : List Member)
-      → Agree ends_section (IsLater n Body xs) (IsLater n Body ys) (Along SameMember xs ys)
+      → Agree ends_section (ReadsLater n Body xs) (ReadsLater n Body ys) (Along SameMember xs ys)
   agree_later xs ys = record { holds = later_case xs ys }
 
-  later_fits : (xs : List Member) → First (IsLater n Body xs) anything ends_section
+  later_fits : (xs : List Member) → First (ReadsLater n Body xs) anything ends_section
   later_fits xs = record {
     holds = λ next ts h s. or_left (begins_later (kind_or next ts))
         (is_word words.END (kind_or next ts)) (later_first n Body next ts (xs, h));
   }
 
-  later_starts : (xs : List Member) → First (IsLater n Body xs) anything (other ends_body)
+  later_starts : (xs : List Member) → First (ReadsLater n Body xs) anything (other ends_body)
   later_starts xs = record {
     holds = λ next ts h s. ap not
         (later_open (kind_or next ts) (later_first n Body next ts (xs, h)));
@@ -363,11 +367,11 @@ module _ (n : ℕ) {Body : List Member → Form} (o : OneBody Body) where
   body_section : (k : TokenKind) → ends_body k ≡ true → ends_section k ≡ true
   body_section k h = or_right (begins_later k) (is_word words.END k) h
 
-  groups_first : (ys : List Member) → First (groups (IsLater n Body) ys) ends_body ends_section
+  groups_first : (ys : List Member) → First (groups (ReadsLater n Body) ys) ends_body ends_section
   groups_first ys = record { holds = λ next ts h s. (first_each later_fits body_section h.parts).holds next ts h.are s }
 
-  sections_case : (xs ys : List Member) (a b rest rest' : Tokens) → AreSections n Body xs (kind_at rest) a
-      → AreSections n Body ys (kind_at rest') b → a ++ rest ≡ b ++ rest' → ends_body (kind_at rest) ≡ true
+  sections_case : (xs ys : List Member) (a b rest rest' : Tokens) → ReadsSections n Body xs (kind_at rest) a
+      → ReadsSections n Body ys (kind_at rest') b → a ++ rest ≡ b ++ rest' → ends_body (kind_at rest) ≡ true
       → ends_body (kind_at rest') ≡ true → Along SameMember xs ys × (a ≡ b)
   sections_case xs ys a b rest rest' (grammar.none u h) (grammar.none u' k) e s s' = (
     subst (λ (zs : List Member). Along SameMember zs ys) (sym u)
@@ -391,7 +395,7 @@ module _ (n : ℕ) {Body : List Member → Form} (o : OneBody Body) where
       )
 
   agree_sections : (xs ys : List Member)
-      → Agree ends_body (AreSections n Body xs) (AreSections n Body ys) (Along SameMember xs ys)
+      → Agree ends_body (ReadsSections n Body xs) (ReadsSections n Body ys) (Along SameMember xs ys)
   agree_sections xs ys = record { holds = sections_case xs ys }
 
   -- Bodies
@@ -399,23 +403,23 @@ module _ (n : ℕ) {Body : List Member → Form} (o : OneBody Body) where
   body_members : (k : TokenKind) → ends_body k ≡ true → ends_members k ≡ true
   body_members k h = or_right (begins_section k) (is_word words.END k) h
 
-  sections_first : (ys : List Member) → First (AreSections n Body ys) ends_body ends_members
+  sections_first : (ys : List Member) → First (ReadsSections n Body ys) ends_body ends_members
   sections_first ys = record { holds = λ next ts h s. by_case next ts h s }
     where
-      by_case : (next : TokenKind) (ts : Tokens) → AreSections n Body ys next ts → ends_body next ≡ true
+      by_case : (next : TokenKind) (ts : Tokens) → ReadsSections n Body ys next ts → ends_body next ≡ true
           → ends_members (kind_or next ts) ≡ true
       by_case next ts (grammar.none u h) s = (first_nothing body_members).holds next ts h s
       by_case next ts (some us ws u h) s =
           or_left (begins_section (kind_or next ts)) (is_word words.END (kind_or next ts))
           ((first_front {ends = anything} (first_section us)).holds next ts h refl)
 
-  member_starts : (xs : List Member) → First (IsMember n Body xs) anything (other ends_members)
+  member_starts : (xs : List Member) → First (ReadsMember n Body xs) anything (other ends_members)
   member_starts xs = record {
     holds = λ next ts h s. ap not
         (member_open (kind_or next ts) (member_first n Body next ts (xs, h)));
   }
 
-  pub body_inside : OneBody (IsBodyOf n Body)
+  pub body_inside : OneBody (ReadsBodyOf n Body)
   body_inside = record {
     agree = λ xs ys. record {
       holds = λ a b rest rest' h k e s s'.
@@ -430,7 +434,7 @@ module _ (n : ℕ) {Body : List Member → Form} (o : OneBody Body) where
     };
   }
 
-pub one_body : (n : ℕ) → OneBody (IsBody n)
+pub one_body : (n : ℕ) → OneBody (ReadsBody n)
 one_body zero = record {
   agree = λ xs ys. record {
     holds = λ a b rest rest' h k e s s'. (

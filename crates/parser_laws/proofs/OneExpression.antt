@@ -15,8 +15,8 @@ use Rattle.ar_syntax.specs.declared.expressions.RawForm.{RawForm}
 use Rattle.ar_syntax.specs.declared.expressions.RawForm.TheVariants as form
 use Rattle.ar_syntax.specs.declared.expressions.RawRelation.{RawRelation}
 use Rattle.ar_syntax.specs.declared.expressions.RawRelation.TheVariants as relation
-use Rattle.ar_grammar.specs.Words.{Form, Tokens, kind_or, token, ◌▸◌, separated, between, StandsAt, Covers}
-use Rattle.ar_grammar.specs.Expressions.{Node, OneOrMore, one, more, IsProduct, IsTerm, AreTerms, IsSum, IsCompare, two, sign_of, IsNegation, negated, plain, IsAnd, IsOr, IsChoice, choice, IsCase, IsSwitch, AreOperands, IsPrimary, truth, falsehood, whole, real, path, brackets, least, greatest, count, switch, IsMinusOf, IsExpr, IsNot, IsMinus}
+use Rattle.ar_grammar.specs.Words.{Form, Tokens, kind_or, token, ◌▸◌, separated_by, between, StandsAt, IsSpanOf}
+use Rattle.ar_grammar.specs.Expressions.{Node, OneOrMore, one, more, ReadsProduct, ReadsTerm, ReadsTerms, ReadsSum, ReadsCompare, two, sign_of, ReadsNegation, negated, plain, ReadsAnd, ReadsOr, ReadsChoice, choice, ReadsCase, ReadsSwitch, ReadsOperands, ReadsPrimary, truth, falsehood, whole, real, path, brackets, least, greatest, count, switch, ReadsMinusOf, ReadsExpr, ReadsNot, ReadsMinus}
 use Rattle.ar_grammar.specs.Results.{kind_at, anything, is_sign, is_word, begins_minus, begins_not, begins_primary, ends_path, ends_product, ends_sum, ends_not, ends_and, ends_expr, ends_list, ends_cases}
 use Rattle.ar_grammar.proofs.Finding.{fails, kind_before, token_kind, then_kind}
 use Rattle.ar_grammar.proofs.ExpressionForms.{then_map, and_left, path_first, primary_first, compare_first, or_first, sign_from, word_from}
@@ -40,7 +40,7 @@ agree_between {ends' = ends'} f e =
 same_span : (s t : Span) → s.from ≡ t.from → s.to ≡ t.to → s ≡ t
 same_span s t p q = λ j. record { from = p j; to = q j }
 
-pub one_span : (ts : Tokens) (s t : Span) → Covers s ts → Covers t ts → s ≡ t
+pub one_span : (ts : Tokens) (s t : Span) → IsSpanOf s ts → IsSpanOf t ts → s ≡ t
 one_span [] s t h k = same_span s t (h.0 ∙ sym k.0) (h.1 ∙ sym k.1)
 one_span (u ∷ ts) s t h k = same_span s t (h.0 ∙ sym k.0) (h.1 ∙ sym k.1)
 
@@ -60,7 +60,7 @@ agree_node o (suc d) e g = record {
         (
           one_place a e.at g.at h.there (subst (λ (t : Tokens). StandsAt g.at t) (sym r.1) k.there),
           one_span a e.span
-              g.span h.span_is (subst (λ (t : Tokens). Covers g.span t) (sym r.1) k.span_is),
+              g.span h.span_is (subst (λ (t : Tokens). IsSpanOf g.span t) (sym r.1) k.span_is),
           r.0,
         ),
         r.1,
@@ -73,7 +73,7 @@ module _ {ends ends' : TokenKind → Bool} {Is : RawForm → Form} (k : Listed) 
     (o : OneForm ends Is) (e : ends separator ≡ true) (e' : ends' separator ≡ false)
     (w : (k : TokenKind) → ends' k ≡ true → ends k ≡ true) where
   -- one operand is not several
-  alone : (f : RawForm) (xs : List RawExpr) → 2 ≤ length xs → Agree ends' (Is f) (separated separator (Node Is) xs) ⊥
+  alone : (f : RawForm) (xs : List RawExpr) → 2 ≤ length xs → Agree ends' (Is f) (separated_by separator (Node Is) xs) ⊥
   alone f [] l = record { holds = λ a b rest rest' h j q s s'. elim j [ ] }
   alone f (x ∷ []) l = absurd (omega (arith, l))
   alone f (x ∷ y ∷ ys) l =
@@ -120,18 +120,18 @@ module _ {P : RawForm → Form} (o : OneForm ends_product P) where
   sum_product k h = and_left (ends_product k) _ h
 
   agree_term : (d : ℕ) (s t : Bool × RawExpr)
-      → Agree ends_product (IsTerm P s) (IsTerm P t) ((s.0 ≡ t.0) × SameToDepth d s.1 t.1)
+      → Agree ends_product (ReadsTerm P s) (ReadsTerm P t) ((s.0 ≡ t.0) × SameToDepth d s.1 t.1)
   agree_term d (p, x) (q, y) = agree_map (agree_next (agree_token {ends = anything}) (agree_node o d x y))
       (λ r. (same_sign p q r.0, r.1))
 
-  fits : (s : Bool × RawExpr) → First (IsTerm P s) anything ends_product
+  fits : (s : Bool × RawExpr) → First (ReadsTerm P s) anything ends_product
   fits (p, x) = first_front (first_token (term_ends p))
 
-  starts : (s : Bool × RawExpr) → First (IsTerm P s) anything (other ends_sum)
+  starts : (s : Bool × RawExpr) → First (ReadsTerm P s) anything (other ends_sum)
   starts (p, x) = first_front (first_token (term_starts p))
 
   -- one term is not several
-  one_term : (f : RawForm) (xs : List (Bool × RawExpr)) → 2 ≤ length xs → Agree ends_sum (P f) (AreTerms P xs) ⊥
+  one_term : (f : RawForm) (xs : List (Bool × RawExpr)) → 2 ≤ length xs → Agree ends_sum (P f) (ReadsTerms P xs) ⊥
   one_term f [] l = record { holds = λ a b rest rest' h j q s s'. elim j [ ] }
   one_term f (x ∷ []) l = absurd (omega (arith, l))
   one_term f ((p, x) ∷ y ∷ ys) l =
@@ -141,7 +141,7 @@ module _ {P : RawForm → Form} (o : OneForm ends_product P) where
       with_nothing (λ next ts h. then_map h.1 (λ next ts g. g.form) (λ next ts g. g))
 
   terms : (d : ℕ) (xs ys : List (Bool × RawExpr))
-      → Agree ends_sum (AreTerms P xs) (AreTerms P ys) (Along (λ s t. (s.0 ≡ t.0) × SameToDepth d s.1 t.1) xs ys)
+      → Agree ends_sum (ReadsTerms P xs) (ReadsTerms P ys) (Along (λ s t. (s.0 ≡ t.0) × SameToDepth d s.1 t.1) xs ys)
   terms d [] ys = record { holds = λ a b rest rest' h j q s s'. elim h [ ] }
   terms d ((p, x) ∷ xs) [] = record { holds = λ a b rest rest' h j q s s'. elim j [ ] }
   terms d ((p, x) ∷ xs) ((p', y) ∷ ys) = record {
@@ -151,8 +151,8 @@ module _ {P : RawForm → Form} (o : OneForm ends_product P) where
         (one_and (h.0 ∙ sym j.0, r.0.0) r.0.1, r.1);
   }
 
-  sum_case : (d : ℕ) (f g : RawForm) (a b rest rest' : Tokens) → IsSum P f (kind_at rest) a
-      → IsSum P g (kind_at rest') b → a ++ rest ≡ b ++ rest' → ends_sum (kind_at rest) ≡ true
+  sum_case : (d : ℕ) (f g : RawForm) (a b rest rest' : Tokens) → ReadsSum P f (kind_at rest) a
+      → ReadsSum P g (kind_at rest') b → a ++ rest ≡ b ++ rest' → ends_sum (kind_at rest) ≡ true
       → ends_sum (kind_at rest') ≡ true → SameParts (SameToDepth d) f g × (a ≡ b)
   sum_case d f g a b rest rest' (one h) (one j) q s s' =
       (agree_ended (o.agree d f g) sum_product).holds a b rest rest' h j q s s'
@@ -163,7 +163,7 @@ module _ {P : RawForm → Form} (o : OneForm ends_product P) where
   sum_case d f g a b rest rest' (more v u l h) (more z u' l' j) q s s' =
       let r = (terms d v.items z.items).holds a b rest rest' h j q s s' in (same.sum v z u u' r.0, r.1)
 
-  pub one_sum : OneForm ends_sum (IsSum P)
+  pub one_sum : OneForm ends_sum (ReadsSum P)
   one_sum = record { agree = λ d f g. record { holds = sum_case d f g } }
 
 -- Comparisons
@@ -209,8 +209,8 @@ module _ {S : RawForm → Form} (o : OneForm ends_sum S) where
       (first_front (first_token (relation_starts r))) (λ k p q. not_true (ends_not k) q p))) (λ r. r.1))
       with_nothing (λ next ts h. then_map h (λ next ts g. g.form) (λ next ts g. g))
 
-  compare_case : (d : ℕ) (f g : RawForm) (a b rest rest' : Tokens) → IsCompare S f (kind_at rest) a
-      → IsCompare S g (kind_at rest') b → a ++ rest ≡ b ++ rest' → ends_not (kind_at rest) ≡ true
+  compare_case : (d : ℕ) (f g : RawForm) (a b rest rest' : Tokens) → ReadsCompare S f (kind_at rest) a
+      → ReadsCompare S g (kind_at rest') b → a ++ rest ≡ b ++ rest' → ends_not (kind_at rest) ≡ true
       → ends_not (kind_at rest') ≡ true → SameParts (SameToDepth d) f g × (a ≡ b)
   compare_case d f g a b rest rest' (one h) (one j) q s s' =
       (agree_ended (o.agree d f g) not_sum).holds a b rest rest' h j q s s'
@@ -229,20 +229,20 @@ module _ {S : RawForm → Form} (o : OneForm ends_sum S) where
         found.1,
       )
 
-  pub one_compare : OneForm ends_not (IsCompare S)
+  pub one_compare : OneForm ends_not (ReadsCompare S)
   one_compare = record { agree = λ d f g. record { holds = compare_case d f g } }
 
 -- Negations and minus signs
 
 pub one_negation : {Not Compare : RawForm → Form} → OneForm ends_not Not → OneForm ends_not Compare
-    → ((f : RawForm) → First (Compare f) ends_not begins_minus) → OneForm ends_not (IsNegation Not Compare)
+    → ((f : RawForm) → First (Compare f) ends_not begins_minus) → OneForm ends_not (ReadsNegation Not Compare)
 one_negation {Not} {Compare} o p first = record { agree = λ d f g. record { holds = by_case d f g } }
   where
     not_first : {B : Form} → First (token (Reserved NOT) ▸ B) ends_not (is_word NOT)
     not_first = first_front (first_token refl)
 
-    by_case : (d : ℕ) (f g : RawForm) (a b rest rest' : Tokens) → IsNegation Not Compare f (kind_at rest) a
-        → IsNegation Not Compare g (kind_at rest') b → a ++ rest ≡ b ++ rest' → ends_not (kind_at rest) ≡ true
+    by_case : (d : ℕ) (f g : RawForm) (a b rest rest' : Tokens) → ReadsNegation Not Compare f (kind_at rest) a
+        → ReadsNegation Not Compare g (kind_at rest') b → a ++ rest ≡ b ++ rest' → ends_not (kind_at rest) ≡ true
         → ends_not (kind_at rest') ≡ true → SameParts (SameToDepth d) f g × (a ≡ b)
     by_case d f g a b rest rest' (negated x u h) (negated y u' j) q s s' =
         let r = (agree_next (agree_token {ends = anything}) (agree_node o d x.value y.value)).holds a b rest rest' h j q s s' in (same.negation x y u u' r.0.1, r.1)
@@ -255,14 +255,14 @@ one_negation {Not} {Compare} o p first = record { agree = λ d f g. record { hol
     by_case d f g a b rest rest' (plain h) (plain j) q s s' = (p.agree d f g).holds a b rest rest' h j q s s'
 
 pub one_minus : {Minus Primary : RawForm → Form} → OneForm ends_path Minus → OneForm ends_path Primary
-    → ((f : RawForm) → First (Primary f) ends_path begins_primary) → OneForm ends_path (IsMinusOf Minus Primary)
+    → ((f : RawForm) → First (Primary f) ends_path begins_primary) → OneForm ends_path (ReadsMinusOf Minus Primary)
 one_minus {Minus} {Primary} o p first = record { agree = λ d f g. record { holds = by_case d f g } }
   where
     minus_first : {B : Form} → First (token (Sign MINUS) ▸ B) ends_path (is_sign MINUS)
     minus_first = first_front (first_token refl)
 
-    by_case : (d : ℕ) (f g : RawForm) (a b rest rest' : Tokens) → IsMinusOf Minus Primary f (kind_at rest) a
-        → IsMinusOf Minus Primary g (kind_at rest') b → a ++ rest ≡ b ++ rest' → ends_path (kind_at rest) ≡ true
+    by_case : (d : ℕ) (f g : RawForm) (a b rest rest' : Tokens) → ReadsMinusOf Minus Primary f (kind_at rest) a
+        → ReadsMinusOf Minus Primary g (kind_at rest') b → a ++ rest ≡ b ++ rest' → ends_path (kind_at rest) ≡ true
         → ends_path (kind_at rest') ≡ true → SameParts (SameToDepth d) f g × (a ≡ b)
     by_case d f g a b rest rest' (negated x u h) (negated y u' j) q s s' =
         let r = (agree_next (agree_token {ends = anything}) (agree_node o d x.value y.value)).holds a b rest rest' h j q s s' in (same.minus x y u u' r.0.1, r.1)
@@ -283,7 +283,7 @@ along_one {X} {R} {xs} {ys} {x} {y} e e' r =
     (subst (λ (zs : List X). Along R (x ∷ []) zs) (sym e') (one_and r none))
 
 pub one_choice : {E Or : RawForm → Form} → OneForm ends_expr E → OneForm ends_expr Or
-    → ((f : RawForm) → First (Or f) ends_expr begins_not) → OneForm ends_expr (IsChoice E Or)
+    → ((f : RawForm) → First (Or f) ends_expr begins_not) → OneForm ends_expr (ReadsChoice E Or)
 one_choice {E} {Or} o p first = record { agree = λ d f g. record { holds = by_case d f g } }
   where
     if_first : {A B : Form} → First (between (Reserved IF) (Reserved THEN) A ▸ B) ends_expr (is_word IF)
@@ -299,8 +299,8 @@ one_choice {E} {Or} o p first = record { agree = λ d f g. record { holds = by_c
         (agree_next (agree_token {ends = anything}) (agree_node o d z z'))))
         (λ r. (r.0, r.1.0, r.1.1.1))
 
-    by_case : (d : ℕ) (f g : RawForm) (a b rest rest' : Tokens) → IsChoice E Or f (kind_at rest) a
-        → IsChoice E Or g (kind_at rest') b → a ++ rest ≡ b ++ rest' → ends_expr (kind_at rest) ≡ true
+    by_case : (d : ℕ) (f g : RawForm) (a b rest rest' : Tokens) → ReadsChoice E Or f (kind_at rest) a
+        → ReadsChoice E Or g (kind_at rest') b → a ++ rest ≡ b ++ rest' → ends_expr (kind_at rest) ≡ true
         → ends_expr (kind_at rest') ≡ true → SameParts (SameToDepth d) f g × (a ≡ b)
     by_case d f g a b rest rest' (choice h) (choice j) q s s' =
         let r = (both d h.test h.value h.other.value j.test j.value j.other.value).holds a b rest rest' h.reads j.reads
@@ -327,28 +327,28 @@ module _ {E : RawForm → Form} (o : OneForm ends_expr E) where
   cases_expr k h = ap ends_expr (word_from DEFAULT k h)
 
   agree_operands : (d : ℕ) (xs ys : List RawExpr)
-      → Agree anything (AreOperands E xs) (AreOperands E ys) (Along (SameToDepth d) xs ys)
+      → Agree anything (ReadsOperands E xs) (ReadsOperands E ys) (Along (SameToDepth d) xs ys)
   agree_operands d xs ys = agree_between
       (agree_separated {ends' = ends_list} (Sign COMMA) (agree_node o d) refl refl list_expr xs ys) refl
 
   pub agree_call : {ends : TokenKind → Bool} (word : ℕ) (d : ℕ) (xs ys : List RawExpr)
-      → Agree ends (token (Reserved word) ▸ AreOperands E xs) (token (Reserved word) ▸ AreOperands E ys)
+      → Agree ends (token (Reserved word) ▸ ReadsOperands E xs) (token (Reserved word) ▸ ReadsOperands E ys)
       (Along (SameToDepth d) xs ys)
   agree_call word d xs ys = agree_map
       (agree_next (agree_token {ends = anything}) (agree_ended (agree_operands d xs ys) (λ k s. refl))) (λ r. r.1)
 
   agree_case : (d : ℕ) (x y : RawExpr × RawExpr)
-      → Agree ends_expr (IsCase E x) (IsCase E y) (SameToDepth d x.0 y.0 × SameToDepth d x.1 y.1)
+      → Agree ends_expr (ReadsCase E x) (ReadsCase E y) (SameToDepth d x.0 y.0 × SameToDepth d x.1 y.1)
   agree_case d (x, v) (y, w) = agree_next (agree_between (agree_node o d x y) refl) (agree_node o d v w)
 
-  case_ends : (x : RawExpr × RawExpr) → First (IsCase E x) anything ends_expr
+  case_ends : (x : RawExpr × RawExpr) → First (ReadsCase E x) anything ends_expr
   case_ends (x, v) = first_front (first_front (first_token refl))
 
-  case_starts : (x : RawExpr × RawExpr) → First (IsCase E x) anything (other ends_cases)
+  case_starts : (x : RawExpr × RawExpr) → First (ReadsCase E x) anything (other ends_cases)
   case_starts (x, v) = first_front (first_front (first_token refl))
 
   pub one_switch : {ends : TokenKind → Bool} (d : ℕ) (f g : RawForm)
-      → Agree ends (IsSwitch E f) (IsSwitch E g) (SameParts (SameToDepth d) f g)
+      → Agree ends (ReadsSwitch E f) (ReadsSwitch E g) (SameParts (SameToDepth d) f g)
   one_switch d f g = record {
     holds = λ a b rest rest' h j q s s'.
         let r = (agree_next (agree_token {ends = anything})
@@ -363,7 +363,7 @@ module _ {E : RawForm → Form} (o : OneForm ends_expr E) where
   }
 
   -- which kind of primary it is
-  abbrev tag : {f : RawForm} {next : TokenKind} {ts : Tokens} → IsPrimary E f next ts → ℕ
+  abbrev tag : {f : RawForm} {next : TokenKind} {ts : Tokens} → ReadsPrimary E f next ts → ℕ
   tag (truth u h) = 0
   tag (falsehood u h) = 1
   tag (whole n u h) = 2
@@ -387,7 +387,7 @@ module _ {E : RawForm → Form} (o : OneForm ends_expr E) where
   tag_of (Reserved w) = word_tag w
   tag_of End = 10
 
-  tag_first : {f : RawForm} {next : TokenKind} {ts : Tokens} → (h : IsPrimary E f next ts)
+  tag_first : {f : RawForm} {next : TokenKind} {ts : Tokens} → (h : ReadsPrimary E f next ts)
       → tag_of (kind_or next ts) ≡ tag h
   tag_first (truth u h) = ap tag_of (token_kind h)
   tag_first (falsehood u h) = ap tag_of (token_kind h)
@@ -405,8 +405,8 @@ module _ {E : RawForm → Form} (o : OneForm ends_expr E) where
       (between (Sign OPEN_PARENTHESIS) (Sign CLOSE_PARENTHESIS) (E g)) (SameParts (SameToDepth d) f g)
   inner d f g = agree_between {ends' = anything} (o.agree d f g) refl
 
-  primary_case : (d : ℕ) (f g : RawForm) (a b rest rest' : Tokens) (h : IsPrimary E f (kind_at rest) a)
-      (j : IsPrimary E g (kind_at rest') b) → a ++ rest ≡ b ++ rest' → ends_path (kind_at rest) ≡ true
+  primary_case : (d : ℕ) (f g : RawForm) (a b rest rest' : Tokens) (h : ReadsPrimary E f (kind_at rest) a)
+      (j : ReadsPrimary E g (kind_at rest') b) → a ++ rest ≡ b ++ rest' → ends_path (kind_at rest) ≡ true
       → ends_path (kind_at rest') ≡ true → tag h ≡ tag j → SameParts (SameToDepth d) f g × (a ≡ b)
   primary_case d f g a b rest rest' (truth u h) (truth u' j) q s s' t =
       (same.equal (u ∙ sym u'), ((agree_token {ends = anything}).holds a b rest rest' h j q refl refl).1)
@@ -426,7 +426,7 @@ module _ {E : RawForm → Form} (o : OneForm ends_expr E) where
       (one_switch {ends = anything} d f g).holds a b rest rest' h j q refl refl
   primary_case d f g a b rest rest' h j q s s' t = absurd (omega (arith, t))
 
-  pub one_primary : OneForm ends_path (IsPrimary E)
+  pub one_primary : OneForm ends_path (ReadsPrimary E)
   one_primary = record {
     agree = λ d f g. record {
       holds = λ a b rest rest' h j q s s'.
@@ -439,9 +439,9 @@ module _ {E : RawForm → Form} (o : OneForm ends_expr E) where
 -- Expressions
 
 pub record Levels (n : ℕ) : Type 0 where
-  pub expr : OneForm ends_expr (IsExpr n)
-  pub negation : OneForm ends_not (IsNot n)
-  pub minus : OneForm ends_path (IsMinus n)
+  pub expr : OneForm ends_expr (ReadsExpr n)
+  pub negation : OneForm ends_not (ReadsNot n)
+  pub minus : OneForm ends_path (ReadsMinus n)
 
 none_here : {ends : TokenKind → Bool} {Is : RawForm → Form}
     → ((f : RawForm) (next : TokenKind) (ts : Tokens) → Is f next ts → ⊥) → OneForm ends Is
@@ -458,20 +458,21 @@ levels zero = record {
 }
 levels (suc n) =
     let l = levels n in
-    let products : OneForm ends_product (IsProduct (IsMinus n)) =
+    let products : OneForm ends_product (ReadsProduct (ReadsMinus n)) =
     one_chain same.product (Sign STAR) l.minus refl refl (λ k h. and_left (ends_path k) _ h) in
-    let ands : OneForm ends_and (IsAnd (IsNot n)) =
+    let ands : OneForm ends_and (ReadsAnd (ReadsNot n)) =
     one_chain same.all (Reserved AND) l.negation refl refl (λ k h. and_left (ends_not k) _ h) in
-    let ors : OneForm ends_expr (IsOr (IsNot n)) =
+    let ors : OneForm ends_expr (ReadsOr (ReadsNot n)) =
     one_chain same.any (Reserved OR) ands refl refl (λ k h. and_left (ends_and k) _ h) in
     record {
       expr = one_choice l.expr ors (λ f. record { holds = λ next ts h s. or_first n f next ts h });
       negation = one_negation l.negation (one_compare (one_sum products))
           (λ f. record { holds = λ next ts h s. compare_first n f next ts h });
       minus = one_minus l.minus (one_primary l.expr)
-          (λ f. record { holds = λ next ts h s. primary_first (IsExpr n) f next ts h });
+          (λ f. record { holds = λ next ts h s. primary_first (ReadsExpr n) f next ts h });
     }
 
 -- An expression of a text is one.
-pub agree_expr : (n : ℕ) (e g : RawExpr) → Agree ends_expr (Node (IsExpr n) e) (Node (IsExpr n) g) (same.SameExpr e g)
+pub agree_expr : (n : ℕ) (e g : RawExpr) → Agree ends_expr (Node (ReadsExpr n) e) (Node (ReadsExpr n) g)
+    (same.SameExpr e g)
 agree_expr n e g = agree_all (λ d. agree_node (levels n).expr d e g)

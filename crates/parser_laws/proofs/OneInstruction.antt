@@ -10,9 +10,9 @@ use Rattle.ar_syntax.specs.declared.paths.Path.{Path}
 use Rattle.ar_syntax.specs.declared.expressions.RawExpr.{RawExpr}
 use Rattle.ar_syntax.specs.declared.instructions.Instr.{Instr}
 use Rattle.ar_grammar.specs.Words.{Form, Tokens, kind_or, token, ◌▸◌, between}
-use Rattle.ar_grammar.specs.Paths.{IsPath}
-use Rattle.ar_grammar.specs.Expressions.{Node, IsExpr}
-use Rattle.ar_grammar.specs.Instructions.{IsElse, IsIfOf, IsGroupOf, IsSimpleOf, assign, tie, skip, IsInstrOf, simple, group, conditional, IsInstr}
+use Rattle.ar_grammar.specs.Paths.{ReadsPath}
+use Rattle.ar_grammar.specs.Expressions.{Node, ReadsExpr}
+use Rattle.ar_grammar.specs.Instructions.{ReadsElse, ReadsIfOf, ReadsGroupOf, ReadsSimpleOf, assign, tie, skip, ReadsInstrOf, simple, group, conditional, ReadsInstr}
 use Rattle.ar_grammar.specs.Results.{kind_at, anything, is_sign, is_word, ends_group, begins_instr}
 use Rattle.ar_grammar.proofs.Finding.{fails, then_kind}
 use Rattle.ar_grammar.proofs.ExpressionForms.{sign_from, word_from}
@@ -43,10 +43,10 @@ begins_simple (Sign n) = false
 begins_simple End = false
 
 module _ (n : ℕ) where
-  simple_first : (i : Instr) → First (IsSimpleOf (IsExpr n) i) anything begins_simple
+  simple_first : (i : Instr) → First (ReadsSimpleOf (ReadsExpr n) i) anything begins_simple
   simple_first i = record { holds = λ next ts h s. by_case next ts h }
     where
-      by_case : (next : TokenKind) (ts : Tokens) → IsSimpleOf (IsExpr n) i next ts
+      by_case : (next : TokenKind) (ts : Tokens) → ReadsSimpleOf (ReadsExpr n) i next ts
           → begins_simple (kind_or next ts) ≡ true
       by_case next ts (assign p e u h) =
           (first_front {ends = anything} (first_path begins_simple refl refl refl p)).holds next ts h refl
@@ -55,20 +55,20 @@ module _ (n : ℕ) where
       by_case next ts (skip u h) = ap begins_simple (then_kind h)
 
   assign_tie : (p q r : Path) (e : RawExpr)
-      → Agree anything (IsPath p ▸ between (Sign ASSIGN) (Sign SEMICOLON) (Node (IsExpr n) e))
-      (IsPath q ▸ between (Sign TIE) (Sign SEMICOLON) (IsPath r)) ⊥
+      → Agree anything (ReadsPath p ▸ between (Sign ASSIGN) (Sign SEMICOLON) (Node (ReadsExpr n) e))
+      (ReadsPath q ▸ between (Sign TIE) (Sign SEMICOLON) (ReadsPath r)) ⊥
   assign_tie p q r e = agree_map (agree_then (agree_path p q) (first_front (first_token refl))
       (first_front (first_token refl))
       (agree_apart {R = ⊥} {test = is_sign ASSIGN} {test' = is_sign TIE} (first_front (first_token refl))
       (first_front (first_token refl)) (λ k x y. fails (is_sign ASSIGN) x (sign_from TIE k y) refl))) (λ r. r.1)
 
-  skip_path : {B C : Form} (p : Path) → Agree anything (token (Reserved SKIP) ▸ B) (IsPath p ▸ C) ⊥
+  skip_path : {B C : Form} (p : Path) → Agree anything (token (Reserved SKIP) ▸ B) (ReadsPath p ▸ C) ⊥
   skip_path p = agree_apart {test = is_word SKIP} {test' = other (is_word SKIP)} (first_front (first_token refl))
       (first_front (first_path (other (is_word SKIP)) refl refl refl p))
       (λ k x y. fails (other (is_word SKIP)) y (word_from SKIP k x) refl)
 
-  simple_case : (d : ℕ) (i j : Instr) (a b rest rest' : Tokens) → IsSimpleOf (IsExpr n) i (kind_at rest) a
-      → IsSimpleOf (IsExpr n) j (kind_at rest') b → a ++ rest ≡ b ++ rest'
+  simple_case : (d : ℕ) (i j : Instr) (a b rest rest' : Tokens) → ReadsSimpleOf (ReadsExpr n) i (kind_at rest) a
+      → ReadsSimpleOf (ReadsExpr n) j (kind_at rest') b → a ++ rest ≡ b ++ rest'
       → SameSteps (SameStepsToDepth d) i j × (a ≡ b)
   simple_case d i j a b rest rest' (assign p e u h) (assign q g u' k) s =
       let r = (agree_then {ends' = anything} (agree_path p q) (first_front (first_token refl))
@@ -102,7 +102,8 @@ module _ (n : ℕ) where
 
 module _ (n : ℕ) {Inner : Instr → Form} (o : OneStep Inner) where
   agree_else : (d : ℕ) (x y : Option (Box Instr Global))
-      → Agree anything (IsElse Inner x) (IsElse Inner y) (SameOption (λ a b. SameStepsToDepth d a.value b.value) x y)
+      → Agree anything (ReadsElse Inner x) (ReadsElse Inner y)
+      (SameOption (λ a b. SameStepsToDepth d a.value b.value) x y)
   agree_else d None None = record { holds = λ a b rest rest' h k e s s'. (tt, h.empty ∙ sym k.empty) }
   agree_else d None (Some y) = record {
     holds = λ a b rest rest' h k e s s'. absurd
@@ -114,7 +115,7 @@ module _ (n : ℕ) {Inner : Instr → Form} (o : OneStep Inner) where
   }
   agree_else d (Some x) (Some y) = agree_map (agree_next agree_token (agree_step o d x.value y.value)) (λ r. r.1)
 
-  agree_if : (d : ℕ) (i j : Instr) → Agree anything (IsIfOf (IsExpr n) Inner i) (IsIfOf (IsExpr n) Inner j)
+  agree_if : (d : ℕ) (i j : Instr) → Agree anything (ReadsIfOf (ReadsExpr n) Inner i) (ReadsIfOf (ReadsExpr n) Inner j)
       (SameSteps (SameStepsToDepth d) i j)
   agree_if d i j = record {
     holds = λ a b rest rest' h k e s s'.
@@ -125,7 +126,7 @@ module _ (n : ℕ) {Inner : Instr → Form} (o : OneStep Inner) where
   }
 
   agree_group : ((i : Instr) → First (Inner i) anything begins_instr) → (d : ℕ) (i j : Instr)
-      → Agree anything (IsGroupOf Inner i) (IsGroupOf Inner j) (SameSteps (SameStepsToDepth d) i j)
+      → Agree anything (ReadsGroupOf Inner i) (ReadsGroupOf Inner j) (SameSteps (SameStepsToDepth d) i j)
   agree_group first d i j = record {
     holds = λ a b rest rest' h k e s s'.
         let r = (agree_between {ends' = anything}
@@ -138,17 +139,17 @@ module _ (n : ℕ) {Inner : Instr → Form} (o : OneStep Inner) where
         (same.group h.instrs k.instrs h.is k.is r.0, r.1);
   }
 
-  group_first : (i : Instr) → First (IsGroupOf Inner i) anything (is_sign OPEN_BRACE)
+  group_first : (i : Instr) → First (ReadsGroupOf Inner i) anything (is_sign OPEN_BRACE)
   group_first i = record { holds = λ next ts h s. ap (is_sign OPEN_BRACE) (then_kind h.reads) }
 
-  if_first : (i : Instr) → First (IsIfOf (IsExpr n) Inner i) anything (is_word IF)
+  if_first : (i : Instr) → First (ReadsIfOf (ReadsExpr n) Inner i) anything (is_word IF)
   if_first i = record {
     holds = λ next ts h s.
         (first_front {ends = anything} {test = is_word IF} (first_front (first_token refl))).holds next ts h.reads refl;
   }
 
   step_case : ((i : Instr) → First (Inner i) anything begins_instr) → (d : ℕ) (i j : Instr) (a b rest rest' : Tokens)
-      → IsInstrOf (IsExpr n) Inner i (kind_at rest) a → IsInstrOf (IsExpr n) Inner j (kind_at rest') b
+      → ReadsInstrOf (ReadsExpr n) Inner i (kind_at rest) a → ReadsInstrOf (ReadsExpr n) Inner j (kind_at rest') b
       → a ++ rest ≡ b ++ rest' → SameSteps (SameStepsToDepth d) i j × (a ≡ b)
   step_case first d i j a b rest rest' (simple h) (simple k) e = simple_case n d i j a b rest rest' h k e
   step_case first d i j a b rest rest' (simple h) (group k) e =
@@ -176,7 +177,7 @@ module _ (n : ℕ) {Inner : Instr → Form} (o : OneStep Inner) where
 
 -- Instructions
 
-steps : (n : ℕ) → OneStep (IsInstr n)
+steps : (n : ℕ) → OneStep (ReadsInstr n)
 steps zero = record { agree = λ d i j. record { holds = λ a b rest rest' h k e s s'. elim h [ ] } }
 steps (suc n) = record {
   agree = λ d i j. record {
@@ -185,5 +186,5 @@ steps (suc n) = record {
   };
 }
 
-pub agree_instr : (n : ℕ) (i j : Instr) → Agree anything (IsInstr n i) (IsInstr n j) (SameInstr i j)
+pub agree_instr : (n : ℕ) (i j : Instr) → Agree anything (ReadsInstr n i) (ReadsInstr n j) (SameInstr i j)
 agree_instr n i j = agree_all (λ d. agree_step (steps n) d i j)

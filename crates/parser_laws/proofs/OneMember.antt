@@ -22,11 +22,11 @@ use Rattle.ar_syntax.specs.declared.members.TypeName.{TypeName}
 use Rattle.ar_syntax.specs.declared.members.Word.{Word}
 use Rattle.ar_syntax.specs.declared.members.Word.TheVariants as word
 use Rattle.ar_base.specs.Numbers.{NameId}
-use Rattle.ar_grammar.specs.Words.{Form, Tokens, token, ◌▸◌, separated, between}
-use Rattle.ar_grammar.specs.Paths.{IsPlacedName}
-use Rattle.ar_grammar.specs.Expressions.{Node, IsExpr}
-use Rattle.ar_grammar.specs.Instructions.{IsInstr}
-use Rattle.ar_grammar.specs.Members.{IsTypeForm, IsType, IsWord, IsSetting, AreSettings, IsEvent, IsDeclared, IsPart, IsTransition, sync, local, IsAssertion, IsHidden}
+use Rattle.ar_grammar.specs.Words.{Form, Tokens, token, ◌▸◌, separated_by, between}
+use Rattle.ar_grammar.specs.Paths.{ReadsPlacedName}
+use Rattle.ar_grammar.specs.Expressions.{Node, ReadsExpr}
+use Rattle.ar_grammar.specs.Instructions.{ReadsInstr}
+use Rattle.ar_grammar.specs.Members.{ReadsTypeForm, ReadsType, ReadsWord, ReadsSetting, ReadsSettings, ReadsEvent, ReadsDeclared, ReadsPart, ReadsTransition, sync, local, ReadsAssertion, ReadsHidden}
 use Rattle.ar_grammar.specs.Results.{kind_at, anything, is_sign, is_word, is_name, ends_path, ends_names, ends_expr, ends_list, ends_attribute, ends_semicolon, begins_expr, begins_part}
 use Rattle.ar_grammar.proofs.Finding.{fails}
 use Rattle.ar_grammar.proofs.ExpressionForms.{then_map, then_assoc, expr_first, sign_from, word_from}
@@ -51,7 +51,7 @@ word_or : {w : ℕ} {ends : TokenKind → Bool} → is_word w (Reserved w) ≡ t
     → First (token (Reserved w)) ends (is_word w)
 word_or e = first_token e
 
-agree_type_form : (f g : TypeForm) → Agree anything (IsTypeForm f) (IsTypeForm g) (f ≡ g)
+agree_type_form : (f g : TypeForm) → Agree anything (ReadsTypeForm f) (ReadsTypeForm g) (f ≡ g)
 agree_type_form type_form.Boolean type_form.Boolean = agree_map agree_token (λ r. refl)
 agree_type_form type_form.Boolean type_form.Integer =
     agree_apart (word_or {w = BOOLEAN} refl) (word_or {w = INTEGER} refl)
@@ -77,10 +77,10 @@ agree_type_form (type_form.Named a) (type_form.Named b) = agree_map (agree_name 
 same_type : (t u : TypeName) → t.form ≡ u.form → t.at ≡ u.at → t ≡ u
 same_type t u p q = λ j. record { form = p j; at = q j }
 
-pub agree_type : (t u : TypeName) → Agree anything (IsType t) (IsType u) (t ≡ u)
+pub agree_type : (t u : TypeName) → Agree anything (ReadsType t) (ReadsType u) (t ≡ u)
 agree_type t u = agree_map (agree_standing (agree_type_form t.form u.form)) (λ r. same_type t u r.1 r.0)
 
-agree_word : (v w : Word) → Agree anything (IsWord v) (IsWord w) (v ≡ w)
+agree_word : (v w : Word) → Agree anything (ReadsWord v) (ReadsWord w) (v ≡ w)
 agree_word (word.Name a) (word.Name b) = agree_map (agree_name a b) (λ r. ap word.Name r)
 agree_word (word.Name a) word.Init =
     agree_apart (name_first is_name refl a) (word_or {w = INIT} refl)
@@ -103,7 +103,7 @@ agree_word word.Reset word.Reset = agree_map agree_token (λ r. refl)
 
 -- Settings
 
-agree_setting : (n : ℕ) (s t : Setting) → Agree ends_expr (IsSetting n s) (IsSetting n t) (SameSetting s t)
+agree_setting : (n : ℕ) (s t : Setting) → Agree ends_expr (ReadsSetting n s) (ReadsSetting n t) (SameSetting s t)
 agree_setting n s t =
     agree_map (agree_then {ends = ends_path}
     (agree_standing (agree_separated {ends = anything} (Sign DOT) agree_word refl refl (λ k e. refl) s.target.items
@@ -112,7 +112,7 @@ agree_setting n s t =
     (λ r. record { target = along_equal r.0.1; place = r.0.0; value = r.1.1 })
 
 agree_settings : (n : ℕ) (xs ys : List Setting)
-    → Agree ends_semicolon (AreSettings n xs) (AreSettings n ys) (Along SameSetting xs ys)
+    → Agree ends_semicolon (ReadsSettings n xs) (ReadsSettings n ys) (Along SameSetting xs ys)
 agree_settings n [] [] = agree_map agree_nothing (λ r. none)
 agree_settings n [] (y ∷ ys) = agree_apart {test = ends_semicolon} {test' = is_sign OPEN_PARENTHESIS}
     (first_nothing (λ k e. e)) (first_front (first_token refl))
@@ -127,12 +127,12 @@ agree_settings n (x ∷ xs) (y ∷ ys) =
 -- Declarations
 
 settings_first : {ends : TokenKind → Bool} (n : ℕ) (xs : List Setting)
-    → First (AreSettings n xs ▸ token (Sign SEMICOLON)) ends ends_names
+    → First (ReadsSettings n xs ▸ token (Sign SEMICOLON)) ends ends_names
 settings_first n [] = first_then {mid = ends_semicolon} (first_nothing (λ k e. ap ends_names (sign_from SEMICOLON k e)))
     (first_token refl)
 settings_first n (x ∷ xs) = first_front (first_front (first_token refl))
 
-pub agree_declared : (n : ℕ) (m m' : Member) → Agree anything (IsDeclared n m) (IsDeclared n m') (SameMember m m')
+pub agree_declared : (n : ℕ) (m m' : Member) → Agree anything (ReadsDeclared n m) (ReadsDeclared n m') (SameMember m m')
 agree_declared n m m' = record {
   holds = λ a b rest rest' h k e s s'.
       let r = (agree_next {ends' = anything} (agree_type h.type k.type)
@@ -148,7 +148,7 @@ agree_declared n m m' = record {
 
 -- Events
 
-pub agree_event : (n : ℕ) (m m' : Member) → Agree ends_attribute (IsEvent n m) (IsEvent n m') (SameMember m m')
+pub agree_event : (n : ℕ) (m m' : Member) → Agree ends_attribute (ReadsEvent n m) (ReadsEvent n m') (SameMember m m')
 agree_event n m m' = record {
   holds = λ a b rest rest' h k e s s'.
       let r = (agree_next (agree_placed (h.name, h.at) (k.name, k.at))
@@ -159,7 +159,7 @@ agree_event n m m' = record {
       );
 }
 
-pub agree_hidden : (m m' : Member) → Agree ends_path (IsHidden m) (IsHidden m') (SameMember m m')
+pub agree_hidden : (m m' : Member) → Agree ends_path (ReadsHidden m) (ReadsHidden m') (SameMember m m')
 agree_hidden m m' = record {
   holds = λ a b rest rest' h k e s s'.
       let r = (agree_path h.event k.event).holds a b rest rest' h.reads k.reads e s s' in
@@ -179,21 +179,21 @@ must_begins : (p : Bool) → begins_part (Sign (if p then EXCLAMATION else QUEST
 must_begins true = refl
 must_begins false = refl
 
-part_first : (p : Part) → First (IsPart p) anything begins_part
+part_first : (p : Part) → First (ReadsPart p) anything begins_part
 part_first p = first_front (first_token (must_begins p.must))
 
-agree_part : (p q : Part) → Agree ends_path (IsPart p) (IsPart q) (SamePart p q)
+agree_part : (p q : Part) → Agree ends_path (ReadsPart p) (ReadsPart q) (SamePart p q)
 agree_part p q = agree_map (agree_next (agree_token {ends = anything}) (agree_path p.event q.event))
     (λ r. record { must = same_must p.must q.must r.0; event = r.1 })
 
 -- the forms of the two kinds of transition, from the name on
 abbrev sync_form : (NameId × Place) → Vec Part Global → Form
-sync_form x parts = IsPlacedName x ▸ between (Sign COLON) (Sign SEMICOLON)
-    (separated (Sign AMPERSAND) IsPart parts.items)
+sync_form x parts = ReadsPlacedName x ▸ between (Sign COLON) (Sign SEMICOLON)
+    (separated_by (Sign AMPERSAND) ReadsPart parts.items)
 
 abbrev local_form : ℕ → (NameId × Place) → RawExpr → Instr → Form
-local_form n x guard action = IsPlacedName x ▸ between (Sign COLON) (Sign ARROW) (Node (IsExpr n) guard) ▸ IsInstr n
-    action
+local_form n x guard action = ReadsPlacedName x ▸ between (Sign COLON) (Sign ARROW) (Node (ReadsExpr n) guard)
+    ▸ ReadsInstr n action
 
 part_expr : (k : TokenKind) → begins_part k ≡ true → begins_expr k ≡ true → ⊥
 part_expr k h g = elim (or_cases (is_sign EXCLAMATION k) (is_sign QUESTION k) h) [
@@ -222,10 +222,11 @@ agree_local : (n : ℕ) (x y : NameId × Place) (e g : RawExpr) (i j : Instr)
 agree_local n x y e g i j = agree_next (agree_placed x y)
     (agree_next (agree_between (agree_expr n e g) refl) (agree_instr n i j))
 
-pub agree_transition : (n : ℕ) (m m' : Member) → Agree anything (IsTransition n m) (IsTransition n m') (SameMember m m')
+pub agree_transition : (n : ℕ) (m m' : Member) → Agree anything (ReadsTransition n m) (ReadsTransition n m')
+    (SameMember m m')
 agree_transition n m m' = record { holds = λ a b rest rest' h k e s s'. by_case a b rest rest' h k e }
   where
-    by_case : (a b rest rest' : Tokens) → IsTransition n m (kind_at rest) a → IsTransition n m' (kind_at rest') b
+    by_case : (a b rest rest' : Tokens) → ReadsTransition n m (kind_at rest) a → ReadsTransition n m' (kind_at rest') b
         → a ++ rest ≡ b ++ rest' → SameMember m m' × (a ≡ b)
     by_case a b rest rest' (sync name at v u h) (sync name' at' w u' k) e =
         let r = (agree_sync (name, at) (name', at') v w).holds a b rest rest' h k e refl refl in (
@@ -244,7 +245,8 @@ agree_transition n m m' = record { holds = λ a b rest rest' h k e s s'. by_case
           r.1,
         )
 
-pub agree_assertion : (n : ℕ) (m m' : Member) → Agree anything (IsAssertion n m) (IsAssertion n m') (SameMember m m')
+pub agree_assertion : (n : ℕ) (m m' : Member) → Agree anything (ReadsAssertion n m) (ReadsAssertion n m')
+    (SameMember m m')
 agree_assertion n m m' = record {
   holds = λ a b rest rest' h k e s s'.
       let r = (agree_instr n h.i k.i).holds a b rest rest' h.reads k.reads e refl refl in

@@ -17,8 +17,8 @@ use Rattle.ar_syntax.specs.declared.items.Item.TheVariants as item
 use Rattle.ar_base.specs.Numbers.{NameId}
 use Rattle.ar_base.proofs.Truths.{not_true}
 use Rattle.ar_grammar.specs.Words.{Form, Tokens, kind_or, token, nothing, ◌▸◌, ◌∣◌}
-use Rattle.ar_parser.specs.Models.{text_of, IsNumbered, name, other, AreNumbered}
-use Rattle.ar_grammar.specs.Items.{IsWhole, IsBound, whole, negated, IsDomainBody, IsDomain, IsItem, AreItems}
+use Rattle.ar_parser.specs.Models.{text_of, IsNumbered, name, other, AreNamesNumbered}
+use Rattle.ar_grammar.specs.Items.{ReadsWhole, ReadsBound, whole, negated, ReadsDomainBody, ReadsDomain, ReadsItem, ReadsItems}
 use Rattle.ar_grammar.specs.Results.{kind_at, anything, is_sign, is_word, ends_item, is_end}
 use Rattle.ar_grammar.proofs.Finding.{fails, token_kind, then_kind}
 use Rattle.ar_grammar.proofs.ExpressionForms.{sign_from, word_from}
@@ -36,16 +36,16 @@ use Rattle.parser_laws.proofs.OneBody.{agree_unit, one_body}
 whole_in : (n m : ℤ) → Whole n ≡ Whole m → n ≡ m
 whole_in n m e = cc
 
-agree_whole : {ends : TokenKind → Bool} (x y : ℤ) → Agree ends (IsWhole x) (IsWhole y) (x ≡ y)
+agree_whole : {ends : TokenKind → Bool} (x y : ℤ) → Agree ends (ReadsWhole x) (ReadsWhole y) (x ≡ y)
 agree_whole x y = record {
   holds = λ a b rest rest' h k e s s'.
       let r = (agree_token {ends = anything}).holds a b rest rest' h.reads k.reads e refl refl in (whole_in x y r.0, r.1);
 }
 
-agree_bound : (x y : ℤ) → Agree anything (IsBound x) (IsBound y) (x ≡ y)
+agree_bound : (x y : ℤ) → Agree anything (ReadsBound x) (ReadsBound y) (x ≡ y)
 agree_bound x y = record { holds = λ a b rest rest' h k e s s'. by_case a b rest rest' h k e }
   where
-    by_case : (a b rest rest' : Tokens) → IsBound x (kind_at rest) a → IsBound y (kind_at rest') b
+    by_case : (a b rest rest' : Tokens) → ReadsBound x (kind_at rest) a → ReadsBound y (kind_at rest') b
         → a ++ rest ≡ b ++ rest' → (x ≡ y) × (a ≡ b)
     by_case a b rest rest' (whole h) (whole k) e =
         (agree_whole {ends = anything} x y).holds a b rest rest' h k e refl refl
@@ -59,7 +59,7 @@ agree_bound x y = record { holds = λ a b rest rest' h k e s s'. by_case a b res
 same_range : (x y x' y' : ℤ) → x ≡ x' → y ≡ y' → domain.Range x y ≡ domain.Range x' y'
 same_range x y x' y' p q = ap (λ (z : ℤ). domain.Range z y) p ∙ ap (λ (z : ℤ). domain.Range x' z) q
 
-agree_domain_body : (x y : DomainBody) → Agree anything (IsDomainBody x) (IsDomainBody y) (SameDomain x y)
+agree_domain_body : (x y : DomainBody) → Agree anything (ReadsDomainBody x) (ReadsDomainBody y) (SameDomain x y)
 agree_domain_body (domain.Symbols v) (domain.Symbols w) =
     agree_map (agree_between (agree_names v.items w.items) refl) (λ r. same.symbols v w refl refl r)
 agree_domain_body (domain.Symbols v) (domain.Range x y) =
@@ -89,7 +89,7 @@ agree_mark = record { holds = λ a b rest rest' h k e s s'. (tt, by_case a b res
     by_case a b rest rest' (inr h) (inr k) e s s' =
         ((agree_token {ends = anything}).holds a b rest rest' h k e refl refl).1
 
-agree_domain : (d c : DomainDecl) → Agree ends_item (IsDomain d) (IsDomain c) (SameDeclared d c)
+agree_domain : (d c : DomainDecl) → Agree ends_item (ReadsDomain d) (ReadsDomain c) (SameDeclared d c)
 agree_domain d c =
     agree_map (agree_next agree_token (agree_next (agree_placed (d.name, d.at) (c.name, c.at))
     (agree_next (agree_domain_body d.body c.body) agree_mark)))
@@ -102,12 +102,12 @@ agree_domain d c =
 -- Items
 
 module _ (n : ℕ) where
-  of_class : (u w : UnitTree) → Agree ends_item (IsItem n (item.Class u)) (IsItem n (item.Class w))
+  of_class : (u w : UnitTree) → Agree ends_item (ReadsItem n (item.Class u)) (ReadsItem n (item.Class w))
       (SameItem (item.Class u) (item.Class w))
   of_class u w = agree_map (agree_next agree_token (agree_ended (agree_unit (one_body n) u w) (λ k s. refl)))
       (λ r. same.classes u w refl refl r.1)
 
-  of_block : (u w : UnitTree) → Agree ends_item (IsItem n (item.Block u)) (IsItem n (item.Block w))
+  of_block : (u w : UnitTree) → Agree ends_item (ReadsItem n (item.Block u)) (ReadsItem n (item.Block w))
       (SameItem (item.Block u) (item.Block w))
   of_block u w = agree_map (agree_next agree_token (agree_ended (agree_unit (one_body n) u w) (λ k s. refl)))
       (λ r. same.blocks u w refl refl r.1)
@@ -116,7 +116,7 @@ module _ (n : ℕ) where
       → First (token (Reserved w) ▸ A) ends (is_word w)
   begun w e = first_front (first_token e)
 
-  agree_item : (x y : Item) → Agree ends_item (IsItem n x) (IsItem n y) (SameItem x y)
+  agree_item : (x y : Item) → Agree ends_item (ReadsItem n x) (ReadsItem n y) (SameItem x y)
   agree_item (item.Domain d) (item.Domain c) = agree_map (agree_domain d c) (λ r. same.domains d c refl refl r)
   agree_item (item.Domain d) (item.Class w) =
       agree_apart (begun DOMAIN refl) (begun CLASS refl) (λ k p q. fails (is_word DOMAIN) p (word_from CLASS k q) refl)
@@ -134,7 +134,7 @@ module _ (n : ℕ) where
   agree_item (item.Block u) (item.Block w) = of_block u w
 
   item_by : (test : TokenKind → Bool) → test (Reserved DOMAIN) ≡ true → test (Reserved CLASS) ≡ true
-      → test (Reserved BLOCK) ≡ true → (x : Item) → First (IsItem n x) anything test
+      → test (Reserved BLOCK) ≡ true → (x : Item) → First (ReadsItem n x) anything test
   item_by test e f g (item.Domain d) = first_front (first_token e)
   item_by test e f g (item.Class u) = first_front (first_token f)
   item_by test e f g (item.Block u) = first_front (first_token g)
@@ -147,7 +147,7 @@ module _ (n : ℕ) where
   end_item (Sign z) h = absurd (cc)
   end_item (Reserved z) h = absurd (cc)
 
-  agree_items : (xs ys : List Item) → Agree is_end (AreItems n xs) (AreItems n ys) (Along SameItem xs ys)
+  agree_items : (xs ys : List Item) → Agree is_end (ReadsItems n xs) (ReadsItems n ys) (Along SameItem xs ys)
   agree_items [] ys = record { holds = λ a b rest rest' h k e s s'. elim h [ ] }
   agree_items (x ∷ xs) [] = record { holds = λ a b rest rest' h k e s s'. elim k [ ] }
   agree_items (x ∷ xs) (y ∷ ys) =
@@ -158,12 +158,12 @@ module _ (n : ℕ) where
 
 -- Names
 
-one_names : (bytes : List ℕ) (ls : Tokens) (old new new' : List (List ℕ)) → AreNumbered bytes old ls new
-    → AreNumbered bytes old ls new' → new ≡ new'
+one_names : (bytes : List ℕ) (ls : Tokens) (old new new' : List (List ℕ)) → AreNamesNumbered bytes old ls new
+    → AreNamesNumbered bytes old ls new' → new ≡ new'
 one_names bytes [] old new new' h k = h ∙ sym k
 one_names bytes (l ∷ ls) old new new' h k =
     one_names bytes ls h.0 new new' h.2
-    (subst (λ (t : List (List ℕ)). AreNumbered bytes t ls new') (sym (step h.0 k.0 h.1 k.1)) k.2)
+    (subst (λ (t : List (List ℕ)). AreNamesNumbered bytes t ls new') (sym (step h.0 k.0 h.1 k.1)) k.2)
   where
     step : (a b : List (List ℕ)) → IsNumbered bytes old l a → IsNumbered bytes old l b → a ≡ b
     step a b (name e i s) (name e' i' s') = one_interned old (text_of bytes l) a b i i'
@@ -181,6 +181,6 @@ one_tree bytes n x y h k =
       items = ((agree_items n x.items.items y.items.items).holds h.lexemes k.lexemes [] [] h.items k.items whole_text
           refl refl).0;
       names = one_names bytes h.lexemes [] x.names y.names h.are.names_are
-          (subst (λ (t : Tokens). AreNumbered bytes [] t y.names) (sym ls) k.are.names_are);
+          (subst (λ (t : Tokens). AreNamesNumbered bytes [] t y.names) (sym ls) k.are.names_are);
       end = h.are.end_is ∙ sym k.are.end_is;
     }

@@ -9,8 +9,8 @@ use Rattle.ar_lexer.specs.declared.token.TokenKind.TheVariants.{Name, Whole, Rea
 use Rattle.ar_lexer.specs.declared.signs.TheConstants.{OPEN_PARENTHESIS, SEMICOLON}
 use Rattle.ar_lexer.proofs.NumberLemmas.{cons_head}
 use Rattle.ar_grammar.specs.declared.lexeme.Lexeme.{Lexeme}
-use Rattle.ar_grammar.specs.Words.{Form, Tokens, kind_or, token, ◌▸◌, many, covering, Covers}
-use Rattle.ar_grammar.specs.Members.{plain_token, unread, unread_piece, IsAttribute, kept, kept_piece}
+use Rattle.ar_grammar.specs.Words.{Form, Tokens, kind_or, token, ◌▸◌, many, covering, IsSpanOf}
+use Rattle.ar_grammar.specs.Members.{plain_token, unread, unread_piece, ReadsAttribute, kept, kept_piece}
 use Rattle.ar_grammar.specs.Results.{kind_at, anything, is_sign, ends_unread, ends_kept, ends_attribute}
 use Rattle.ar_grammar.proofs.Finding.{then_kind}
 use Rattle.ar_grammar.proofs.UnreadParts.{unread_open}
@@ -80,11 +80,12 @@ pub agree_covering : {A : Form} {ends : TokenKind → Bool} {R : Type 0} → Agr
 agree_covering f s t = record {
   holds = λ a b rest rest' h j e x x'.
       let r = f.holds a b rest rest' h.form j.form e x x' in
-      (one_span a s t h.span_is (subst (λ (u : Tokens). Covers t u) (sym r.1) j.span_is), r.1);
+      (one_span a s t h.span_is (subst (λ (u : Tokens). IsSpanOf t u) (sym r.1) j.span_is), r.1);
 }
 
 -- [ "(" Unread ")" ]
-pub agree_attribute : (n : ℕ) (x y : Option Span) → Agree ends_attribute (IsAttribute n x) (IsAttribute n y) (x ≡ y)
+pub agree_attribute : (n : ℕ) (x y : Option Span) → Agree ends_attribute (ReadsAttribute n x) (ReadsAttribute n y)
+    (x ≡ y)
 agree_attribute n None None = agree_map agree_nothing (λ r. refl)
 agree_attribute zero None (Some t) = record { holds = λ a b rest rest' h j e s s'. elim j [ ] }
 agree_attribute (suc n) None (Some t) =

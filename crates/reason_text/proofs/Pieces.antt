@@ -3,7 +3,7 @@ use Rattle.std.proofs.Common.{◌≡◌, ◌+◌, ℕ, false, List, [], ◌∷�
 use Rattle.ar_base.specs.Numbers.{VarId}
 use Rattle.ar_base.specs.Texts.{separated, text_at}
 use Rattle.ar_base.proofs.Lines.{line_after}
-use Rattle.ar_meaning.specs.TraceText.{Naming, place_text}
+use Rattle.ar_meaning.specs.TraceText.{Naming, optional_place_text}
 use Rattle.ar_meaning.specs.ValueTexts.{value_text}
 use Rattle.flow_reasons.specs.Reasons.{Reason}
 use Rattle.flow_reasons.specs.Answers.{numbers_of}
@@ -20,7 +20,7 @@ reason_pieces names r path e =
     (line_after (codes " = ") (value ++ why) _ (line_after value why _ refl))
 
 pub added_pieces : (names : Naming) (a round : ℕ) (ns : List ℕ) (at : List ℕ)
-    → at ≡ place_text (slice_get names.places a)
+    → at ≡ optional_place_text (slice_get names.places a)
     → codes " round " ++ (decimal round
     ++ (codes " assignment " ++ (decimal (a + 1) ++ (codes " at " ++ (at ++ from_text names ns)))))
     ≡ added_text names a round ns

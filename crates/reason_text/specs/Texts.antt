@@ -4,7 +4,7 @@ use Rattle.ar_base.specs.Texts.{line, separated, text_at}
 use Rattle.domains.specs.declared.Value.{Value}
 use Rattle.typed_expr.specs.declared.expr.Expr.{Expr}
 use Rattle.ar_meaning.specs.Systems.{Net}
-use Rattle.ar_meaning.specs.TraceText.{Naming, place_text}
+use Rattle.ar_meaning.specs.TraceText.{Naming, optional_place_text}
 use Rattle.ar_meaning.specs.ValueTexts.{value_text}
 use Rattle.flow_reasons.specs.Reasons.{Reason, AreReasons, InCone}
 
@@ -26,7 +26,7 @@ abbrev pub added_text : Naming → ℕ → ℕ → List ℕ → List ℕ
 added_text names a round ns =
     codes " round " ++ (decimal round ++ (codes
     " assignment " ++ (decimal (a + 1)
-    ++ (codes " at " ++ (place_text (slice_get names.places a) ++ from_text names ns)))))
+    ++ (codes " at " ++ (optional_place_text (slice_get names.places a) ++ from_text names ns)))))
 
 -- ` by reset`, or the round, the assignment and what the value rests on
 abbrev pub why_text : Naming → Option ℕ → ℕ → List ℕ → List ℕ

@@ -21,8 +21,8 @@ use Rattle.ar_meaning.proofs.Answering.{can_told}
 use Rattle.ar_meaning.proofs.OneRun.{means_same}
 use Rattle.ar_meaning.proofs.Outcomes.{values_known}
 use Rattle.ar_meaning.proofs.Found.{same_answer}
-use Rattle.gts_core.specs.View.{Views, IsEvent, IsWayAt, net_of, bodies_of, body_of}
-use Rattle.gts_core.specs.Sound.{IsSound, IsListed}
+use Rattle.gts_core.specs.View.{Views, IsEventView, IsWayAt, net_of, way_bodies, body_of_way}
+use Rattle.gts_core.specs.Sound.{IsSound, IsListedWay}
 use Rattle.gts_core.specs.declared.system.Event.{Event}
 use Rattle.gts_core.specs.declared.system.GtsParts.{GtsParts}
 use Rattle.gts_flatten.specs.Flat.{naming_of_parts}
@@ -63,12 +63,12 @@ module _ (p : GtsParts) (sys : s.System ℕ) (views : Views p sys) (t : List Val
       one_listed e k w ws (labels_of may ids e (k + 1)) (may n.n) (answers.each n.n w q) (ways_listed e (k + 1) qs)
 
   event_listed : (e : ℕ) (v : Event) (u : s.Event ℕ) (us : List (s.Event ℕ)) (ls : List Label) (b : Bool) → v.hidden ≡ b
-      → IsEvent p v u → Listed facts (e + 1) us ls
+      → IsEventView p v u → Listed facts (e + 1) us ls
       → Listed facts e (u ∷ us) ((if b then [] else labels_of may v.ways.items e 0) ++ ls)
   event_listed e v u us ls true i is d = hidden (is.hidden ∙ i) d
   event_listed e v u us ls false i is d = visible (is.hidden ∙ i) (ways_listed e 0 is.ways) d
 
-  listed_from : (e : ℕ) {vs : List Event} {us : List (s.Event ℕ)} → Along (IsEvent p) vs us
+  listed_from : (e : ℕ) {vs : List Event} {us : List (s.Event ℕ)} → Along (IsEventView p) vs us
       → Listed facts e us (events_labels may vs e)
   listed_from e l.none = r.none
   listed_from e (l.one_and {a = v} {b = u} {xs = vs} {ys = us} q qs) =
@@ -85,7 +85,7 @@ module _ (p : GtsParts) (sys : s.System ℕ) (views : Views p sys) (t : List Val
 
   module _ (sound : IsSound p) where
     -- the label of the way at place k of event e
-    listed_label : (e k : ℕ) (n : WayId) → IsListed p e k n → label_of p n.n ≡ record { event = e; way = k }
+    listed_label : (e k : ℕ) (n : WayId) → IsListedWay p e k n → label_of p n.n ≡ record { event = e; way = k }
     listed_label e k n is = ap label_found is.stands
         ∙ made is.way.event.n (is.way.number - 1) is.event (omega (arith, is.number))
       where
@@ -93,7 +93,7 @@ module _ (p : GtsParts) (sys : s.System ℕ) (views : Views p sys) (t : List Val
             (record { event = e; way = k })
         made a b i j = cc
 
-    way_text_is : (e k : ℕ) (n : WayId) → IsListed p e k n
+    way_text_is : (e k : ℕ) (n : WayId) → IsListedWay p e k n
         → line (codes "  " ++ way_label p n.n)
         ≡ line (codes "  " ++ label_text (naming_of_parts p) sys (record { event = e; way = k }))
     way_text_is e k n is =
@@ -101,7 +101,7 @@ module _ (p : GtsParts) (sys : s.System ℕ) (views : Views p sys) (t : List Val
         (sym (label_alike p sys views n.n)
         ∙ ap (λ (z : Label). label_text (naming_of_parts p) sys z) (listed_label e k n is))
 
-    one_text : (e k : ℕ) (n : WayId) (b : Bool) → IsListed p e k n
+    one_text : (e k : ℕ) (n : WayId) (b : Bool) → IsListedWay p e k n
         → (if b then line (codes "  " ++ way_label p n.n) else [])
         ≡ label_lines (naming_of_parts p) sys (if b then record { event = e; way = k } ∷ [] else [])
     one_text e k n true is = way_text_is e k n is
@@ -112,15 +112,15 @@ module _ (p : GtsParts) (sys : s.System ℕ) (views : Views p sys) (t : List Val
         nothing_behind (x ∷ xs) = ap (λ z. x ∷ z) (nothing_behind xs)
     one_text e k n false is = refl
 
-    ways_text : (e : ℕ) (ids : List WayId) (k : ℕ) → ((j : ℕ) (n : WayId) → Stands ids j n → IsListed p e (k + j) n)
+    ways_text : (e : ℕ) (ids : List WayId) (k : ℕ) → ((j : ℕ) (n : WayId) → Stands ids j n → IsListedWay p e (k + j) n)
         → way_lines p may ids ≡ label_lines (naming_of_parts p) sys (labels_of may ids e k)
     ways_text e [] k own = refl
     ways_text e (n ∷ ids) k own =
-        let first : IsListed p e k n = subst (λ (z : ℕ). IsListed p e z n) (omega arith) (own 0 n refl) in
+        let first : IsListedWay p e k n = subst (λ (z : ℕ). IsListedWay p e z n) (omega arith) (own 0 n refl) in
         ap (λ z. z ++ way_lines p may ids) (one_text e k n (may n.n) first)
         ∙ ap (λ z. label_lines (naming_of_parts p) sys
         (if may n.n then record { event = e; way = k } ∷ [] else []) ++ z)
-        (ways_text e ids (k + 1) (λ j m s. subst (λ (z : ℕ). IsListed p e z m) (omega arith) (own (suc j) m s)))
+        (ways_text e ids (k + 1) (λ j m s. subst (λ (z : ℕ). IsListedWay p e z m) (omega arith) (own (suc j) m s)))
         ∙ sym (lines_joined (if may n.n then record { event = e; way = k } ∷ [] else []) (labels_of may ids e (k + 1)))
 
     event_text : (e : ℕ) (v : Event) (b : Bool) → Stands p.events.items e v
@@ -128,7 +128,7 @@ module _ (p : GtsParts) (sys : s.System ℕ) (views : Views p sys) (t : List Val
         ≡ label_lines (naming_of_parts p) sys (if b then [] else labels_of may v.ways.items e 0)
     event_text e v true s = refl
     event_text e v false s = ways_text e v.ways.items 0
-        (λ j n h. subst (λ (z : ℕ). IsListed p e z n) (omega arith) (sound.event_ways e j v n s h))
+        (λ j n h. subst (λ (z : ℕ). IsListedWay p e z n) (omega arith) (sound.event_ways e j v n s h))
 
     events_text : (vs : List Event) (e : ℕ) → ((j : ℕ) (v : Event) → Stands vs j v → Stands p.events.items (e + j) v)
         → events_lines p may vs ≡ label_lines (naming_of_parts p) sys (events_labels may vs e)
@@ -158,9 +158,9 @@ module _ (p : GtsParts) (sys : s.System ℕ) (views : Views p sys) (t : List Val
 
 -- There is such a test
 
-means_within : (p : GtsParts) (n : ℕ) (w : s.Way ℕ) → IsWayAt p n w → n < length (bodies_of p)
-means_within p n w (leaf h) = stands_within (bodies_of p) n _ h
-means_within p n w (joint h d) = stands_within (bodies_of p) n _ h
+means_within : (p : GtsParts) (n : ℕ) (w : s.Way ℕ) → IsWayAt p n w → n < length (way_bodies p)
+means_within p n w (leaf h) = stands_within (way_bodies p) n _ h
+means_within p n w (joint h d) = stands_within (way_bodies p) n _ h
 
 abbrev answer_of : {P : Type 0} → Told P → Bool
 answer_of (inl h) = true
@@ -184,11 +184,11 @@ module _ (p : GtsParts) (sound : IsSound p) (t : List Value) where
     | inl h ↦ (let tree = sound.trees n h in record {
       answer = answer_of (can_be_told tree.0);
       is = λ w m. subst (λ (z : s.Way ℕ). IsAnswer (answer_of (can_be_told tree.0)) (Can (HasValue (net_of p) t) z))
-          (means_same (bodies_of p) tree.1 m) (is_answer (can_be_told tree.0));
+          (means_same (way_bodies p) tree.1 m) (is_answer (can_be_told tree.0));
     })
     | inr h ↦ record {
       answer = false;
-      is = λ w m. absurd (let i = means_within p n w m in omega (arith, i, h, length-map p.ways.items body_of));
+      is = λ w m. absurd (let i = means_within p n w m in omega (arith, i, h, length-map p.ways.items body_of_way));
     }
   ]
 

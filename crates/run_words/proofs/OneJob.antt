@@ -4,8 +4,8 @@ use Rattle.std.specs.Prelude.{Option, Some, None, if◌then◌else◌}
 use Rattle.std.specs.Str.{bytes_eq}
 use Rattle.std.proofs.lemmas.Fmt.{decimal_injective}
 use Rattle.std.proofs.lemmas.Option.{same_Some}
-use Rattle.run_words.specs.Lines.{Line}
-use Rattle.run_words.specs.Jobs.{IsJob, IsJobOf, IsNodes, IsNumber, NamesFiles, form_of, word_of}
+use Rattle.run_words.specs.Lines.{CommandWords}
+use Rattle.run_words.specs.Jobs.{IsJob, IsJobOf, IsNodes, IsNumberText, NamesFiles, form_of_verb, word_of}
 use Rattle.run_words.specs.declared.jobs.Job.{Job}
 use Rattle.run_words.specs.declared.verbs.Form.{Form}
 use Rattle.run_words.specs.declared.verbs.Form.TheVariants as form
@@ -43,8 +43,8 @@ two_same e = (cc, cc)
 same_command : (u v : Verb) → word_of u ≡ word_of v → u ≡ v
 same_command u v e = sym (named_back u) ∙ ap command_named e ∙ named_back v
 
-same_number : (least most : ℕ) (word : List ℕ) (m n : ℕ) → most < 2 ^ 64 → IsNumber least most word m
-    → IsNumber least most word n → m ≡ n
+same_number : (least most : ℕ) (word : List ℕ) (m n : ℕ) → most < 2 ^ 64 → IsNumberText least most word m
+    → IsNumberText least most word n → m ≡ n
 same_number least most word m n small a b =
     decimal_injective m n (omega (arith, a.at_most, small)) (omega (arith, b.at_most, small)) (sym a.digits ∙ b.digits)
 
@@ -66,7 +66,7 @@ same_files form.Number files ma mb sa sb na nb a b =
     record {
       model = a.1 ∙ sym b.1;
       script = a.2 ∙ sym b.2;
-      number = same_number 1 200 b.0.0 na nb (omega arith) (subst (λ w. IsNumber 1 200 w na) word a.0.2) b.0.2;
+      number = same_number 1 200 b.0.0 na nb (omega arith) (subst (λ w. IsNumberText 1 200 w na) word a.0.2) b.0.2;
     }
 
 same_nodes : (v : Verb) (given : Option (List ℕ)) (m n : ℕ) → IsNodes v given m → IsNodes v given n → m ≡ n
@@ -112,11 +112,11 @@ same_job a b command files nodes main observer value dropped =
     ∙ ap (λ t. record b { nodes = t; number = a.number }) nodes
     ∙ ap (λ t. record b { number = t }) files.number
 
-of_one_line : (l : Line) (a b : Job) → IsJobOf l a → IsJobOf l b → a ≡ b
+of_one_line : (l : CommandWords) (a b : Job) → IsJobOf l a → IsJobOf l b → a ≡ b
 of_one_line l a b x y =
     let command = same_command a.command b.command (same_Some _ _ (sym x.command ∙ y.command)) in
-    let files = same_files (form_of b.command) l.files a.model b.model a.script b.script a.number b.number
-    (subst (λ v. NamesFiles (form_of v) l.files a.model a.script a.number) command x.files) y.files in
+    let files = same_files (form_of_verb b.command) l.files a.model b.model a.script b.script a.number b.number
+    (subst (λ v. NamesFiles (form_of_verb v) l.files a.model a.script a.number) command x.files) y.files in
     let nodes = same_nodes b.command l.nodes a.nodes b.nodes (subst (λ v. IsNodes v l.nodes a.nodes) command x.nodes)
     y.nodes in
     same_job a b command files nodes (x.main ∙ sym y.main) (x.observer ∙ sym y.observer) (x.value ∙ sym y.value)

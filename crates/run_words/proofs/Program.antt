@@ -11,7 +11,7 @@ use Rattle.clap.specs.declared.error.kind.ErrorKind.TheVariants as kind
 use Rattle.clap.specs.declared.parser.matches.ArgMatches.{ArgMatches}
 use Rattle.clap.specs.Words.{App, HasKind, HasMatchesOf, Kinds, Text, app_of, fault_of, found_of, is_simple, is_simple_and_free, kind_of, matches_of, new_app, rows_of, rule_of}
 use Rattle.clap.proofs.OnLiterals.{clap_on_literals}
-use Rattle.run_words.specs.Lines.{bare, program}
+use Rattle.run_words.specs.Lines.{bare_command, program}
 
 is_simple_program : is_simple program ≡ true
 unfolding program clap_on_literals
@@ -24,7 +24,7 @@ is_free_program = refl
 -- the two settings
 pub with_settings : (x y z : Command) → app_of x ≡ new_app (codes "altarica")
     → out-Command y ≡ record (out-Command x) { disable_help_flag = true }
-    → out-Command z ≡ record (out-Command y) { disable_version_flag = true } → app_of z ≡ bare
+    → out-Command z ≡ record (out-Command y) { disable_version_flag = true } → app_of z ≡ bare_command
 with_settings x y z e1 e2 e3 =
     ap app_of_fields e3
     ∙ ap (λ f. app_of_fields (record f { disable_version_flag = true })) e2

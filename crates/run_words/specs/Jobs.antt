@@ -1,7 +1,7 @@
 -- The job of a list of words: what `clap` finds in them, and then the table of the commands.
 use Rattle.std.specs.Prelude.{◌≡◌, ◌≢◌, ◌≤◌, ℕ, Bool, true, false, List, [], ◌∷◌, Option, Some, None, codes, decimal}
 use Rattle.clap.specs.Words.{Text, fault_of, matches_of}
-use Rattle.run_words.specs.Lines.{Line, line_of, program}
+use Rattle.run_words.specs.Lines.{CommandWords, command_words_of, program}
 use Rattle.run_words.specs.declared.jobs.Job.{Job}
 use Rattle.run_words.specs.declared.verbs.Verb.{Verb}
 use Rattle.run_words.specs.declared.verbs.Verb.TheVariants.{Check, Flat, Replay, Fragment, Equations, Cuts, Make, Explain, CheckCuts, Modules}
@@ -24,17 +24,17 @@ word_of CheckCuts = codes "checkcuts"
 word_of Modules = codes "modules"
 
 -- what stands behind it: the model's file, the model's and the script's or the list's, or a number
-abbrev pub form_of : Verb → Form
-form_of Check = form.Model
-form_of Flat = form.Model
-form_of Replay = form.ModelAndScript
-form_of Fragment = form.Model
-form_of Equations = form.Model
-form_of Cuts = form.Model
-form_of Make = form.Number
-form_of Explain = form.ModelAndScript
-form_of CheckCuts = form.ModelAndScript
-form_of Modules = form.Model
+abbrev pub form_of_verb : Verb → Form
+form_of_verb Check = form.Model
+form_of_verb Flat = form.Model
+form_of_verb Replay = form.ModelAndScript
+form_of_verb Fragment = form.Model
+form_of_verb Equations = form.Model
+form_of_verb Cuts = form.Model
+form_of_verb Make = form.Number
+form_of_verb Explain = form.ModelAndScript
+form_of_verb CheckCuts = form.ModelAndScript
+form_of_verb Modules = form.Model
 
 -- which options it takes
 abbrev pub takes_main : Verb → Bool
@@ -81,7 +81,7 @@ needs_observer _ = false
 -- Jobs
 
 -- the text is the number from the least to the most: its decimal digits, without a sign and without leading zeros
-pub record IsNumber (least most : ℕ) (text : Text) (n : ℕ) : Type 0 where
+pub record IsNumberText (least most : ℕ) (text : Text) (n : ℕ) : Type 0 where
   pub digits : text ≡ decimal n
   pub at_least : least ≤ n
   pub at_most : n ≤ most
@@ -92,7 +92,7 @@ NamesFiles form.Model files model script number = (files ≡ model ∷ []) × (s
 NamesFiles form.ModelAndScript files model script number =
     ((name : Text) × (files ≡ model ∷ name ∷ []) × (script ≡ Some name)) × (number ≡ 0)
 NamesFiles form.Number files model script number =
-    ((word : Text) × (files ≡ word ∷ []) × IsNumber 1 200 word number) × (model ≡ []) × (script ≡ None)
+    ((word : Text) × (files ≡ word ∷ []) × IsNumberText 1 200 word number) × (model ≡ []) × (script ≡ None)
 
 -- an option is used only where the command takes it
 abbrev pub IsTaken : Bool → Option Text → Type 0
@@ -100,16 +100,16 @@ IsTaken true given = Unit {0}
 IsTaken false given = given ≡ None
 
 -- the node limit where `--nodes` is not used
-abbrev pub usual_nodes : Verb → ℕ
-usual_nodes Make = 16777216
-usual_nodes _ = 1000000
+abbrev pub nodes_by_default : Verb → ℕ
+nodes_by_default Make = 16777216
+nodes_by_default _ = 1000000
 
 abbrev pub IsNodes : Verb → Option Text → ℕ → Type 0
-IsNodes verb None nodes = nodes ≡ usual_nodes verb
-IsNodes verb (Some text) nodes = (takes_nodes verb ≡ true) × IsNumber 1 16777216 text nodes
+IsNodes verb None nodes = nodes ≡ nodes_by_default verb
+IsNodes verb (Some text) nodes = (takes_nodes verb ≡ true) × IsNumberText 1 16777216 text nodes
 
 -- the command takes each option that is used, but for `--nodes`, and the observer is there where it is needed
-pub record OptionsFit (verb : Verb) (line : Line) : Type 0 where
+pub record OptionsFit (verb : Verb) (line : CommandWords) : Type 0 where
   pub main : IsTaken (takes_main verb) line.main
   pub observer : IsTaken (takes_observer verb) line.observer
   pub observer_needed : needs_observer verb ≡ true → line.observer ≢ None
@@ -117,9 +117,9 @@ pub record OptionsFit (verb : Verb) (line : Line) : Type 0 where
   pub dropped : IsTaken (takes_drop verb) line.dropped
 
 -- the command line gives the job
-pub record IsJobOf (line : Line) (job : Job) : Type 0 where
+pub record IsJobOf (line : CommandWords) (job : Job) : Type 0 where
   pub command : line.command ≡ Some (word_of job.command)
-  pub files : NamesFiles (form_of job.command) line.files job.model job.script job.number
+  pub files : NamesFiles (form_of_verb job.command) line.files job.model job.script job.number
   pub options : OptionsFit job.command line
   pub nodes : IsNodes job.command line.nodes job.nodes
   pub main : job.main ≡ line.main
@@ -134,4 +134,4 @@ given_words words = codes "altarica" ∷ words
 -- the words give the job: `clap` takes them, and what it finds gives it
 pub record IsJob (words : List Text) (job : Job) : Type 0 where
   pub taken : fault_of program (given_words words) ≡ []
-  pub job_of : IsJobOf (line_of (matches_of program (given_words words))) job
+  pub job_of : IsJobOf (command_words_of (matches_of program (given_words words))) job

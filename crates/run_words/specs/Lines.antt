@@ -22,12 +22,13 @@ abbrev pub option : Text → Rule
 option name = record (new_rule name) { long = Some name; action = Some Set }
 
 -- the command without any argument yet, and without help and version flags
-abbrev pub bare : App
-bare = on_top (λ s. record s { disable_help_flag = true; disable_version_flag = true }) (new_app (codes "altarica"))
+abbrev pub bare_command : App
+bare_command = on_top (λ s. record s { disable_help_flag = true; disable_version_flag = true })
+    (new_app (codes "altarica"))
 
 -- the program's command: the command's word, the files, and the five options
 unfoldable pub program : App
-program = with_rule (with_rule (with_rule (with_rule (with_rule (with_rule (with_rule bare command) files)
+program = with_rule (with_rule (with_rule (with_rule (with_rule (with_rule (with_rule bare_command command) files)
     (option (codes "main"))) (option (codes "observer"))) (option (codes "value"))) (option (codes "nodes")))
     (option (codes "drop"))
 
@@ -40,7 +41,7 @@ abbrev pub files_in : List Row → List Text
 files_in rows = or_none (all_of (codes "file") rows)
 
 -- what a command line says: the command's word, the files, and the value of each option that was used
-pub record Line : Type 0 where
+pub record CommandWords : Type 0 where
   pub command : Option Text
   pub files : List Text
   pub main : Option Text
@@ -49,8 +50,8 @@ pub record Line : Type 0 where
   pub nodes : Option Text
   pub dropped : Option Text
 
-abbrev pub line_of : List Row → Line
-line_of rows = record {
+abbrev pub command_words_of : List Row → CommandWords
+command_words_of rows = record {
   command = first_of (codes "command") rows;
   files = files_in rows;
   main = first_of (codes "main") rows;

@@ -1,9 +1,9 @@
 -- What the command line that the code holds says.
 use Rattle.std.specs.Prelude.{map, option_map}
-use Rattle.run_words.specs.Lines.{Line, or_none}
+use Rattle.run_words.specs.Lines.{CommandWords, or_none}
 use Rattle.run_words.specs.declared.lines.CommandLine.{CommandLine}
 
-abbrev pub told : CommandLine → Line
+abbrev pub told : CommandLine → CommandWords
 told l = record {
   command = option_map (λ s. s.now) l.command;
   files = or_none (option_map (λ s. map (λ w. w.now) s.now) l.files);

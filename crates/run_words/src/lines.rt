@@ -3,7 +3,7 @@
 ghost use Rattle.std.specs.Prelude.{◌≡◌, ◌≢◌, false, [], ◌∷◌, List, ℕ, map, codes, IfOk, option_map};
 ghost use Rattle.clap.specs.Words.{app_of, fault_of, found_of, matches_of, rows_of, first_of, all_of, rule_of};
 ghost use Rattle.run_words.specs.declared.jobs.JobFault.TheVariants.{Usage};
-ghost use Rattle.run_words.specs.Lines.{program, line_of, option};
+ghost use Rattle.run_words.specs.Lines.{program, command_words_of, option};
 ghost use Rattle.run_words.specs.Told.{told};
 
 use crate::jobs::JobFault;
@@ -94,7 +94,7 @@ pub struct CommandLine<'m, 'a> {
 
 // What the matches say.
 pub(crate) fn command_line<'m, 'a>(matches: &'m ArgMatches<'a>) -> CommandLine<'m, 'a>
-    ensures { told result ≡ line_of (rows_of (found_of matches.now)) }
+    ensures { told result ≡ command_words_of (rows_of (found_of matches.now)) }
 {
     CommandLine {
         command: value(matches, "command"),

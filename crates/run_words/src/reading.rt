@@ -5,7 +5,7 @@ ghost use Rattle.ar_base.specs.Texts.{bytes_of_all};
 ghost use Rattle.run_words.specs.declared.jobs.Job.{Job as Jobs};
 ghost use Rattle.run_words.specs.declared.verbs.Verb.{Verb as Verbs};
 ghost use Rattle.run_words.specs.declared.jobs.JobFault.TheVariants.{Usage, Memory as OutOfMemory};
-ghost use Rattle.run_words.specs.Jobs.{IsJob, IsJobOf, IsTaken, IsNodes, OptionsFit, given_words, word_of, usual_nodes};
+ghost use Rattle.run_words.specs.Jobs.{IsJob, IsJobOf, IsTaken, IsNodes, OptionsFit, given_words, word_of, nodes_by_default};
 ghost use Rattle.run_words.specs.Told.{told};
 
 use crate::files::{named_files, text};
@@ -136,7 +136,7 @@ fn nodes_of(command: Verb, given: Option<&str>) -> Option<u32>
 
 // The node limit where none is given.
 fn usual_nodes(command: Verb) -> u32
-    ensures { result ≡ usual_nodes command }
+    ensures { result ≡ nodes_by_default command }
 {
     match command {
         Verb::Make => MOST_NODES,

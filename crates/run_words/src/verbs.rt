@@ -2,7 +2,7 @@
 
 ghost use Rattle.std.specs.Prelude.{◌≡◌, ◌≢◌, MatchOption};
 ghost use Rattle.run_words.specs.declared.verbs.Verb.{Verb as Verbs};
-ghost use Rattle.run_words.specs.Jobs.{word_of, form_of, takes_main, takes_observer, needs_observer, takes_value, takes_nodes, takes_drop};
+ghost use Rattle.run_words.specs.Jobs.{word_of, form_of_verb, takes_main, takes_observer, needs_observer, takes_value, takes_nodes, takes_drop};
 
 /// A command of the program.
 #[derive(Clone, Copy)]
@@ -43,7 +43,7 @@ pub enum Form {
 impl Verb {
     // What stands behind the command.
     pub(crate) fn form(self) -> Form
-        ensures { result ≡ form_of self }
+        ensures { result ≡ form_of_verb self }
     {
         match self {
             Verb::Check

@@ -106,7 +106,10 @@ fn bodies_of(alloc: Global, layout: &str) -> Result<Vec<Standing>, AllocError> {
             open.pop();
         } else {
             let owner = open.last().copied();
-            bodies.push(Standing { body: letter, owner })?;
+            bodies.push(Standing {
+                body: letter,
+                owner,
+            })?;
             open.push(letter)?;
         }
     }
@@ -193,7 +196,11 @@ fn put_body(
     bodies: &[Standing],
     cells: &[Cell],
 ) -> Result<u32, AllocError> {
-    let kind = if body.is_ascii_uppercase() { "class" } else { "block" };
+    let kind = if body.is_ascii_uppercase() {
+        "class"
+    } else {
+        "block"
+    };
     let head = format!(in alloc; "{kind} {body}\n")?;
     made.text.push_str(&head)?;
     let mut line = line.saturating_add(1);

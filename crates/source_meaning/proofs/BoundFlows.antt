@@ -3,7 +3,8 @@ use Rattle.std.proofs.Common.{◌↔◌, List}
 use Rattle.domains.specs.declared.Value.{Value}
 use Rattle.ar_meaning.specs.Flows.{Flows, Outcome}
 use Rattle.ar_meaning.proofs.ImageBoth.{same_flows}
-use Rattle.source_meaning.specs.Binding.{IsVariableNumber, IsBoundFrom, net_of_bound}
+use Rattle.source_meaning.specs.Binding.{IsBoundFrom, net_of_bound}
+use Rattle.source_meaning.specs.Numbering.{IsVariableNumber}
 use Rattle.source_meaning.specs.Systems.{Declarations}
 use Rattle.source_meaning.specs.declared.bound.Bound.{Bound}
 

@@ -51,15 +51,15 @@ use Rattle.source_meaning.proofs.BoundMeaning.{bound_meaning}
 
 -- The assignments and places of bound instructions, by their forms
 
-pub under : (b : Act) (x : Act-F Act) → out-Act b ≡ x → (ds : g.Conditions)
-    → assigns_under b ds ≡ act_step (map-Act Act (g.Conditions → List (s.Assign ℕ)) assigns_under x) ds
+pub under : (b : Act) (x : Act-F Act) → out-Act b ≡ x → (ds : g.NumberedConditions)
+    → assigns_under b ds ≡ act_step (map-Act Act (g.NumberedConditions → List (s.Assign ℕ)) assigns_under x) ds
 under b x e ds =
-    ap (λ (h : g.Conditions → List (s.Assign ℕ)). h ds)
-    (fold_out-Act (g.Conditions → List (s.Assign ℕ)) act_step b
-    ∙ ap (λ (y : Act-F Act). act_step (map-Act Act (g.Conditions → List (s.Assign ℕ)) assigns_under y)) e)
+    ap (λ (h : g.NumberedConditions → List (s.Assign ℕ)). h ds)
+    (fold_out-Act (g.NumberedConditions → List (s.Assign ℕ)) act_step b
+    ∙ ap (λ (y : Act-F Act). act_step (map-Act Act (g.NumberedConditions → List (s.Assign ℕ)) assigns_under y)) e)
 
-pub each_under : (bs : List Act) (ds : g.Conditions)
-    → flat_map (λ (f : g.Conditions → List (s.Assign ℕ)). f ds) (map assigns_under bs)
+pub each_under : (bs : List Act) (ds : g.NumberedConditions)
+    → flat_map (λ (f : g.NumberedConditions → List (s.Assign ℕ)). f ds) (map assigns_under bs)
     ≡ flat_map (λ (b : Act). assigns_under b ds) bs
 each_under [] ds = refl
 each_under (b ∷ bs) ds = ap (λ z. assigns_under b ds ++ z) (each_under bs ds)
@@ -69,26 +69,27 @@ module _ (m : RootedModel) (units : List UnitPath) (u : UnitPath) (leaves : Path
   abbrev R : Thing → ℕ → Type 0
   R t n = Stands (variables m units) n t
 
-  more : {cs : Conditions} {ds : g.Conditions} (e : Expr Thing) (f : Expr ℕ) (b : Bool) → Conditions_rename R cs ds
-      → Renames R (out-Expr Thing e) (out-Expr ℕ f)
+  more : {cs : Conditions} {ds : g.NumberedConditions} (e : Expr Thing) (f : Expr ℕ) (b : Bool) → Conditions_rename R cs
+      ds → Renames R (out-Expr Thing e) (out-Expr ℕ f)
       → Conditions_rename R (cs ++ (e, b) ∷ []) (ds ++ (f, b) ∷ [])
   more e f b i.none q = i.one_and q i.none
   more e f b (i.one_and p cs) q = i.one_and p (more e f b cs q)
 
   -- the assignments under these conditions, here and there
-  record Bound (cs : Conditions) (ds : g.Conditions) (whole : InstrForm) (b : Act) : Type 0 where
+  record Bound (cs : Conditions) (ds : g.NumberedConditions) (whole : InstrForm) (b : Act) : Type 0 where
     placed : List Placed
     are_sets : Sets m u cs whole placed
     numbers : Along (Assign_renames R) (assigns_of placed) (assigns_under b ds)
     places : places_of placed ≡ places_of_act b
 
-  record BoundElse (cs : Conditions) (ds : g.Conditions) (whole : Option (Box Instr Global)) (b : Act) : Type 0 where
+  record BoundElse (cs : Conditions) (ds : g.NumberedConditions) (whole : Option (Box Instr Global))
+      (b : Act) : Type 0 where
     placed : List Placed
     are_sets : Sets_else m u cs whole placed
     numbers : Along (Assign_renames R) (assigns_of placed) (assigns_under b ds)
     places : places_of placed ≡ places_of_act b
 
-  record BoundAll (cs : Conditions) (ds : g.Conditions) (is : List Instr) (bs : List Act) : Type 0 where
+  record BoundAll (cs : Conditions) (ds : g.NumberedConditions) (is : List Instr) (bs : List Act) : Type 0 where
     placed : List Placed
     are_sets : Sets_all m u cs is placed
     numbers : Along (Assign_renames R) (assigns_of placed) (flat_map (λ (b : Act). assigns_under b ds) bs)
@@ -149,14 +150,14 @@ module _ (m : RootedModel) (units : List UnitPath) (u : UnitPath) (leaves : Path
       (subst (λ z. Renames (λ (v : Thing) (x : VarId). R v x.n) (Variable t) z) (sym e) (r.variable k)))
 
   -- one assignment
-  one_assign : (t : Thing) (cs : Conditions) (e : Expr Thing) (at : Place) (x : VarId) (ds : g.Conditions)
+  one_assign : (t : Thing) (cs : Conditions) (e : Expr Thing) (at : Place) (x : VarId) (ds : g.NumberedConditions)
       (f : Expr VarId) → R t x.n → Conditions_rename R cs ds
       → Renames R (out-Expr Thing e) (out-Expr ℕ (numbered f))
       → Assign_renames R ((sets t cs e at).assign) (record { target = x.n; conditions = ds; value = numbered f })
   one_assign t cs e at x ds f k c v = record { target = k; conditions = c; value = v }
 
   -- nothing
-  nothing : (cs : Conditions) (ds : g.Conditions) (whole : InstrForm) (b : Act) → Sets m u cs whole []
+  nothing : (cs : Conditions) (ds : g.NumberedConditions) (whole : InstrForm) (b : Act) → Sets m u cs whole []
       → out-Act b ≡ act.Skip → Bound cs ds whole b
   nothing cs ds whole b h e = record {
     placed = [];
@@ -165,14 +166,14 @@ module _ (m : RootedModel) (units : List UnitPath) (u : UnitPath) (leaves : Path
     places = sym (placed b act.Skip e);
   }
 
-  both_numbers : (acts_of : List Act) (b c : Act) (ds : g.Conditions) (xs : List (s.Assign Thing))
+  both_numbers : (acts_of : List Act) (b c : Act) (ds : g.NumberedConditions) (xs : List (s.Assign Thing))
       → acts_of ≡ b ∷ c ∷ [] → Along (Assign_renames R) xs (assigns_under b ds ++ (assigns_under c ds ++ []))
       → Along (Assign_renames R) xs (flat_map (λ (d : Act). assigns_under d ds) acts_of)
   both_numbers acts_of b c ds xs e h =
       subst (λ (z : List Act). Along (Assign_renames R) xs (flat_map (λ (d : Act). assigns_under d ds) z)) (sym e) h
 
   -- a `:=:`
-  tied : (cs : Conditions) (ds : g.Conditions) (p q : Path) (b : Act) (x y : VarId) → Conditions_rename R cs ds
+  tied : (cs : Conditions) (ds : g.NumberedConditions) (p q : Path) (b : Act) (x y : VarId) → Conditions_rename R cs ds
       → Numbered p x → Numbered q y → SetsBoth x p.at y q.at b → Bound cs ds (instr.Tie p q) b
   tied cs ds p q b x y w f h k =
       let first = k.sets_first in
@@ -223,7 +224,7 @@ module _ (m : RootedModel) (units : List UnitPath) (u : UnitPath) (leaves : Path
 
   mutual
     bound : {whole : InstrForm} {b : Act} → ActsAs leaves whole b → AreLeaves m units u leaves whole
-        → (cs : Conditions) (ds : g.Conditions) → Conditions_rename R cs ds → Bound cs ds whole b
+        → (cs : Conditions) (ds : g.NumberedConditions) → Conditions_rename R cs ds → Bound cs ds whole b
     bound {b = b} (acts.skip e) l cs ds w = nothing cs ds instr.Skip b a.skip e
     bound {b = b} (acts.assign {p = p} {r = v} x f k h e) l cs ds w =
         let t = by_leaf p (leaves p) x (l.of_targets (instr.Assign p v) p part.itself assigned) k in
@@ -275,7 +276,7 @@ module _ (m : RootedModel) (units : List UnitPath) (u : UnitPath) (leaves : Path
 
     bound_else : (v : RawExpr) (first : Box Instr Global) {second : Option (Box Instr Global)} {b : Act}
         → ElseActs leaves second b → AreLeaves m units u leaves (instr.If v first second) → (cs : Conditions)
-        (ds : g.Conditions) → Conditions_rename R cs ds → BoundElse cs ds second b
+        (ds : g.NumberedConditions) → Conditions_rename R cs ds → BoundElse cs ds second b
     bound_else v first {b = b} (acts.no_branch e) l cs ds w = record {
       placed = [];
       are_sets = a.no_branch;
@@ -288,7 +289,7 @@ module _ (m : RootedModel) (units : List UnitPath) (u : UnitPath) (leaves : Path
 
     bound_all : (is : List Instr) {bs : List Act} → All_act leaves is bs
         → ((j : Instr) → IsOneOf is j → AreLeaves m units u leaves (out-Instr j))
-        → (cs : Conditions) (ds : g.Conditions)
+        → (cs : Conditions) (ds : g.NumberedConditions)
         → Conditions_rename R cs ds → BoundAll cs ds is bs
     bound_all [] acts.none l cs ds w = record { placed = []; are_sets = a.none; numbers = along.none; places = refl }
     bound_all (j ∷ js) (acts.one_and h hs) l cs ds w =

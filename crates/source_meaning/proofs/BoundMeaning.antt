@@ -13,7 +13,7 @@ use Rattle.typed_expr.specs.Renames as r
 use Rattle.typed_expr.specs.declared.expr.Expr.{Expr, out-Expr}
 use Rattle.typed_expr.specs.declared.expr.Expr.TheOpen.{Variable}
 use Rattle.typed_expr.specs.declared.expr.ValueKind.TheVariants.{Truth, Whole}
-use Rattle.written_forms.specs.Operands.{RawLevel, level_of, AnyKind, OfKind, Like, Operand, wanting, first_branch, is_equality, sides_by, operands_of, PathIn}
+use Rattle.written_forms.specs.Operands.{RawLevel, level_of, AnyKind, OfKind, Like, OperandOfKind, wanting, first_branch, is_equality, sides_by, operands_of, PathIn}
 use Rattle.written_forms.specs.Operands as in_form
 use Rattle.written_forms.specs.Wrong.{IsMistyped}
 use Rattle.written_forms.specs.Wrong as wrong
@@ -46,11 +46,12 @@ module _ (m : RootedModel) (units : List UnitPath) (u : UnitPath) (leaves : Path
   -- each path in the form became what it stands for, no operand has a wrong kind, and the form is no real
   record Sound (l : RawLevel) : Type 0 where
     leafs : (p : Path) → PathIn p l → IsLeafFor m units u p (leaves p)
-    right : (o : Operand) → IsOneOf (operands_of l) o → (at : Place)
+    right : (o : OperandOfKind) → IsOneOf (operands_of l) o → (at : Place)
         → IsMistyped (HasKindAt m u) o.demand o.written at → ⊥
     no_real : l ≡ raw.Real → ⊥
 
-  operand_sound : {l : RawLevel} → Sound l → (o : Operand) → IsOneOf (operands_of l) o → Sound (level_of o.written)
+  operand_sound : {l : RawLevel} → Sound l → (o : OperandOfKind) → IsOneOf (operands_of l) o
+      → Sound (level_of o.written)
   operand_sound g o i = record {
     leafs = λ p h. g.leafs p (in_form.inside o i h);
     right = λ q j at k. g.right o i at (wrong.inside q j k);
@@ -63,14 +64,14 @@ module _ (m : RootedModel) (units : List UnitPath) (u : UnitPath) (leaves : Path
   left_sound equal a b {l = l} q g =
       let s = left_side equal a b in
       subst (λ (e : RawExpr). Sound (level_of e)) s.2
-      (operand_sound g s.0 (subst (λ (os : List Operand). IsOneOf os s.0) (sym q) s.1))
+      (operand_sound g s.0 (subst (λ (os : List OperandOfKind). IsOneOf os s.0) (sym q) s.1))
 
   right_sound : (equal : Bool) (a b : RawExpr) {l : RawLevel} → operands_of l ≡ sides_by equal a b → Sound l
       → Sound (level_of b)
   right_sound equal a b {l = l} q g =
       let s = right_side equal a b in
       subst (λ (e : RawExpr). Sound (level_of e)) s.2
-      (operand_sound g s.0 (subst (λ (os : List Operand). IsOneOf os s.0) (sym q) s.1))
+      (operand_sound g s.0 (subst (λ (os : List OperandOfKind). IsOneOf os s.0) (sym q) s.1))
 
   -- what is meant, with numbers for variables
   abbrev Meant : RawLevel → Level VarId → Level Thing → Type 0

@@ -4,7 +4,7 @@ use Rattle.std.specs.List.{flat_map, filter}
 use Rattle.ar_base.specs.Lists.{Stands, IsOneOf, AreDifferent}
 use Rattle.ar_base.proofs.Standing.{stands_none, stands_split, stands_map_back, one_here}
 use Rattle.class_table.specs.Members.{NamedMember, MemberKind}
-use Rattle.hierarchy.specs.Models.{RootedModel, IsKept}
+use Rattle.hierarchy.specs.Models.{RootedModel, KeepsTextRules}
 use Rattle.hierarchy.specs.Units.{UnitPath, Thing, names_at}
 use Rattle.hierarchy.specs.Walks.{thing}
 use Rattle.hierarchy.specs.Listing.{AreUnits, things_in}
@@ -85,7 +85,7 @@ module _ (m : RootedModel) (test : MemberKind → Bool) where
       not_again u us a (subst (λ (z : UnitPath). IsOneOf us z) (sym there ∙ here) (one_here us o.from o.item o.stands)))
 
   -- nothing of a kind is listed twice
-  pub things_different : (units : List UnitPath) → IsKept m → AreUnits m units
+  pub things_different : (units : List UnitPath) → KeepsTextRules m → AreUnits m units
       → AreDifferent (flat_map (things_in test m) units)
   things_different units k are = listed units (λ u. names_different u test (names_at m u) (members_apart k u))
       (units_different k are)

@@ -11,7 +11,7 @@ use Rattle.domains.specs.declared.Domain.{Domain}
 use Rattle.domains.specs.declared.Value.TheVariants.{Symbol}
 use Rattle.class_table.specs.Declaring.{Declared}
 use Rattle.class_table.specs.Tables.{IsDomainOf, symbols, range}
-use Rattle.hierarchy.specs.Tie.{HasDomain, boolean, named}
+use Rattle.hierarchy.specs.TypeDomains.{HasDomain, boolean, named}
 
 one_body : {o : Option DomainBody} {a b : DomainBody} → o ≡ Some a → o ≡ Some b → a ≡ b
 one_body p q = cc

@@ -16,7 +16,7 @@ use Rattle.typed_expr.proofs.Renaming.{carries}
 use Rattle.class_table.specs.Members.{MemberKind, Variable, Parameter, Kept, Inner, Clone, Alias, Event, Observer}
 use Rattle.hierarchy.specs.Models.{RootedModel}
 use Rattle.hierarchy.specs.Units.{UnitPath, Thing, kind_at, start_of, numbers}
-use Rattle.hierarchy.specs.Walks.{Reaches, NamesLead, arrives, Finds, LeadsTo, Has, is_variable}
+use Rattle.hierarchy.specs.Walks.{Reaches, NamesLead, arrives, Finds, LeadsTo, PassesTest, is_variable}
 use Rattle.hierarchy.specs.Settings.{Attribute}
 use Rattle.hierarchy.proofs.Outcomes.{walks_same, unit_of_reaches}
 use Rattle.source_meaning.specs.Means.{Means, All_mean, Parts_mean, Cases_mean, ValueOf, is_valued, IsSymbol, no_facts}
@@ -77,7 +77,7 @@ apart (Observer t e) p q = cc
 same_what : {o : Option MemberKind} {v w : MemberKind} → o ≡ Some v → o ≡ Some w → v ≡ w
 same_what p q = cc
 
-pub never_both : {m : RootedModel} {t s : Thing} → t ≡ s → Has m is_variable t → Has m is_valued s → ⊥
+pub never_both : {m : RootedModel} {t s : Thing} → t ≡ s → PassesTest m is_variable t → PassesTest m is_valued s → ⊥
 never_both {m = m} {t = t} {s = s} e h k =
     let there = subst (λ (x : Thing). kind_at m x.unit x.name ≡ Some k.kind) (sym e) k.is in
     let one = same_what h.is there in

@@ -14,7 +14,7 @@ use Rattle.typed_expr.specs.declared.expr.Expr.TheOpen.{Variable as Named}
 use Rattle.ar_meaning.specs.Systems as s
 use Rattle.ar_meaning.specs.Image.{Assign_renames, Conditions_rename, Variable_renames, Expr_renames}
 use Rattle.ar_meaning.specs.Image as i
-use Rattle.ar_meaning.specs.Expand.{Declared, Member, AreKeyed}
+use Rattle.ar_meaning.specs.Expand.{EventDeclaration, Member, AreKeyedEvents}
 use Rattle.ar_meaning.specs.ExpandImage.{Part_renames, Member_renames, transitions, synchronise, Declared_renames}
 use Rattle.ar_meaning.proofs.ImageWays.{along_map, events_along}
 use Rattle.ar_meaning.proofs.OneRun.{events_same}
@@ -24,7 +24,7 @@ use Rattle.ar_meaning.proofs.Found.{same_answer}
 use Rattle.class_table.specs.Declaring.{MemberForm}
 use Rattle.class_table.specs.Members.{Variable, Observer}
 use Rattle.hierarchy.specs.Models.{RootedModel}
-use Rattle.hierarchy.specs.Tie.{HasDomain}
+use Rattle.hierarchy.specs.TypeDomains.{HasDomain}
 use Rattle.hierarchy.specs.Units.{UnitPath, Thing}
 use Rattle.source_meaning.proofs.OneDomain.{values_same}
 use Rattle.hierarchy.specs.Listing.{In, events}
@@ -152,8 +152,8 @@ module _ (m : RootedModel) (different : AreDifferent m.declared.symbols) where
       })
   member_same u f y z (b.sync k) (b.sync h) = synchronise (along_both (part_same u) k h)
 
-  event_same : {units : List UnitPath} → AreDifferent units → (t : Thing) (d e : Declared (s.Transition Thing) Thing)
-      → IsEvent m units t d → IsEvent m units t e
+  event_same : {units : List UnitPath} → AreDifferent units → (t : Thing) (d e : EventDeclaration (s.Transition Thing)
+      Thing) → IsEvent m units t d → IsEvent m units t e
       → Declared_renames (λ (t u : Thing). t ≡ u) (λ (t u : Thing). t ≡ u) d e
   event_same {units = units} k t d e p q = record {
     key = p.key ∙ sym q.key;
@@ -162,11 +162,12 @@ module _ (m : RootedModel) (different : AreDifferent m.declared.symbols) where
     members = along_both (member_same t.unit) p.members q.members;
   }
 
-  keyed : {units : List UnitPath} {ds : List (Declared (s.Transition Thing) Thing)} → AreDifferent (events m units)
-      → Along (IsEvent m units) (events m units) ds → AreKeyed ds
+  keyed : {units : List UnitPath} {ds : List (EventDeclaration (s.Transition Thing) Thing)} → AreDifferent (events m
+      units) → Along (IsEvent m units) (events m units) ds → AreKeyedEvents ds
   keyed {units = units} different_events a = record {
     one = λ j n d e p q k.
-        let back = along_turned {S = λ (d : Declared (s.Transition Thing) Thing) (t : Thing). IsEvent m units t d}
+        let back = along_turned
+        {S = λ (d : EventDeclaration (s.Transition Thing) Thing) (t : Thing). IsEvent m units t d}
         (λ t d h. h) a in
         let x = partner back j d p in
         let y = partner back n e q in

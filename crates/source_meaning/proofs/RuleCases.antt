@@ -21,7 +21,7 @@ use Rattle.source_meaning.specs.Acts.{Conditions, Placed, Sets, tie, AreTied}
 use Rattle.written_forms.specs.Parts.{InstrForm, IsPartOf, itself}
 use Rattle.written_forms.specs.Breaches.{target, ties}
 use Rattle.source_meaning.specs.Tested.{InAction}
-use Rattle.source_meaning.specs.Rules.{in_instruction, in_action, Breaks, l10, l13, name_rules}
+use Rattle.source_meaning.specs.Rules.{in_instruction, in_action, BreaksNameRule, l10, l13, name_rules}
 use Rattle.source_meaning.specs.Systems.{Declarations, Declares, Binds, name_breaks}
 use Rattle.source_meaning.proofs.OneMeaning.{single_found}
 
@@ -32,7 +32,7 @@ none_some p q = cc
 pub unknown_target : (m : RootedModel) (units : List UnitPath) (u : UnitPath) (whole : Instr) (p : Path) (e : RawExpr)
     (x : ℕ) → IsOneOf units u → IsOneOf (forms_at m u) (member.Assert whole)
     → out-Instr whole ≡ instr.Assign p e → p.start ≡ Here → numbers p.names.items ≡ x ∷ [] → kind_at m u x ≡ None
-    → Breaks m units 10 p.at
+    → BreaksNameRule m units 10 p.at
 unknown_target m units u whole p e x i j q here single none =
     l10 (in_instruction (instr.Assign p e) i
     (inr (record {
@@ -44,7 +44,7 @@ unknown_target m units u whole p e x i j q here single none =
 
 -- a `:=:` in an action
 pub acted_tie : (m : RootedModel) (units : List UnitPath) (u : UnitPath) (p q : Path) → IsOneOf units u
-    → InAction m u (instr.Tie p q) → Breaks m units 13 p.at
+    → InAction m u (instr.Tie p q) → BreaksNameRule m units 13 p.at
 acted_tie m units u p q i a = l13 (in_action (instr.Tie p q) i a ties)
 
 -- a name of a member and of a symbol

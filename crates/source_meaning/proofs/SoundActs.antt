@@ -5,7 +5,7 @@ use Rattle.ar_base.specs.Lists.{Stands, IsOneOf}
 use Rattle.ar_base.proofs.Standing.{one_none, one_cases, one_split, one_first, one_rest}
 use Rattle.ar_meaning.specs.Systems as s
 use Rattle.gts_core.specs.View.{numbered}
-use Rattle.gts_core.specs.Bound.{Conditions, assigns_under}
+use Rattle.gts_core.specs.Bound.{NumberedConditions, assigns_under}
 use Rattle.gts_core.specs.declared.bound.Act.{Act, out-Act}
 use Rattle.gts_core.specs.declared.bound.Act.TheOpen as act
 use Rattle.gts_core.specs.declared.bound.Act.TheOpen.{Act-F}
@@ -24,8 +24,8 @@ joined_one f (x ∷ xs) b i = elim (one_split (f x) (flat_map f xs) b i) [
 ]
 
 module _ (p : GtsParts) (to_state : Bool) where
-  sets_sort : {x : Act-F Act} → IsSoundAct p to_state x → (b : Act) → out-Act b ≡ x → (ds : Conditions) (q : s.Assign ℕ)
-      → IsOneOf (assigns_under b ds) q → SetsSort p to_state q
+  sets_sort : {x : Act-F Act} → IsSoundAct p to_state x → (b : Act) → out-Act b ≡ x → (ds : NumberedConditions)
+      (q : s.Assign ℕ) → IsOneOf (assigns_under b ds) q → SetsSort p to_state q
   sets_sort sound.skip b e ds q i = absurd (one_none q (subst (λ z. IsOneOf z q) (under b act.Skip e ds) i))
   sets_sort (sound.set {x = x} {e = f} {at = at} v k is_sort t) b e ds q i =
       let a : s.Assign ℕ = record { target = x.n; conditions = ds; value = numbered f } in

@@ -1,17 +1,15 @@
 -- What it is that bound forms are those of declarations: number n stands for the item at place n of the list of its
 -- kind.
-use Rattle.std.specs.Prelude.{◌≡◌, ℕ, Bool, List, map, Some, Result, Ok, Err, Vec}
+use Rattle.std.specs.Prelude.{◌≡◌, ℕ, Bool, List, map, Result, Ok, Err, Vec}
 use Rattle.std.specs.Global.{Global}
 use Rattle.std.specs.List.{flat_map}
-use Rattle.ar_base.specs.Lists.{Stands, Along}
+use Rattle.ar_base.specs.Lists.{Along}
 use Rattle.ar_base.specs.Stages.{Meets}
 use Rattle.ar_base.specs.declared.counts.Count.{Count}
 use Rattle.ar_base.specs.declared.faults.RuleFault.{RuleFault}
 use Rattle.ar_base.specs.declared.faults.RuleFault.TheVariants.{Limit}
 use Rattle.ar_base.specs.Numbers.{VarId, EventId, NameId}
 use Rattle.ar_base.specs.declared.places.Place.{Place}
-use Rattle.ar_syntax.specs.declared.expressions.RawExpr.{RawExpr}
-use Rattle.ar_syntax.specs.declared.members.TypeForm.{TypeForm}
 use Rattle.typed_expr.specs.declared.expr.Expr.{Expr}
 use Rattle.ar_meaning.specs.Systems.{Net}
 use Rattle.ar_meaning.specs.ExpandImage.{Declared_renames}
@@ -25,25 +23,17 @@ use Rattle.gts_core.specs.declared.bound.DeclaredWay.TheVariants.{Local, Sync}
 use Rattle.gts_core.specs.declared.system.Observer.{Observer}
 use Rattle.gts_core.specs.declared.system.Variable.{Variable}
 use Rattle.class_table.specs.Declaring.{MemberForm}
-use Rattle.class_table.specs.Members as given
 use Rattle.hierarchy.specs.Models.{RootedModel}
 use Rattle.hierarchy.specs.Tie.{IsTreeOf}
-use Rattle.hierarchy.specs.Units.{UnitPath, Thing, kind_at}
+use Rattle.hierarchy.specs.Units.{UnitPath, Thing}
 use Rattle.hierarchy.specs.Listing.{Unfolded, variables, events, observers, ways_declared}
 use Rattle.hierarchy.specs.Paths.{name_text, unit_path, thing_path}
 use Rattle.hierarchy.specs.declared.tree.Tree.{Tree}
-use Rattle.source_meaning.specs.Kinds.{kind_of_type}
 use Rattle.source_meaning.specs.Rules.{IsWayOf}
 use Rattle.source_meaning.specs.SoundBound.{IsSoundBound}
 use Rattle.source_meaning.specs.Systems.{Declarations, AreOf, Binds}
 use Rattle.source_meaning.specs.declared.bound.Bound.{Bound}
-
--- number n stands for the variable, or the event, at place n of the list
-abbrev pub IsVariableNumber : Declarations → Thing → ℕ → Type 0
-IsVariableNumber d t n = Stands (variables d.model d.units) n t
-
-abbrev pub IsEventNumber : Declarations → Thing → ℕ → Type 0
-IsEventNumber d t n = Stands (events d.model d.units) n t
+use Rattle.source_meaning.specs.Numbering.{IsVariableNumber, IsEventNumber, HasObserverKind}
 
 -- Events
 
@@ -66,12 +56,6 @@ pub record HasTexts (d : Declarations) (b : Bound) : Type 0 where
   pub observers_are : map (λ (o : Observer). o.path) b.observers.items
       ≡ map (thing_path d.model) (observers d.model d.units)
 
--- the kind of an observer is that of its type
-pub data HasKind (m : RootedModel) (t : Thing) (o : Observer) : Type 0 where
-  kind : (type : TypeForm) (e : RawExpr) → kind_at m t.unit t.name ≡ Some (given.Observer type e)
-      → kind_of_type m type ≡ Some o.kind
-      → HasKind m t o
-
 -- the variables and the assertions of bound forms, over numbers
 abbrev pub net_of_bound : Bound → Net ℕ
 net_of_bound b = record {
@@ -91,7 +75,7 @@ pub record IsBoundFrom (d : Declarations) (b : Bound) : Type 0 where
   pub observers_are : Along (λ (e : Expr Thing) (o : Observer). Expr_renames (IsVariableNumber d) e (numbered o.value))
       d.observers
       b.observers.items
-  pub kinds : Along (HasKind d.model) (observers d.model d.units) b.observers.items
+  pub kinds : Along (HasObserverKind d.model) (observers d.model d.units) b.observers.items
   pub texts : HasTexts d b
 
 -- the bound forms are those of the tree of the model, whose units are these

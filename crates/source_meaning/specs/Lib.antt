@@ -7,4 +7,5 @@ pub mod BoundExpressions
 pub mod BoundActs
 pub mod Systems
 pub mod Binding
+pub mod Numbering
 pub mod SoundBound

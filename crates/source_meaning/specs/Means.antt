@@ -13,7 +13,7 @@ use Rattle.typed_expr.specs.Yields.{Level, Yields}
 use Rattle.typed_expr.specs.declared.expr.Expr.{Expr, out-Expr}
 use Rattle.typed_expr.specs.declared.expr.Expr.TheOpen.{Constant, Variable, Not, All, Any, Compare, Sum, Product, Least, Greatest, Count, Choose}
 use Rattle.written_forms.specs.Operands.{RawLevel, level_of}
-use Rattle.written_forms.specs.Translating.{relation_of}
+use Rattle.written_forms.specs.Relations.{relation_of}
 use Rattle.class_table.specs.Members.{MemberKind}
 use Rattle.class_table.specs.Members as given
 use Rattle.hierarchy.specs.Models.{RootedModel}

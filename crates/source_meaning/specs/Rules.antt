@@ -16,10 +16,10 @@ use Rattle.class_table.specs.Declaring.{MemberForm}
 use Rattle.ar_base.specs.Numbers.{NameId}
 use Rattle.ar_syntax.specs.declared.members.TypeForm.{TypeForm}
 use Rattle.class_table.specs.Members.{MemberKind, Variable, Parameter}
-use Rattle.hierarchy.specs.Tie.{HasDomain}
+use Rattle.hierarchy.specs.TypeDomains.{HasDomain}
 use Rattle.hierarchy.specs.Models.{RootedModel}
 use Rattle.hierarchy.specs.Units.{UnitPath, Thing, kind_at}
-use Rattle.hierarchy.specs.Walks.{Finds, Has, thing, is_variable, is_event}
+use Rattle.hierarchy.specs.Walks.{Finds, PassesTest, thing, is_variable, is_event}
 use Rattle.hierarchy.specs.Listing.{forms_at}
 use Rattle.hierarchy.specs.Settings.{Attribute, in_force, is_state_variable, is_flow_variable}
 use Rattle.written_forms.specs.Operands.{level_of, OfKind}
@@ -28,7 +28,7 @@ use Rattle.written_forms.specs.Parts.{InstrForm}
 use Rattle.written_forms.specs.Breaches.{MisnamesItself, MistypesItself, MisplacedInAction, MisplacedInAssertion}
 use Rattle.source_meaning.specs.Means.{ValueOf}
 use Rattle.source_meaning.specs.Kinds.{HasKindAt}
-use Rattle.source_meaning.specs.Tested.{InAction, InAssertion, InSome, Scope, Everything, HasValue, Tested, MayName, NamesVariable}
+use Rattle.source_meaning.specs.Tested.{InAction, InAssertion, InSome, Scope, Everything, IsReadable, Tested, MayName, NamesVariable}
 
 -- the path, read in the unit u, names nothing of the kind
 abbrev pub FindsNone : RootedModel → (MemberKind → Bool) → UnitPath → Path → Type 0
@@ -56,7 +56,7 @@ pub data BreaksNaming (m : RootedModel) (units : List UnitPath) : Place → Type
       → FindsNone m is_event u p.event → BreaksNaming m units p.event.at
   way : {u : UnitPath} {at : Place} (f : MemberForm) (x : NameId) → IsOneOf units u → IsOneOf (forms_at m u) f
       → IsWayOf f x at
-      → (Has m is_event (thing u x.n) → ⊥) → BreaksNaming m units at
+      → (PassesTest m is_event (thing u x.n) → ⊥) → BreaksNaming m units at
 
 -- L11
 
@@ -79,7 +79,7 @@ type_of _ = None
 -- a value in force that is outside its domain
 pub record BreaksValue (m : RootedModel) (units : List UnitPath) (p : Place) : Type 0 where
   pub thing : Thing
-  pub has_value : HasValue m units thing
+  pub has_value : IsReadable m units thing
   pub attribute : Attribute
   pub in_force : in_force m thing ≡ Some attribute
   pub value : Value
@@ -121,8 +121,8 @@ abbrev pub name_rules : List ℕ
 name_rules = 10 ∷ 11 ∷ 12 ∷ 13 ∷ []
 
 -- rule n is broken at this place, where the main block has these units
-pub data Breaks (m : RootedModel) (units : List UnitPath) : ℕ → Place → Type 0 where
-  l10 : {p : Place} → BreaksNaming m units p → Breaks m units 10 p
-  l11 : {p : Place} → BreaksKinds m units p → Breaks m units 11 p
-  l12 : {p : Place} → BreaksValue m units p → Breaks m units 12 p
-  l13 : {p : Place} → BreaksTargets m units p → Breaks m units 13 p
+pub data BreaksNameRule (m : RootedModel) (units : List UnitPath) : ℕ → Place → Type 0 where
+  l10 : {p : Place} → BreaksNaming m units p → BreaksNameRule m units 10 p
+  l11 : {p : Place} → BreaksKinds m units p → BreaksNameRule m units 11 p
+  l12 : {p : Place} → BreaksValue m units p → BreaksNameRule m units 12 p
+  l13 : {p : Place} → BreaksTargets m units p → BreaksNameRule m units 13 p

@@ -9,7 +9,7 @@ use Rattle.ar_base.specs.declared.places.Place.{Place}
 use Rattle.typed_expr.specs.declared.expr.Expr.{Expr}
 use Rattle.typed_expr.specs.declared.expr.ValueKind.TheVariants as kind
 use Rattle.ar_meaning.specs.Systems as s
-use Rattle.gts_core.specs.Sound.{kind_of_domain, IsTyped, IsVariable}
+use Rattle.gts_core.specs.Sound.{kind_of_domain, IsTyped, IsVariableOf}
 use Rattle.gts_core.specs.declared.bound.Act.{Act, out-Act}
 use Rattle.gts_core.specs.declared.bound.Act.TheOpen.{Act-F}
 use Rattle.gts_core.specs.declared.bound.Act.TheOpen as act
@@ -57,7 +57,7 @@ pub record AreFew (b : Bound) : Type 0 where
 -- state variables and assertions flows; parts are events; observers have their kinds
 pub record IsSoundBound (b : Bound) : Type 0 where
   pub few : AreFew b
-  pub variables : (p : GtsParts) → IsOver b p → (n : ℕ) (x : Variable) → Stands b.variables.items n x → IsVariable p x
+  pub variables : (p : GtsParts) → IsOver b p → (n : ℕ) (x : Variable) → Stands b.variables.items n x → IsVariableOf p x
   pub event_units : (e : DeclaredEvent) → IsOneOf b.events.items e → e.unit.n < length b.units.items
   pub guards : (p : GtsParts) → IsOver b p → (e : DeclaredEvent) (guard : Expr VarId) (action : Act)
       → IsOneOf b.events.items e

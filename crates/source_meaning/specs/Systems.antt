@@ -16,7 +16,7 @@ use Rattle.domains.specs.declared.Domain.{Domain}
 use Rattle.typed_expr.specs.declared.expr.Expr.{Expr, out-Expr}
 use Rattle.ar_meaning.specs.Systems.{Net, System, Transition}
 use Rattle.ar_meaning.specs.Systems as s
-use Rattle.ar_meaning.specs.Expand.{Declared, Member, One, Synchronises, IsExpanded}
+use Rattle.ar_meaning.specs.Expand.{EventDeclaration, Member, One, Synchronises, IsExpanded}
 use Rattle.ar_meaning.specs.Found.{IsAnswer}
 use Rattle.class_table.specs.Declaring.{MemberForm}
 use Rattle.ar_base.specs.Numbers.{NameId}
@@ -27,11 +27,11 @@ use Rattle.hierarchy.specs.Units.{UnitPath, Thing, kind_at}
 use Rattle.hierarchy.specs.Walks.{Finds, is_event}
 use Rattle.hierarchy.specs.Listing.{Unfolded, In, variables, events, observers, assertions, hidden_paths, ways_declared}
 use Rattle.hierarchy.specs.Settings.{is_state}
-use Rattle.hierarchy.specs.Tie.{HasDomain}
+use Rattle.hierarchy.specs.TypeDomains.{HasDomain}
 use Rattle.written_forms.specs.Operands.{level_of}
 use Rattle.source_meaning.specs.Means.{Means, ValueOf}
 use Rattle.source_meaning.specs.Acts.{Placed, assigns_of, places_of, Sets}
-use Rattle.source_meaning.specs.Rules.{Breaks, name_rules}
+use Rattle.source_meaning.specs.Rules.{BreaksNameRule, name_rules}
 
 -- Variables
 
@@ -81,8 +81,8 @@ pub data IsMember (m : RootedModel) (u : UnitPath) : MemberForm → Member (Tran
 
 -- what an event is: it stands for itself, in the unit of this number, hidden where a hide clause names it, with its
 -- members in order
-pub record IsEvent (m : RootedModel) (units : List UnitPath) (t : Thing) (d : Declared (Transition Thing) Thing) : Type
-    0 where
+pub record IsEvent (m : RootedModel) (units : List UnitPath) (t : Thing) (d : EventDeclaration (Transition Thing)
+    Thing) : Type 0 where
   pub key : d.key ≡ t
   pub unit : Stands units d.unit t.unit
   pub hidden : IsAnswer d.hidden (IsHidden m units t)
@@ -105,7 +105,7 @@ pub record Declarations : Type 0 where
   pub model : RootedModel
   pub units : List UnitPath
   pub net : Net Thing
-  pub events : List (Declared (Transition Thing) Thing)
+  pub events : List (EventDeclaration (Transition Thing) Thing)
   pub observers : List (Expr Thing)
   pub places : List Place
 
@@ -137,7 +137,7 @@ pub record IsSystemOf (m : RootedModel) (units : List UnitPath) (sys : System Th
 
 -- the rules, over a model with its units
 abbrev pub name_breaks : Unfolded → ℕ → Place → Type 0
-name_breaks t = Breaks t.model t.units
+name_breaks t = BreaksNameRule t.model t.units
 
 -- the declarations of the units
 pub data Declares (t : Unfolded) : Result Declarations RuleFault → Type 0 where

@@ -15,7 +15,7 @@ use Rattle.class_table.specs.Members.{NamedMember, Observer}
 use Rattle.written_forms.specs.Parts.{InstrForm, IsPartOf}
 use Rattle.hierarchy.specs.Models.{RootedModel}
 use Rattle.hierarchy.specs.Units.{UnitPath, Thing, names_at, kind_at, numbers}
-use Rattle.hierarchy.specs.Walks.{Finds, Has, thing, is_variable}
+use Rattle.hierarchy.specs.Walks.{Finds, PassesTest, thing, is_variable}
 use Rattle.hierarchy.specs.Listing.{forms_at, variables, parameters, observers}
 use Rattle.hierarchy.specs.Settings.{Attribute, in_force}
 use Rattle.source_meaning.specs.Means.{is_valued, IsSymbol}
@@ -57,14 +57,14 @@ scope_of x None = Before x
 scope_of x (Some k) = Constants
 
 -- the thing has a value that is read: it is a variable, or a parameter that is not Real
-pub data HasValue (m : RootedModel) (units : List UnitPath) (t : Thing) : Type 0 where
-  of_variable : IsOneOf (variables m units) t → HasValue m units t
-  of_parameter : IsOneOf (parameters m units) t → Has m is_valued t → HasValue m units t
+pub data IsReadable (m : RootedModel) (units : List UnitPath) (t : Thing) : Type 0 where
+  of_variable : IsOneOf (variables m units) t → IsReadable m units t
+  of_parameter : IsOneOf (parameters m units) t → PassesTest m is_valued t → IsReadable m units t
 
 -- the expression, of which this kind is wanted, is tested where it stands in the unit, apart from those in
 -- instructions: a value in force, an observer or a guard
 pub data Tested (m : RootedModel) (units : List UnitPath) : UnitPath → Scope → ValueKind → RawExpr → Type 0 where
-  value : {k : ValueKind} (t : Thing) (a : Attribute) → HasValue m units t → in_force m t ≡ Some a → IsOfKind m t k
+  value : {k : ValueKind} (t : Thing) (a : Attribute) → IsReadable m units t → in_force m t ≡ Some a → IsOfKind m t k
       → Tested m units a.unit (scope_of t.name a.setting) k a.value
   observer : {e : RawExpr} {k : ValueKind} (t : Thing) (type : TypeForm) → IsOneOf (observers m units) t
       → kind_at m t.unit t.name ≡ Some (Observer type e)
@@ -76,12 +76,12 @@ pub data Tested (m : RootedModel) (units : List UnitPath) : UnitPath → Scope �
 -- Names
 
 -- the path is this one name
-pub record IsName (p : Path) (x : ℕ) : Type 0 where
+pub record IsOneName (p : Path) (x : ℕ) : Type 0 where
   pub here : p.start ≡ Here
   pub single : numbers p.names.items ≡ x ∷ []
 
 -- in the unit u, the name x comes before the name y in member order
-pub record IsEarlier (m : RootedModel) (u : UnitPath) (x y : ℕ) : Type 0 where
+pub record IsEarlierMember (m : RootedModel) (u : UnitPath) (x y : ℕ) : Type 0 where
   pub j : ℕ
   pub k : ℕ
   pub first : NamedMember
@@ -97,8 +97,8 @@ pub data MayName (m : RootedModel) (u : UnitPath) : Scope → Path → Type 0 wh
   symbol : {s : Scope} {p : Path} (k : ℕ) → IsSymbol m u p k → MayName m u s p
   variable : {p : Path} (t : Thing) → Finds m is_variable u p t → MayName m u Everything p
   parameter : {p : Path} (t : Thing) → Finds m is_valued u p t → MayName m u Everything p
-  own : {p : Path} (x : ℕ) → IsName p x → Has m is_valued (thing u x) → MayName m u Constants p
-  earlier : {p : Path} {y : ℕ} (x : ℕ) → IsName p x → Has m is_valued (thing u x) → IsEarlier m u x y
+  own : {p : Path} (x : ℕ) → IsOneName p x → PassesTest m is_valued (thing u x) → MayName m u Constants p
+  earlier : {p : Path} {y : ℕ} (x : ℕ) → IsOneName p x → PassesTest m is_valued (thing u x) → IsEarlierMember m u x y
       → MayName m u (Before y) p
 
 -- the path, read in the unit u, names a variable

@@ -18,7 +18,7 @@ ghost use Rattle.hierarchy.specs.Listing.{Unfolded, forms_at};
 ghost use Rattle.source_meaning.specs.Means.{IsSymbol};
 ghost use Rattle.source_meaning.specs.Acts.{Conditions, Placed, Sets, AreTied};
 ghost use Rattle.source_meaning.specs.Tested.{InAction};
-ghost use Rattle.source_meaning.specs.Rules.{Breaks};
+ghost use Rattle.source_meaning.specs.Rules.{BreaksNameRule};
 ghost use Rattle.source_meaning.specs.Systems.{Declarations, Binds};
 
 /// An assertion `x := ..` in a unit that has no `x` breaks L10 at its target.
@@ -27,14 +27,14 @@ pub fn unknown_targets_break_naming()
         (e : RawExpr) (x : ℕ)
         → IsOneOf units u → IsOneOf (forms_at m u) (Assert whole) → out-Instr whole ≡ Assign p e
         → p.start ≡ Here
-        → numbers p.names.items ≡ x ∷ [] → kind_at m u x ≡ None → Breaks m units 10 p.at }
+        → numbers p.names.items ≡ x ∷ [] → kind_at m u x ≡ None → BreaksNameRule m units 10 p.at }
 {}
 
 /// A `:=:` in an action breaks L13 at its left path, whatever its paths name.
 pub fn ties_in_actions_break_targets()
     ensures { (m : RootedModel) (units : List UnitPath) (u : UnitPath) (p q : Path)
         → IsOneOf units u
-        → InAction m u (Tie p q) → Breaks m units 13 p.at }
+        → InAction m u (Tie p q) → BreaksNameRule m units 13 p.at }
 {}
 
 /// A member of a unit, of whatever kind, hides the symbol of its name.

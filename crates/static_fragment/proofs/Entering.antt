@@ -9,7 +9,7 @@ use Rattle.ar_meaning.specs.Systems as s
 use Rattle.ar_meaning.specs.Systems.{System}
 use Rattle.ar_meaning.specs.Runs.{Label}
 use Rattle.ar_firing.specs.Fragment.{IsLive}
-use Rattle.ar_firing.specs.Rules.{KeepsS1, KeepsS2, AreTwo, ways, modes, BreaksS6, stays, by_events, by_edges, initial, Spot, S6, Breaks, s6}
+use Rattle.ar_firing.specs.Rules.{KeepsS1, KeepsS2, AreTwoEdges, ways, modes, BreaksS6, stays, by_events, by_edges, initial, Spot, S6, BreaksStaticRule, s6}
 use Rattle.gts_core.specs.View.{variable_of}
 use Rattle.gts_core.specs.declared.system.GtsParts.{GtsParts}
 use Rattle.mode_search.specs.declared.kept.KeptWay.{KeptWay}
@@ -85,7 +85,7 @@ module _ {p : GtsParts} {system : System ℕ} {dropped : List ℕ} {kept : List 
 
       two : f.event.n ≡ e.event.n → (number_in p f.way.n ≡ number_in p e.way.n) ⊎
           (number_in p f.way.n ≡ number_in p e.way.n → ⊥)
-          → (f.from ≡ e.from) ⊎ (f.from ≡ e.from → ⊥) → AreTwo (label_in p f) (label_in p e) n n f.from e.from
+          → (f.from ≡ e.from) ⊎ (f.from ≡ e.from → ⊥) → AreTwoEdges (label_in p f) (label_in p e) n n f.from e.from
       two ev (inr d) u = ways d
       two ev (inl w) (inr d) = modes d
       two ev (inl w) (inl u) =
@@ -160,5 +160,5 @@ module _ {p : GtsParts} {system : System ℕ} {dropped : List ℕ} {kept : List 
         again_at n b.reach b.stands (λ first s is q once. none_begins s first b.reach q once b.edge b.is_one
         (b.is_to ∙ is x sx))
 
-    pub unbroken_s6 : ((n : ℕ) → IsAgainAt reaches n → ⊥) → (spot : Spot) → Breaks system dropped S6 spot → ⊥
+    pub unbroken_s6 : ((n : ℕ) → IsAgainAt reaches n → ⊥) → (spot : Spot) → BreaksStaticRule system dropped S6 spot → ⊥
     unbroken_s6 none spot (s6 {n = n} h) = none n (breaks_again n h)

@@ -3,7 +3,7 @@ use Rattle.std.proofs.Common.{◌≡◌, ◌+◌, ℕ, ◌⊎◌, inl, inr, Bool
 use Rattle.std.proofs.lemmas.Bool.{cases_eq, ltb-false}
 use Rattle.ar_base.specs.Numbers.{VarId}
 use Rattle.ar_meaning.specs.Systems.{System}
-use Rattle.ar_firing.specs.Rules.{BreaksS3, BreaksS4, BreaksS5, BreaksS6, AtEvent, AtUnit, AtVariable, AtObserver, AtWhole, IsShownBefore, variables, Rule, S1, S2, S3, S4, S5, S6, S7, S8, Breaks, s3, s4, s5, s6, s8, Keeps, KeepsAll, number_of}
+use Rattle.ar_firing.specs.Rules.{BreaksS3, BreaksS4, BreaksS5, BreaksS6, AtEvent, AtUnit, AtVariable, AtObserver, AtWhole, IsShownBefore, variables, Rule, S1, S2, S3, S4, S5, S6, S7, S8, BreaksStaticRule, s3, s4, s5, s6, s8, KeepsStaticRule, KeepsAll, rule_number}
 use Rattle.ar_firing.specs.Rules as rules
 use Rattle.ar_firing.proofs.RulesHold.{rule_of, numbered}
 use Rattle.ar_firing.proofs.Unbroken.{keeps_s3, keeps_s4, keeps_s5, keeps_s6}
@@ -94,22 +94,22 @@ module _ (system : System ℕ) (dropped : List ℕ) where
   first_rule S8 l = absurd (omega (arith, l))
 
   -- a rule more is kept
-  pub next_rule : (r : Rule) → KeepsBelow system dropped (number_of r) → Keeps system dropped r
-      → KeepsBelow system dropped (number_of r + 1)
-  next_rule r below k q l = elim (at_most (number_of q) (number_of r) l) [
+  pub next_rule : (r : Rule) → KeepsBelow system dropped (rule_number r) → KeepsStaticRule system dropped r
+      → KeepsBelow system dropped (rule_number r + 1)
+  next_rule r below k q l = elim (at_most (rule_number q) (rule_number r) l) [
     | inl h ↦ below q h
-    | inr e ↦ (let same : r ≡ q = sym (numbered r) ∙ (ap rule_of (sym e) ∙ numbered q) in subst (Keeps system dropped)
-        same k)
+    | inr e ↦ (let same : r ≡ q = sym (numbered r) ∙ (ap rule_of (sym e) ∙ numbered q) in subst (KeepsStaticRule system
+        dropped) same k)
   ]
 
-  outside : (r : Rule) (spot : rules.Spot) → KeepsBelow system dropped (number_of r)
+  outside : (r : Rule) (spot : rules.Spot) → KeepsBelow system dropped (rule_number r)
       → IsFirstShown system dropped r spot → (e : FragmentFault)
-      → IsShown (number_of r) spot e → IsRefused system dropped e
+      → IsShown (rule_number r) spot e → IsRefused system dropped e
   outside r spot below first (Outside number there) s = record {
     rule = r;
     is_rule = sym s.0;
     first = record {
-      breaks = subst (Breaks system dropped r) (sym s.1) first.breaks;
+      breaks = subst (BreaksStaticRule system dropped r) (sym s.1) first.breaks;
       lesser_kept = below;
       is_first = λ other k x. first.is_first other (subst (λ (z : rules.Spot). IsShownBefore other z) s.1 k) x;
     };
@@ -117,33 +117,33 @@ module _ (system : System ℕ) (dropped : List ℕ) where
   outside r spot below first Memory s = absurd s
 
   -- the rule is broken first by the least number that was found
-  refuse : (r : Rule) (spot : ℕ → rules.Spot) (P : ℕ → Type 0) → KeepsBelow system dropped (number_of r)
+  refuse : (r : Rule) (spot : ℕ → rules.Spot) (P : ℕ → Type 0) → KeepsBelow system dropped (rule_number r)
       → ((n : ℕ) → IsLeast P (Some n) → IsFirstShown system dropped r (spot n))
-      → (least : Option ℕ) → IsLeast P least → (e : FragmentFault) → IsShownWith (number_of r) spot least (Err e)
+      → (least : Option ℕ) → IsLeast P least → (e : FragmentFault) → IsShownWith (rule_number r) spot least (Err e)
       → IsRefused system dropped e
   refuse r spot P below first None h e s = absurd s
   refuse r spot P below first (Some n) h e s = outside r (spot n) below (first n h) e s
 
   -- the same, where it is shown with variables alone
-  at_variables : (r : Rule) (P : ℕ → Type 0) → ((n : ℕ) → P n → Breaks system dropped r (AtVariable n))
-      → ((n : ℕ) → Breaks system dropped r (AtVariable n) → P n)
+  at_variables : (r : Rule) (P : ℕ → Type 0) → ((n : ℕ) → P n → BreaksStaticRule system dropped r (AtVariable n))
+      → ((n : ℕ) → BreaksStaticRule system dropped r (AtVariable n) → P n)
       → (n : ℕ) → IsLeast P (Some n) → IsFirstShown system dropped r (AtVariable n)
   at_variables r P there back n h = record { breaks = there n h.0; is_first = λ other l b. before l b }
     where
-      before : {other : rules.Spot} → IsShownBefore other (AtVariable n) → Breaks system dropped r other → ⊥
+      before : {other : rules.Spot} → IsShownBefore other (AtVariable n) → BreaksStaticRule system dropped r other → ⊥
       before (variables {m = k} l) b = let q = h.1 k (back k b) in omega (arith, l, q)
 
   -- what a rule that is shown with variables alone says of one
-  s3_of : {n : ℕ} → Breaks system dropped S3 (AtVariable n) → BreaksS3 system dropped n
+  s3_of : {n : ℕ} → BreaksStaticRule system dropped S3 (AtVariable n) → BreaksS3 system dropped n
   s3_of (s3 b) = b
 
-  s4_of : {n : ℕ} → Breaks system dropped S4 (AtVariable n) → BreaksS4 system dropped n
+  s4_of : {n : ℕ} → BreaksStaticRule system dropped S4 (AtVariable n) → BreaksS4 system dropped n
   s4_of (s4 b) = b
 
-  s5_of : {n : ℕ} → Breaks system dropped S5 (AtVariable n) → BreaksS5 system dropped n
+  s5_of : {n : ℕ} → BreaksStaticRule system dropped S5 (AtVariable n) → BreaksS5 system dropped n
   s5_of (s5 b) = b
 
-  s6_of : {n : ℕ} → Breaks system dropped S6 (AtVariable n) → BreaksS6 system dropped n
+  s6_of : {n : ℕ} → BreaksStaticRule system dropped S6 (AtVariable n) → BreaksS6 system dropped n
   s6_of (s6 b) = b
 
   module _ (p : GtsParts) (views : Views p system) where
@@ -199,7 +199,7 @@ module _ (system : System ℕ) (dropped : List ℕ) where
       BreaksFour n = OtherInAction kept n ⊎ IsWrongAt reaches n
 
       module _ (below : KeepsBelow system dropped 4) where
-        break4 : (n : ℕ) → BreaksFour n → Breaks system dropped S4 (AtVariable n)
+        break4 : (n : ℕ) → BreaksFour n → BreaksStaticRule system dropped S4 (AtVariable n)
         break4 n (inl h) = s4 (action_breaks a.ways n h)
         break4 n (inr h) = s4 (wrong_breaks a n h)
 
@@ -252,7 +252,8 @@ module _ (system : System ℕ) (dropped : List ℕ) where
 
     module _ (count : ℕ) (s : Sharing) (is : IsSharing count live (length live) s) (below : KeepsBelow system dropped 8)
       where
-        nothing_before : (other : rules.Spot) → IsShownBefore other AtWhole → Breaks system dropped S8 other → ⊥
+        nothing_before : (other : rules.Spot) → IsShownBefore other AtWhole → BreaksStaticRule system dropped S8 other
+            → ⊥
         nothing_before other h b = elim h [ ]
 
         pub counted : (r : Result (Unit {0}) FragmentFault) → IsCounted (length s.events.items) r
@@ -329,7 +330,7 @@ module _ (system : System ℕ) (dropped : List ℕ) where
   pub all_rules : KeepsBelow system dropped 9 → KeepsAll system dropped
   all_rules below = record { each = λ rule. each rule }
     where
-      each : (rule : Rule) → Keeps system dropped rule
+      each : (rule : Rule) → KeepsStaticRule system dropped rule
       each S1 = below S1 (omega arith)
       each S2 = below S2 (omega arith)
       each S3 = below S3 (omega arith)

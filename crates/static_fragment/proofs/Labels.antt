@@ -10,7 +10,7 @@ use Rattle.ar_meaning.specs.Systems.{System, Net, Transition, Leaf, Joint, Branc
 use Rattle.ar_meaning.specs.Numbered.{Body, Acts, Joins, leaf, joint}
 use Rattle.ar_meaning.specs.Runs.{Label, IsWay}
 use Rattle.ar_firing.specs.Fragment.{IsKept}
-use Rattle.gts_core.specs.View.{of_body, body_of, bodies_of, variable_of, IsWayAt, IsEvent, Views}
+use Rattle.gts_core.specs.View.{of_body, body_of_way, way_bodies, variable_of, IsWayAt, IsEventView, Views}
 use Rattle.gts_core.specs.declared.system.Variable.{Variable}
 use Rattle.gts_core.specs.declared.system.Event.{Event}
 use Rattle.gts_core.specs.declared.system.Way.{Way}
@@ -26,9 +26,9 @@ use Rattle.mode_search.specs.Kept.{IsLocal}
 -- a way by its number
 module _ (p : GtsParts) where
   -- the way that a number that means a way is read at
-  way_at : (n : ℕ) (b : Body (Transition ℕ)) → Stands (bodies_of p) n b
-      → (w : Way) × Stands p.ways.items n w × (body_of w ≡ b)
-  way_at n b s = stands_map_back body_of p.ways.items n b s
+  way_at : (n : ℕ) (b : Body (Transition ℕ)) → Stands (way_bodies p) n b
+      → (w : Way) × Stands p.ways.items n w × (body_of_way w ≡ b)
+  way_at n b s = stands_map_back body_of_way p.ways.items n b s
 
   -- a transition of the system is a transition of the parts
   pub record IsTransitionAt (n : ℕ) (d : Transition ℕ) : Type 0 where
@@ -40,8 +40,8 @@ module _ (p : GtsParts) where
   pub local_means : (n : ℕ) (guard : Expr VarId) (action : Vec Assign Global) → IsLocal p n guard action
       → IsWayAt p n (Leaf (transition_of guard action.items))
   local_means n guard action h =
-      leaf (subst (λ (b : WayBody). Stands (bodies_of p) n (of_body b)) h.body
-      (stands_map body_of p.ways.items n h.way h.stands))
+      leaf (subst (λ (b : WayBody). Stands (way_bodies p) n (of_body b)) h.body
+      (stands_map body_of_way p.ways.items n h.way h.stands))
 
   transition_in : (n : ℕ) (w : Way) (d : Transition ℕ) → Stands p.ways.items n w → (b : WayBody) → w.body ≡ b
       → of_body b ≡ Acts d → IsTransitionAt n d
@@ -66,7 +66,7 @@ module _ (p : GtsParts) where
       let r = way_at n (Joins ns) s in
       record { way = r.0; stands = r.1; is_sync = sync_in r.0 ns r.0.body refl r.2 }
 
-  not_both : (n : ℕ) (d : Transition ℕ) → IsJoint p n → (b : Body (Transition ℕ)) → Stands (bodies_of p) n b
+  not_both : (n : ℕ) (d : Transition ℕ) → IsJoint p n → (b : Body (Transition ℕ)) → Stands (way_bodies p) n b
       → b ≡ Acts d → ⊥
   not_both n d j b s e =
       let r = way_at n b s in
@@ -91,7 +91,7 @@ module _ (p : GtsParts) where
 pub record IsPartsWay (p : GtsParts) (l : Label) (w : s.Way ℕ) (meant : s.Event ℕ) : Type 0 where
   pub event : Event
   pub stands : Stands p.events.items l.event event
-  pub means : IsEvent p event meant
+  pub means : IsEventView p event meant
   pub way : WayId
   pub has : Stands event.ways.items l.way way
   pub is_at : IsWayAt p way.n w
@@ -100,17 +100,17 @@ pub record IsPartsWay (p : GtsParts) (l : Label) (w : s.Way ℕ) (meant : s.Even
 pub record IsSystemWay (p : GtsParts) (system : System ℕ) (l : Label) (event : Event) (way : WayId) : Type 0 where
   pub meant : s.Way ℕ
   pub is_way : IsWay system l meant
-  pub means : IsEvent p event is_way.event
+  pub means : IsEventView p event is_way.event
   pub is_at : IsWayAt p way.n meant
 
 module _ (p : GtsParts) (system : System ℕ) (views : Views p system) where
   -- an event of the parts means the event of the system at its place
   pub event_there : (n : ℕ) (e : Event) → Stands p.events.items n e
-      → (m : s.Event ℕ) × Stands system.events n m × IsEvent p e m
+      → (m : s.Event ℕ) × Stands system.events n m × IsEventView p e m
   event_there n e h = along_on p.events.items system.events views.events n e h
 
   pub event_back : (n : ℕ) (m : s.Event ℕ) → Stands system.events n m
-      → (e : Event) × Stands p.events.items n e × IsEvent p e m
+      → (e : Event) × Stands p.events.items n e × IsEventView p e m
   event_back n m h = along_back p.events.items system.events views.events n m h
 
   -- a way of an event of the parts means the way of the system at its label

@@ -15,7 +15,7 @@ use Rattle.ar_meaning.specs.Runs.{Label}
 use Rattle.ar_meaning.proofs.Found.{holds}
 use Rattle.ar_firing.specs.Fragment.{IsOpen, IsModeOf, At, Path, root, edge, IsReached, IsLive}
 use Rattle.ar_firing.specs.Fragment as f
-use Rattle.ar_firing.specs.Rules.{IsLiveAt, GivesOther, KeepsS1, KeepsS2, BreaksS4, names, gives, Spot, S4, Breaks, s4}
+use Rattle.ar_firing.specs.Rules.{IsLiveAt, GivesOther, KeepsS1, KeepsS2, BreaksS4, names, gives, Spot, S4, BreaksStaticRule, s4}
 use Rattle.gts_core.specs.View.{variable_of}
 use Rattle.gts_core.specs.declared.system.Variable.{Variable}
 use Rattle.gts_core.specs.declared.system.GtsParts.{GtsParts}
@@ -367,7 +367,7 @@ module _ {p : GtsParts} {system : System ℕ} {dropped : List ℕ} {kept : List 
     broken_s4 n (gives l w x m h o) = inr (wrong_found l w n x m h o)
 
     pub unbroken_s4 : ((n : ℕ) → OtherInAction kept n → ⊥) → ((n : ℕ) → IsWrongAt reaches n → ⊥) → (spot : Spot)
-        → Breaks system dropped S4 spot → ⊥
+        → BreaksStaticRule system dropped S4 spot → ⊥
     unbroken_s4 f g spot (s4 {n = n} h) = elim (broken_s4 n h) [ inl k ↦ f n k | inr k ↦ g n k ]
 
     -- the same in rows

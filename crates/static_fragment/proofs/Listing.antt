@@ -10,7 +10,7 @@ use Rattle.typed_expr.proofs.Listing.{value_told}
 use Rattle.ar_meaning.specs.Systems.{System}
 use Rattle.ar_meaning.specs.Runs.{Label}
 use Rattle.ar_firing.specs.Fragment.{IsLive}
-use Rattle.ar_firing.specs.Rules.{KeepsS1, KeepsS2, AreTwo, ways, variables, modes, HasLive, BreaksS5, KeepsS8, BreaksS8, Spot, S5, Breaks, s5}
+use Rattle.ar_firing.specs.Rules.{KeepsS1, KeepsS2, AreTwoEdges, ways, variables, modes, HasLive, BreaksS5, KeepsS8, BreaksS8, Spot, S5, BreaksStaticRule, s5}
 use Rattle.gts_core.specs.declared.system.GtsParts.{GtsParts}
 use Rattle.mode_search.specs.declared.kept.KeptWay.{KeptWay}
 use Rattle.mode_trees.specs.Views.{number_in}
@@ -23,7 +23,7 @@ use Rattle.static_fragment.specs.Setting.{AreLiveEdges, label_in}
 use Rattle.static_fragment.proofs.Leading.{label_of, live_there, live_back, way_of_label}
 
 -- two things that are one in all three are not two
-pub not_two : (k l : Label) (m n : ℕ) (u v : Value) → k ≡ l → m ≡ n → u ≡ v → AreTwo k l m n u v → ⊥
+pub not_two : (k l : Label) (m n : ℕ) (u v : Value) → k ≡ l → m ≡ n → u ≡ v → AreTwoEdges k l m n u v → ⊥
 not_two k l m n u v e f g (ways h) = h (ap (λ (z : Label). z.way) e)
 not_two k l m n u v e f g (variables h) = h f
 not_two k l m n u v e f g (modes h) = h g
@@ -52,7 +52,7 @@ module _ {p : GtsParts} {system : System ℕ} {dropped : List ℕ} {kept : List 
 
   -- different places of one event have different edges
   two_of : (x y : ℕ) (l m : Live) → Stands live x l → Stands live y m → (x ≡ y → ⊥) → l.edge.event.n ≡ m.edge.event.n
-      → AreTwo (label_in p l.edge) (label_in p m.edge) l.variable.n m.variable.n l.edge.from m.edge.from
+      → AreTwoEdges (label_in p l.edge) (label_in p m.edge) l.variable.n m.variable.n l.edge.from m.edge.from
   two_of x y l m sl sm apart e =
       by (cases_eq (number_in p l.edge.way.n) (number_in p m.edge.way.n)) (cases_eq l.variable.n m.variable.n)
       (value_told l.edge.from m.edge.from)
@@ -61,7 +61,7 @@ module _ {p : GtsParts} {system : System ℕ} {dropped : List ℕ} {kept : List 
           (number_in p l.edge.way.n ≡ number_in p m.edge.way.n → ⊥)
           → (l.variable.n ≡ m.variable.n) ⊎ (l.variable.n ≡ m.variable.n → ⊥)
           → (l.edge.from ≡ m.edge.from) ⊎ (l.edge.from ≡ m.edge.from → ⊥)
-          → AreTwo (label_in p l.edge) (label_in p m.edge) l.variable.n m.variable.n l.edge.from m.edge.from
+          → AreTwoEdges (label_in p l.edge) (label_in p m.edge) l.variable.n m.variable.n l.edge.from m.edge.from
       by (inr n) v u = ways n
       by (inl w) (inr n) u = variables n
       by (inl w) (inl v) (inr n) = modes n
@@ -144,7 +144,7 @@ module _ {p : GtsParts} {system : System ℕ} {dropped : List ℕ} {kept : List 
 
     -- two live edges of an event stand at two places
     two_places : (e m n : ℕ) (h : HasLive system dropped e m) (k : HasLive system dropped e n)
-        → AreTwo h.label k.label m n h.from k.from
+        → AreTwoEdges h.label k.label m n h.from k.from
         → (listed e m h).place ≡ (listed e n k).place → ⊥
     two_places e m n h k t i =
         let a = listed e m h in
@@ -199,7 +199,8 @@ module _ {p : GtsParts} {system : System ℕ} {dropped : List ℕ} {kept : List 
           is_event = two.is_event;
         }
 
-    pub unbroken_s5 : ((n : ℕ) → IsShared live (length live) n → ⊥) → (spot : Spot) → Breaks system dropped S5 spot → ⊥
+    pub unbroken_s5 : ((n : ℕ) → IsShared live (length live) n → ⊥) → (spot : Spot)
+        → BreaksStaticRule system dropped S5 spot → ⊥
     unbroken_s5 none spot (s5 {n = n} h) = none n (breaks_shared n h)
 
     pub few_keep : (count : ℕ) (s : Sharing) → IsSharing count live (length live) s → length s.events.items ≤ 2048

@@ -4,7 +4,7 @@ use Rattle.ar_meaning.specs.Systems as s
 use Rattle.ar_meaning.specs.Systems.{System, Way as Ways}
 use Rattle.ar_meaning.specs.Runs.{Label}
 use Rattle.ar_firing.specs.Fragment.{GuardNames, ActionNames}
-use Rattle.ar_firing.specs.Rules.{KeepsS1, KeepsS2, HasModeVariable, BreaksS3, BreaksS4, names, Spot, S3, Breaks, s3}
+use Rattle.ar_firing.specs.Rules.{KeepsS1, KeepsS2, HasModeVariable, BreaksS3, BreaksS4, names, Spot, S3, BreaksStaticRule, s3}
 use Rattle.gts_core.specs.View.{variable_of}
 use Rattle.gts_core.specs.declared.system.GtsParts.{GtsParts}
 use Rattle.mode_search.specs.Modes.{NamesOther, NamesAlone}
@@ -78,5 +78,5 @@ module _ {p : GtsParts} {system : System ℕ} {dropped : List ℕ} {kept : List 
               (λ i. d (i ∙ (e ∙ sym (key_at c n x m.stands))));
         }
 
-    pub unbroken_s3 : ((n : ℕ) → OtherInGuard kept n → ⊥) → (spot : Spot) → Breaks system dropped S3 spot → ⊥
+    pub unbroken_s3 : ((n : ℕ) → OtherInGuard kept n → ⊥) → (spot : Spot) → BreaksStaticRule system dropped S3 spot → ⊥
     unbroken_s3 none spot (s3 {n = n} h) = none n (guard_other n h)

@@ -13,7 +13,7 @@ use Rattle.ar_firing.specs.Fragment.{IsKept, IsStateOf, IsModeOf}
 use Rattle.ar_firing.specs.Fragment as f
 use Rattle.ar_firing.proofs.RulesHold.{mode_same}
 use Rattle.ar_firing.specs.Rules.{IsTransition, KeepsS1, KeepsS2, HasModeVariable}
-use Rattle.gts_core.specs.View.{of_body, body_of, bodies_of, variable_of}
+use Rattle.gts_core.specs.View.{of_body, body_of_way, way_bodies, variable_of}
 use Rattle.gts_core.specs.declared.system.Variable.{Variable}
 use Rattle.gts_core.specs.declared.system.Event.{Event}
 use Rattle.gts_core.specs.declared.system.WayBody.{WayBody}
@@ -61,21 +61,21 @@ leaf_of bodies n (Joint bs) t m = elim t [ ]
 module _ (p : GtsParts) where
   -- the number of a transition stands for it
   body_at : (n : ℕ) (g : Expr VarId) (a : Vec Assign Global) → IsLocal p n g a
-      → Stands (bodies_of p) n (Acts (transition_of g a.items))
-  body_at n g a i = subst (λ (z : WayBody). Stands (bodies_of p) n (of_body z)) i.body
-      (stands_map body_of p.ways.items n i.way i.stands)
+      → Stands (way_bodies p) n (Acts (transition_of g a.items))
+  body_at n g a i = subst (λ (z : WayBody). Stands (way_bodies p) n (of_body z)) i.body
+      (stands_map body_of_way p.ways.items n i.way i.stands)
 
   -- one number stands for one transition
   pub local_same : (n : ℕ) (g h : Expr VarId) (a b : Vec Assign Global) → IsLocal p n g a → IsLocal p n h b
       → transition_of g a.items ≡ transition_of h b.items
   local_same n g h a b i j =
-      let e = stands_one (bodies_of p) n (Acts (transition_of g a.items)) (Acts (transition_of h b.items))
+      let e = stands_one (way_bodies p) n (Acts (transition_of g a.items)) (Acts (transition_of h b.items))
       (body_at n g a i) (body_at n h b j) in cc
 
-  local_at : (n : ℕ) (d : Transition ℕ) → Stands (bodies_of p) n (Acts d)
+  local_at : (n : ℕ) (d : Transition ℕ) → Stands (way_bodies p) n (Acts d)
       → (g : Expr VarId) × (a : Vec Assign Global) × IsLocal p n g a × (transition_of g a.items ≡ d)
   local_at n d st =
-      let b = stands_map_back body_of p.ways.items n (Acts d) st in
+      let b = stands_map_back body_of_way p.ways.items n (Acts d) st in
       let r = local_of b.0.body d b.2 in
       (r.0, r.1, record { way = b.0; stands = b.1; body = r.2 }, r.3)
 
@@ -122,7 +122,7 @@ module _ {p : GtsParts} {system : System ℕ} {dropped : List ℕ} {kept : List 
   tie l k at =
       let e = along_on p.events.items system.events c.views.events l.event at.event at.is_event in
       let w = along_on at.event.ways.items e.0.ways e.2.ways l.way at.way at.has in
-      let same : w.0 ≡ leaf_at at = means_same (bodies_of p) w.2
+      let same : w.0 ≡ leaf_at at = means_same (way_bodies p) w.2
       (leaf (body_at p at.way.n at.is.guard at.is.action at.is.local)) in
       let mode : IsModeOf system e.0.unit (leaf_at at) k.mode.variable.n =
       subst (λ (z : ℕ). IsModeOf system z (leaf_at at) k.mode.variable.n) (sym e.2.unit)
@@ -200,7 +200,7 @@ module _ {p : GtsParts} {system : System ℕ} {dropped : List ℕ} {kept : List 
     to_keep l w i =
         let e = along_back p.events.items system.events c.views.events l.event i.is_way.event i.is_way.is_event in
         let y = along_back e.0.ways.items i.is_way.event.ways e.2.ways l.way w i.is_way.is_way in
-        let d = leaf_of (bodies_of p) y.0.n w (k1.each l w i.is_way) y.2 in
+        let d = leaf_of (way_bodies p) y.0.n w (k1.each l w i.is_way) y.2 in
         let g = local_at p y.0.n d.0 d.2 in
         let within = stands_within p.events.items l.event e.0 e.1 in
         let b = stands_some c.marks l.event (omega (arith, within, c.marked.long)) in

@@ -3,7 +3,7 @@ use Rattle.std.specs.Prelude.{◌≡◌, ℕ, List}
 use Rattle.ar_meaning.specs.Systems.{System}
 use Rattle.ar_firing.specs.Forest.{IsForest}
 use Rattle.ar_firing.specs.Forest as firing
-use Rattle.ar_firing.specs.Rules.{Rule, number_of, IsFirstBroken, KeepsAll, AtEvent, AtUnit, AtVariable, AtObserver, AtWhole}
+use Rattle.ar_firing.specs.Rules.{Rule, rule_number, IsFirstBroken, KeepsAll, AtEvent, AtUnit, AtVariable, AtObserver, AtWhole}
 use Rattle.ar_firing.specs.Rules as rules
 use Rattle.static_fragment.specs.declared.faults.Spot.{Spot}
 use Rattle.static_fragment.specs.declared.faults.Spot.TheVariants.{Event, Unit as InUnit, Variable, Observer, Whole}
@@ -26,7 +26,7 @@ pub record IsRecognised (system : System ℕ) (dropped : List ℕ) (trees : List
 -- the rule of this number is the least that the system breaks, and this is the first thing that it is shown with
 pub record IsOutside (system : System ℕ) (dropped : List ℕ) (number : ℕ) (spot : Spot) : Type 0 where
   pub rule : Rule
-  pub is_rule : number_of rule ≡ number
+  pub is_rule : rule_number rule ≡ number
   pub first : IsFirstBroken system dropped rule (spot_of spot)
 
 -- why the system was refused; want of memory says nothing of it

@@ -1,7 +1,7 @@
 -- What is known after each stage, and what a stage answers.
 use Rattle.std.specs.Prelude.{◌<◌, ℕ, List, length, Result, Ok, Err}
 use Rattle.ar_meaning.specs.Systems.{System}
-use Rattle.ar_firing.specs.Rules.{Rule, number_of, Keeps}
+use Rattle.ar_firing.specs.Rules.{Rule, rule_number, KeepsStaticRule}
 use Rattle.gts_core.specs.View.{Views}
 use Rattle.gts_core.specs.declared.system.GtsParts.{GtsParts}
 use Rattle.mode_search.specs.declared.kept.KeptWay.{KeptWay}
@@ -18,7 +18,7 @@ use Rattle.static_fragment.specs.Recognised.{IsRefused}
 
 -- the rules with a lesser number are kept
 abbrev pub KeepsBelow : System ℕ → List ℕ → ℕ → Type 0
-KeepsBelow system dropped number = (rule : Rule) → number_of rule < number → Keeps system dropped rule
+KeepsBelow system dropped number = (rule : Rule) → rule_number rule < number → KeepsStaticRule system dropped rule
 
 -- what holds of a success and of a refusal
 abbrev pub OnResult : {A : Type 0} → (A → Type 0) → (FragmentFault → Type 0) → Result A FragmentFault → Type 0

@@ -4,7 +4,7 @@ use Rattle.std.proofs.lemmas.List.{append-nil, length-map}
 use Rattle.std.specs.List.{flat_map}
 use Rattle.ar_base.specs.Lists.{Stands}
 use Rattle.ar_base.proofs.Standing.{stands_none}
-use Rattle.ar_meaning.specs.Expand.{Declared, Member, One, Synchronises}
+use Rattle.ar_meaning.specs.Expand.{EventDeclaration, Member, One, Synchronises}
 use Rattle.ar_meaning.specs.Numbered.{Body, Joins}
 use Rattle.ar_meaning.specs.Systems.{Transition}
 use Rattle.gts_core.specs.Bound.{declared_from, declared_of, member_of}
@@ -12,7 +12,8 @@ use Rattle.gts_core.specs.declared.bound.DeclaredEvent.{DeclaredEvent}
 use Rattle.gts_core.specs.declared.bound.DeclaredWay.{DeclaredWay}
 use Rattle.sync_expand.specs.Counts.{member_count, way_count}
 use Rattle.sync_expand.specs.Planning.{Adds}
-use Rattle.sync_expand.specs.Plans.{PlannedWay, bodies_by, choices_by, numbered_from, planned_of, planned_ways, ways_of_event}
+use Rattle.sync_expand.specs.Plans.{PlannedWay, bodies_by, choices_by, numbered_from, planned_ways, ways_of_event}
+use Rattle.sync_expand.specs.Planned.{planned_of}
 use Rattle.sync_expand.specs.declared.plans.WayPlan.{WayPlan}
 use Rattle.sync_expand.proofs.Capping.{drop_next, drop_end}
 use Rattle.sync_expand.proofs.DeclaredLemmas.{declared_stands}
@@ -91,8 +92,8 @@ member_within counts (v ∷ ways) zero w s =
 member_within counts (v ∷ ways) (suc i) w s = let h = member_within counts ways i w s in omega (arith, h)
 
 -- the ways of one event more
-pub planned_next : {L : Type 0} (counts : List ℕ) (ds : List (Declared L ℕ)) (i : ℕ) (d : Declared L ℕ) → Stands ds i d
-    → planned_ways counts (take (i + 1) ds) ≡ planned_ways counts (take i ds) ++ ways_of_event counts d
+pub planned_next : {L : Type 0} (counts : List ℕ) (ds : List (EventDeclaration L ℕ)) (i : ℕ) (d : EventDeclaration L ℕ)
+    → Stands ds i d → planned_ways counts (take (i + 1) ds) ≡ planned_ways counts (take i ds) ++ ways_of_event counts d
 planned_next counts ds i d s =
     ap (planned_ways counts) (take_next ds i d s)
     ∙ (flat_map_join (ways_of_event counts) (take i ds) (d ∷ [])

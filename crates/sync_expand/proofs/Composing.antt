@@ -11,9 +11,10 @@ use Rattle.ar_meaning.specs.Systems.{Way}
 use Rattle.gts_core.specs.Bound.{declared_from}
 use Rattle.gts_core.specs.declared.bound.DeclaredEvent.{DeclaredEvent}
 use Rattle.sync_expand.specs.Counts.{AreCounts, all_parts}
-use Rattle.sync_expand.specs.Expanding.{AreExpandable, AreWays, Breaks, way_rules, Expands, have, greatest, most_ways, way_parts}
+use Rattle.sync_expand.specs.Expanding.{AreExpandable, AreWays, BreaksNumberedWayRule, Expands, have}
+use Rattle.sync_expand.specs.Counting.{way_rules, greatest, most_ways, way_parts}
 use Rattle.sync_expand.specs.Links.{Falls}
-use Rattle.sync_expand.specs.Plans.{IsPlan}
+use Rattle.sync_expand.specs.Planned.{IsPlan}
 use Rattle.sync_expand.specs.declared.plans.WayPlan.{WayPlan}
 use Rattle.sync_expand.proofs.DeclaredLemmas.{declared_key, declared_keyed, declared_length}
 use Rattle.sync_expand.proofs.KnownLemmas.{sum_within}
@@ -43,7 +44,7 @@ fits_one count counted a b h = fits_same count counted a b (Ok b) refl h
 
 -- what is known of declared events that keep the rule
 pub record HaveAll (events : List DeclaredEvent) : Type 0 where
-  pub keeps : AreKept way_rules (Breaks events)
+  pub keeps : AreKept way_rules (BreaksNumberedWayRule events)
   pub ways : List (List (Way ℕ))
   pub are : AreWays (declared_from 0 events) ways
   pub counts : AreCounts (declared_from 0 events) (map length ways)
@@ -72,11 +73,12 @@ sum_small events h sound l =
 
 module _ (events : List DeclaredEvent) where
   -- the rule is broken
-  pub rule_refuses : (t : Option RuleFault) → IsRefusal (Keeps way_rules Breaks events) t → IsRefusal (Expands events) t
+  pub rule_refuses : (t : Option RuleFault) → IsRefusal (Keeps way_rules BreaksNumberedWayRule events) t
+      → IsRefusal (Expands events) t
   rule_refuses (Some r) h = refuses h
   rule_refuses None h = tt
 
-  module _ (keeps : AreKept way_rules (Breaks events)) (ways : List (List (Way ℕ)))
+  module _ (keeps : AreKept way_rules (BreaksNumberedWayRule events)) (ways : List (List (Way ℕ)))
       (are : AreWays (declared_from 0 events) ways) where
     -- an event has too many ways
     pub ways_refuse : (t : Option RuleFault) → IsRefusal (Fits TheWays greatest (map length ways)) t

@@ -6,7 +6,7 @@ use Rattle.ar_base.specs.Numbers.{EventId}
 use Rattle.ar_base.specs.declared.places.Place.{Place}
 use Rattle.ar_base.proofs.Standing.{stands_one, stands_map, stands_map_back, stands_none, one_here}
 use Rattle.ar_meaning.specs.Systems.{Transition}
-use Rattle.ar_meaning.specs.Expand.{Declared, Synchronises, HasPart, AreKeyed}
+use Rattle.ar_meaning.specs.Expand.{EventDeclaration, Synchronises, HasPart, AreKeyedEvents}
 use Rattle.gts_core.specs.Bound.{member_of, declared_of, declared_from, event_part_of}
 use Rattle.gts_core.specs.declared.bound.DeclaredEvent.{DeclaredEvent}
 use Rattle.gts_core.specs.declared.bound.DeclaredWay.{DeclaredWay}
@@ -25,7 +25,7 @@ declared_stands m (e ∷ events) (suc n) d s =
     (declared_stands (m + 1) events n d s)
 
 -- and the other way round
-pub declared_back : (m : ℕ) (events : List DeclaredEvent) (n : ℕ) (x : Declared (Transition ℕ) ℕ)
+pub declared_back : (m : ℕ) (events : List DeclaredEvent) (n : ℕ) (x : EventDeclaration (Transition ℕ) ℕ)
     → Stands (declared_from m events) n x
     → (d : DeclaredEvent) × Stands events n d × (x ≡ declared_of (m + n) d)
 declared_back m [] n x s = absurd (stands_none n x s)
@@ -40,11 +40,11 @@ declared_length m [] = refl
 declared_length m (e ∷ events) = ap suc (declared_length (m + 1) events)
 
 -- a declared event's number is its key
-pub declared_key : (events : List DeclaredEvent) (n : ℕ) (x : Declared (Transition ℕ) ℕ)
+pub declared_key : (events : List DeclaredEvent) (n : ℕ) (x : EventDeclaration (Transition ℕ) ℕ)
     → Stands (declared_from 0 events) n x → x.key ≡ n
-declared_key events n x s = let b = declared_back 0 events n x s in ap (λ (d : Declared (Transition ℕ) ℕ). d.key) b.2 ∙ (let same : 0 + n ≡ n = omega arith in same)
+declared_key events n x s = let b = declared_back 0 events n x s in ap (λ (d : EventDeclaration (Transition ℕ) ℕ). d.key) b.2 ∙ (let same : 0 + n ≡ n = omega arith in same)
 
-pub declared_keyed : (events : List DeclaredEvent) → AreKeyed (declared_from 0 events)
+pub declared_keyed : (events : List DeclaredEvent) → AreKeyedEvents (declared_from 0 events)
 declared_keyed events = record {
   one = λ m n d e s r i. sym (declared_key events m d s)
       ∙ (i ∙ declared_key events n e r);
@@ -94,7 +94,7 @@ named_part events e p h =
     let b = declared_back 0 events h.place h.declared h.stands in
     let same : h.place ≡ e = sym (declared_key events h.place h.declared h.stands) ∙ h.is_key in
     let member : Stands (map member_of b.0.ways.items) h.is_member.place (Synchronises h.parts) =
-    subst (λ (d : Declared (Transition ℕ) ℕ). Stands d.members h.is_member.place (Synchronises h.parts)) b.2
+    subst (λ (d : EventDeclaration (Transition ℕ) ℕ). Stands d.members h.is_member.place (Synchronises h.parts)) b.2
     h.is_member.stands in
     let w = synchronised b.0.ways.items h.is_member.place h.parts member in
     let part : Stands (map event_part_of w.0.items) h.is_part.place (h.must, p) =

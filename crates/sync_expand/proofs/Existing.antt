@@ -8,13 +8,15 @@ use Rattle.ar_meaning.specs.Systems.{Tree, Transition}
 use Rattle.ar_meaning.specs.Expand.{ReachesPart, part_of, Ways, event}
 use Rattle.gts_core.specs.Bound.{declared_from}
 use Rattle.gts_core.specs.declared.bound.DeclaredEvent.{DeclaredEvent}
-use Rattle.sync_expand.specs.Expanding.{AreExpandable, AreWays, Breaks, way_rules}
+use Rattle.sync_expand.specs.Expanding.{AreExpandable, AreWays, BreaksNumberedWayRule}
+use Rattle.sync_expand.specs.Counting.{way_rules}
 use Rattle.sync_expand.proofs.DeclaredLemmas.{declared_stands, declared_back, declared_key, part_named}
 use Rattle.sync_expand.proofs.Reaching.{reaches_on}
 use Rattle.sync_expand.proofs.RuleLemmas.{never_itself}
 use Rattle.sync_expand.proofs.WaysLemmas.{HasWays, members_give, along_all}
 
-module _ (events : List DeclaredEvent) (sound : AreExpandable events) (keeps : AreKept way_rules (Breaks events)) where
+module _ (events : List DeclaredEvent) (sound : AreExpandable events)
+    (keeps : AreKept way_rules (BreaksNumberedWayRule events)) where
   -- an event that is reached from so many others has ways: as many events are left below it
   ways_below : (fuel : ℕ) (above : List ℕ) (e : ℕ) → length events ≤ fuel + length above → AllDiffer above
       → ((a : ℕ) → IsOneOf above a → (a < length events) × ReachesPart (declared_from 0 events) a e)

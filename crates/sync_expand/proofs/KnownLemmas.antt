@@ -6,11 +6,11 @@ use Rattle.std.proofs.lemmas.List.Sums.{sum_by-cons, sum_by_more, sum_by-take-le
 use Rattle.std.proofs.lemmas.Option.{same_Some}
 use Rattle.ar_base.specs.Lists.{Stands}
 use Rattle.ar_base.proofs.Standing.{stands_one, stands_none, stands_within, stands_get, stands_left, stands_next, stands_map_back}
-use Rattle.ar_meaning.specs.Expand.{Declared}
+use Rattle.ar_meaning.specs.Expand.{EventDeclaration}
 use Rattle.gts_core.specs.Bound.{declared_from, declared_of, member_of}
 use Rattle.gts_core.specs.declared.bound.DeclaredEvent.{DeclaredEvent}
 use Rattle.sync_expand.specs.Counts.{AreKnown, AreCounts, AreFew, way_count}
-use Rattle.sync_expand.specs.Expanding.{greatest}
+use Rattle.sync_expand.specs.Counting.{greatest}
 use Rattle.sync_expand.specs.Planning.{IsNumbering}
 use Rattle.sync_expand.specs.Plans.{first_of}
 use Rattle.sync_expand.proofs.Capping.{read_number}
@@ -108,8 +108,8 @@ some_known counts found e l = record {
         subst (λ (x : ℕ). Stands counts n x) (same_Some b.0 c b.2) b.1
 
 -- no event has more ways than the greatest
-pub few_of : {L : Type 0} (ds : List (Declared L ℕ)) (counts : List ℕ) → AreCounts ds counts → greatest counts ≤ 256
-    → AreFew counts ds
+pub few_of : {L : Type 0} (ds : List (EventDeclaration L ℕ)) (counts : List ℕ) → AreCounts ds counts → greatest counts
+    ≤ 256 → AreFew counts ds
 few_of ds counts are l = record { few = λ d i. let b = below_greatest counts i.place (way_count counts d.members) (are.each i.place d i.stands) in omega (arith, b, l) }
 
 -- a way of an event has a number below all ways

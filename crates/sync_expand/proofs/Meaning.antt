@@ -7,24 +7,25 @@ use Rattle.ar_base.specs.Lists as l
 use Rattle.ar_base.proofs.Standing.{stands_one, stands_none, stands_left, stands_right, along_back, along_length, one_first, one_rest}
 use Rattle.ar_base.proofs.Items.{along_append}
 use Rattle.ar_meaning.specs.Systems.{Tree, Leaf, Joint, Branches, Empty, Branch}
-use Rattle.ar_meaning.specs.Expand.{Declared, Member, One, Synchronises, AreKeyed, Ways, Members_give, no_member, one, synchronises, Parts_give, no_part, choice, choices}
+use Rattle.ar_meaning.specs.Expand.{EventDeclaration, Member, One, Synchronises, AreKeyedEvents, Ways, Members_give, no_member, one, synchronises, Parts_give, no_part, choice, choices}
 use Rattle.ar_meaning.specs.Numbered.{Body, Acts, Joins, Means_way, leaf, joint, Mean_parts, part}
 use Rattle.ar_meaning.specs.Numbered as m
 use Rattle.ar_meaning.proofs.ImageWays.{along_map}
 use Rattle.ar_meaning.proofs.OneRun.{ways_same}
 use Rattle.sync_expand.specs.Expanding.{AreWays}
-use Rattle.sync_expand.specs.Plans.{first_of, choices_by, bodies_by, all_bodies, numbered_from, planned_ways, IsResolved, acts, joins}
+use Rattle.sync_expand.specs.Plans.{first_of, choices_by, bodies_by, numbered_from, planned_ways}
+use Rattle.sync_expand.specs.Planned.{all_bodies, IsResolved, acts, joins}
 use Rattle.sync_expand.proofs.WaysLemmas.{ways_at, count_read, own_members}
 
 -- two lists of ways of the same events are one
-pub ways_one : {L : Type 0} (ds : List (Declared L ℕ)) → AreKeyed ds
-    → {xs : List (Declared L ℕ)} {a b : List (List (Tree L))} → Along (λ d ts. Ways ds d.key ts) xs a
+pub ways_one : {L : Type 0} (ds : List (EventDeclaration L ℕ)) → AreKeyedEvents ds
+    → {xs : List (EventDeclaration L ℕ)} {a b : List (List (Tree L))} → Along (λ d ts. Ways ds d.key ts) xs a
     → Along (λ d ts. Ways ds d.key ts) xs b → a ≡ b
 ways_one ds keyed l.none l.none = refl
 ways_one ds keyed (l.one_and v vs) (l.one_and w ws) = let e = ways_same ds keyed v w in let i = ways_one ds keyed vs ws in cc
 
-module _ {L : Type 0} (ds : List (Declared L ℕ)) (keyed : AreKeyed ds)
-    (numbered : (n : ℕ) (d : Declared L ℕ) → Stands ds n d → d.key ≡ n) (wss : List (List (Tree L)))
+module _ {L : Type 0} (ds : List (EventDeclaration L ℕ)) (keyed : AreKeyedEvents ds)
+    (numbered : (n : ℕ) (d : EventDeclaration L ℕ) → Stands ds n d → d.key ≡ n) (wss : List (List (Tree L)))
     (are : AreWays ds wss) where
   -- each number is that of the way of its part
   data IsChoice : List (Bool × ℕ) → Branches L → Type 0 where
@@ -67,8 +68,8 @@ module _ {L : Type 0} (ds : List (Declared L ℕ)) (keyed : AreKeyed ds)
       along_append (along_map Joins Joint (λ ns bs c. of_joint c) (choices_match p)) (members_match (k + 1) d)
 
   -- the body at a way's number is that of the way
-  body_stands : {xs : List (Declared L ℕ)} {uss : List (List (Tree L))}
-      → ((d : Declared L ℕ) → IsOneOf xs d → IsOneOf ds d) → Along (λ d ts. Ways ds d.key ts) xs uss
+  body_stands : {xs : List (EventDeclaration L ℕ)} {uss : List (List (Tree L))}
+      → ((d : EventDeclaration L ℕ) → IsOneOf xs d → IsOneOf ds d) → Along (λ d ts. Ways ds d.key ts) xs uss
       → (e k : ℕ) (ts : List (Tree L)) (t : Tree L) → Stands uss e ts → Stands ts k t
       → (b : Body L) × Stands (all_bodies (map length wss) xs) (first_of (map length uss) e + k) b × IsBody b t
   body_stands of l.none e k ts t s u = absurd (stands_none e ts s)
@@ -116,8 +117,8 @@ module _ {L : Type 0} (ds : List (Declared L ℕ)) (keyed : AreKeyed ds)
         (parts_mean bs rest c)
 
 -- each way of the plan with its transition in it
-module _ {L : Type 0} (ds : List (Declared L ℕ)) (counts : List ℕ) where
-  members_resolved : (d : Declared L ℕ) → Stands ds d.key d → (k n : ℕ) (ms : List (Member L ℕ))
+module _ {L : Type 0} (ds : List (EventDeclaration L ℕ)) (counts : List ℕ) where
+  members_resolved : (d : EventDeclaration L ℕ) → Stands ds d.key d → (k n : ℕ) (ms : List (Member L ℕ))
       → ((j : ℕ) (x : L) → Stands ms j (One x) → Stands d.members (k + j) (One x))
       → Along (IsResolved ds) (numbered_from d.key n (bodies_by (λ i x. i) counts k ms))
       (bodies_by (λ i x. x) counts k ms)
@@ -135,8 +136,8 @@ module _ {L : Type 0} (ds : List (Declared L ℕ)) (counts : List ℕ) where
       go n [] later = later n
       go n (c ∷ cs) later = l.one_and (joins refl) (go (n + 1) cs later)
 
-  pub plan_resolved : (xs : List (Declared L ℕ)) → ((d : Declared L ℕ) → IsOneOf xs d → Stands ds d.key d)
-      → Along (IsResolved ds) (planned_ways counts xs) (all_bodies counts xs)
+  pub plan_resolved : (xs : List (EventDeclaration L ℕ)) → ((d : EventDeclaration L ℕ) → IsOneOf xs d → Stands ds d.key
+      d) → Along (IsResolved ds) (planned_ways counts xs) (all_bodies counts xs)
   plan_resolved [] h = l.none
   plan_resolved (d ∷ xs) h =
       along_append

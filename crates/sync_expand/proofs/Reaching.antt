@@ -2,14 +2,14 @@
 use Rattle.std.proofs.Common.{ℕ, ◌<◌, ◌≤◌, List, refl, sym, subst, inl, inr, arith, slice_index}
 use Rattle.ar_base.specs.Lists.{Stands}
 use Rattle.ar_base.specs.Numbers.{EventId}
-use Rattle.ar_meaning.specs.Expand.{Declared, HasPart, ReachesPart, part_of, further}
+use Rattle.ar_meaning.specs.Expand.{EventDeclaration, HasPart, ReachesPart, part_of, further}
 use Rattle.gts_core.specs.Bound.{declared_from}
 use Rattle.gts_core.specs.declared.bound.DeclaredEvent.{DeclaredEvent}
 use Rattle.sync_expand.specs.Links.{IsReached, AreReached, IsPartOf, OpensWays, Falls}
 use Rattle.sync_expand.proofs.DeclaredLemmas.{NamesPart, part_named}
 
 -- one step further
-pub reaches_on : {L E : Type 0} {ds : List (Declared L E)} {a b c : E} → ReachesPart ds a b → HasPart ds b c
+pub reaches_on : {L E : Type 0} {ds : List (EventDeclaration L E)} {a b c : E} → ReachesPart ds a b → HasPart ds b c
     → ReachesPart ds a c
 reaches_on (part_of h) k = further h (part_of k)
 reaches_on (further h r) k = further h (reaches_on r k)

@@ -6,12 +6,13 @@ use Rattle.ar_base.specs.Lists.{Stands, IsOneOf}
 use Rattle.ar_base.specs.declared.places.Place.{Place}
 use Rattle.ar_base.proofs.Standing.{stands_one, stands_map, stands_map_back, one_here}
 use Rattle.ar_meaning.specs.Systems.{Transition}
-use Rattle.ar_meaning.specs.Expand.{Declared, Member, Synchronises, HasPart, ReachesPart, part_of, further}
+use Rattle.ar_meaning.specs.Expand.{EventDeclaration, Member, Synchronises, HasPart, ReachesPart, part_of, further}
 use Rattle.gts_core.specs.Bound.{declared_from, declared_of, member_of, event_part_of}
 use Rattle.gts_core.specs.declared.bound.DeclaredEvent.{DeclaredEvent}
 use Rattle.gts_core.specs.declared.bound.DeclaredWay.{DeclaredWay}
 use Rattle.gts_core.specs.declared.bound.DeclaredWay.TheVariants.{Sync}
-use Rattle.sync_expand.specs.Expanding.{BreaksSynchronisation, Breaks, l14, way_rules}
+use Rattle.sync_expand.specs.Expanding.{BreaksNumberedSynchronisation, BreaksNumberedWayRule, l14}
+use Rattle.sync_expand.specs.Counting.{way_rules}
 use Rattle.sync_expand.specs.Links.{Climbs, IsClimb, IsFirstLink, nowhere, there, IsReached, Falls}
 use Rattle.sync_expand.specs.declared.links.Link.{Link}
 use Rattle.sync_expand.proofs.DeclaredLemmas.{NamesPart, named_part, part_named, declared_stands, declared_back, declared_key}
@@ -71,7 +72,7 @@ module _ (events : List DeclaredEvent) (ranks : List ℕ) where
 
   -- a link by whose part the event is reached breaks the rule
   pub breach_of : (l : Link) → IsClimb events ranks 0 l → IsReached events l.part.n l.event.n
-      → BreaksSynchronisation events l.at
+      → BreaksNumberedSynchronisation events l.at
   breach_of l h r = record {
     event = l.event.n;
     declared = h.declared;
@@ -100,7 +101,7 @@ module _ (events : List DeclaredEvent) (ranks : List ℕ) where
           h.climb.is_way.stands
 
   -- a breach is a synchronisation with a part from which the event is reached
-  pub named_breach : (q : Place) (b : BreaksSynchronisation events q)
+  pub named_breach : (q : Place) (b : BreaksNumberedSynchronisation events q)
       → (p : ℕ) × (h : NamesPart events b.event p) × (h.at ≡ q) × IsReached events p b.event
   named_breach q b =
       let k = b.back in
@@ -109,7 +110,7 @@ module _ (events : List DeclaredEvent) (ranks : List ℕ) where
       let same : d.0 ≡ b.declared = stands_one events b.event d.0 b.declared
       (subst (λ (n : ℕ). Stands events n d.0) here d.1) b.stands in
       let members : k.declared.members ≡ map member_of b.declared.ways.items =
-      ap (λ (x : Declared (Transition ℕ) ℕ). x.members) d.2
+      ap (λ (x : EventDeclaration (Transition ℕ) ℕ). x.members) d.2
       ∙ ap (λ (x : DeclaredEvent). map member_of x.ways.items) same in
       let at : Stands (map member_of b.declared.ways.items) b.number (Synchronises k.parts) =
       subst (λ (ms : List (Member (Transition ℕ) ℕ)). Stands ms b.number (Synchronises k.parts)) members
@@ -148,14 +149,14 @@ module _ (events : List DeclaredEvent) (ranks : List ℕ) where
   -- the first link that climbs, where ranks never rise and its event is reached from its part
   pub broken_of : (f : Option Link) (l : Link) → f ≡ Some l → IsFirstLink (IsClimb events ranks 0) f
       → ((e p : ℕ) → HasPart (declared_from 0 events) e p → slice_index ranks p ≤ slice_index ranks e)
-      → IsReached events l.part.n l.event.n → IsBroken way_rules (Breaks events) 14 l.at
+      → IsReached events l.part.n l.event.n → IsBroken way_rules (BreaksNumberedWayRule events) 14 l.at
   broken_of f l e h level r = by (subst (λ (z : Option Link). IsFirstLink (IsClimb events ranks 0) z) e h)
     where
       reach : (a b : ℕ) → IsReached events a b → slice_index ranks b ≤ slice_index ranks a
       reach a b (inl e) = let s = ap (slice_index ranks) e in omega arith
       reach a b (inr k) = never_rises events ranks level a b k
 
-      by : IsFirstLink (IsClimb events ranks 0) (Some l) → IsBroken way_rules (Breaks events) 14 l.at
+      by : IsFirstLink (IsClimb events ranks 0) (Some l) → IsBroken way_rules (BreaksNumberedWayRule events) 14 l.at
       by (there is before) = record {
         is_one = record { place = 0; stands = refl };
         breaks_there = l14 (breach_of l is r);
@@ -163,7 +164,7 @@ module _ (events : List DeclaredEvent) (ranks : List ℕ) where
         no_earlier = earlier;
       }
         where
-          earlier : (q : Place) → IsEarlier q l.at → Breaks events 14 q → ⊥
+          earlier : (q : Place) → IsEarlier q l.at → BreaksNumberedWayRule events 14 q → ⊥
           earlier q i (l14 b) =
               let n = named_breach q b in
               let low = reach n.0 b.event n.3 in
@@ -171,10 +172,10 @@ module _ (events : List DeclaredEvent) (ranks : List ℕ) where
               before k.0 (subst (λ (z : Place). IsEarlier z l.at) (sym (k.2 ∙ n.2)) i) k.1
 
   -- where ranks fall, the rule is kept
-  pub kept_of : Falls events ranks → AreKept way_rules (Breaks events)
+  pub kept_of : Falls events ranks → AreKept way_rules (BreaksNumberedWayRule events)
   kept_of falls = record { kept = λ s p i b. by s p (one_rule s i) b }
     where
-      by : (s : ℕ) (p : Place) → s ≡ 14 → Breaks events s p → ⊥
+      by : (s : ℕ) (p : Place) → s ≡ 14 → BreaksNumberedWayRule events s p → ⊥
       by s p e (l14 b) =
           let n = named_breach p b in
           let part = part_named events b.event n.0 n.1 in
@@ -185,7 +186,7 @@ module _ (events : List DeclaredEvent) (ranks : List ℕ) where
           ]
 
 -- where the rule is kept, no event is reached from itself
-pub never_back : (events : List DeclaredEvent) → AreKept way_rules (Breaks events) → (e p : ℕ)
+pub never_back : (events : List DeclaredEvent) → AreKept way_rules (BreaksNumberedWayRule events) → (e p : ℕ)
     → HasPart (declared_from 0 events) e p → IsReached events p e → ⊥
 never_back events keeps e p h r =
     let k = link_of events [] e p 0 (named_part events e p h) (let l : 0 ≤ 0 = omega arith in l) in
@@ -194,7 +195,7 @@ never_back events keeps e p h r =
     (subst (λ (n : ℕ). IsReached events n e) (sym k.4) r) in
     keeps.kept 14 k.0.at (record { place = 0; stands = refl }) (l14 (breach_of events [] k.0 k.1 back))
 
-pub never_itself : (events : List DeclaredEvent) → AreKept way_rules (Breaks events) → (e : ℕ)
+pub never_itself : (events : List DeclaredEvent) → AreKept way_rules (BreaksNumberedWayRule events) → (e : ℕ)
     → ReachesPart (declared_from 0 events) e e → ⊥
 never_itself events keeps e (part_of h) = never_back events keeps e e h (inl refl)
 never_itself events keeps e (further {e = f} h r) = never_back events keeps e f h (inr r)

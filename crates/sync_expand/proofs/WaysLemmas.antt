@@ -8,14 +8,15 @@ use Rattle.ar_base.specs.Numbers.{EventId}
 use Rattle.ar_base.specs.declared.places.Place.{Place}
 use Rattle.ar_base.proofs.Standing.{stands_one, stands_map, stands_within, stands_some, along_on, along_length, one_first, one_rest}
 use Rattle.ar_meaning.specs.Systems.{Tree, Leaf, Joint, Branches, Empty, Branch, Transition}
-use Rattle.ar_meaning.specs.Expand.{Declared, Member, One, Synchronises, AreKeyed, Ways, event, Members_give, no_member, one, synchronises, Parts_give, no_part, choice, choices}
+use Rattle.ar_meaning.specs.Expand.{EventDeclaration, Member, One, Synchronises, AreKeyedEvents, Ways, event, Members_give, no_member, one, synchronises, Parts_give, no_part, choice, choices}
 use Rattle.ar_meaning.proofs.OneRun.{ways_same}
 use Rattle.gts_core.specs.Bound.{declared_from, member_of, event_part_of}
 use Rattle.gts_core.specs.declared.bound.DeclaredEvent.{DeclaredEvent}
 use Rattle.gts_core.specs.declared.bound.DeclaredWay.{DeclaredWay}
 use Rattle.gts_core.specs.declared.bound.DeclaredWay.TheVariants.{Local, Sync}
 use Rattle.sync_expand.specs.Counts.{AreCounts, choice_count, way_count, parts_given, all_parts}
-use Rattle.sync_expand.specs.Expanding.{AreWays, AreExpandable, parts_in, way_parts}
+use Rattle.sync_expand.specs.Expanding.{AreWays, AreExpandable}
+use Rattle.sync_expand.specs.Counting.{parts_in, way_parts}
 use Rattle.sync_expand.specs.Links.{Falls}
 use Rattle.sync_expand.proofs.Capping.{read_number}
 use Rattle.sync_expand.proofs.DeclaredLemmas.{declared_stands, declared_back, declared_key, part_named}
@@ -56,8 +57,8 @@ parts_choices must (t ∷ ts) bss =
     let b = parts_branch must t bss in
     omega (arith, i, k, a, b)
 
-module _ {L : Type 0} (ds : List (Declared L ℕ)) (keyed : AreKeyed ds)
-    (numbered : (n : ℕ) (d : Declared L ℕ) → Stands ds n d → d.key ≡ n) (wss : List (List (Tree L)))
+module _ {L : Type 0} (ds : List (EventDeclaration L ℕ)) (keyed : AreKeyedEvents ds)
+    (numbered : (n : ℕ) (d : EventDeclaration L ℕ) → Stands ds n d → d.key ≡ n) (wss : List (List (Tree L)))
     (are : AreWays ds wss) where
   -- the ways of an event stand at its number
   pub ways_at : (e : ℕ) (ts : List (Tree L)) → Ways ds e ts → Stands wss e ts
@@ -120,7 +121,7 @@ module _ {L : Type 0} (ds : List (Declared L ℕ)) (keyed : AreKeyed ds)
       omega (arith, i, b, c, a)
 
   -- an event's ways are those that its members give
-  pub own_members : (n : ℕ) (d : Declared L ℕ) (ts : List (Tree L)) → Stands ds n d → Ways ds d.key ts
+  pub own_members : (n : ℕ) (d : EventDeclaration L ℕ) (ts : List (Tree L)) → Stands ds n d → Ways ds d.key ts
       → Members_give ds d.members ts
   own_members n d ts s w = by w
     where
@@ -128,7 +129,7 @@ module _ {L : Type 0} (ds : List (Declared L ℕ)) (keyed : AreKeyed ds)
       by (event {d = x} k t e m) =
           let here : k ≡ n = keyed.one k n x d t s e in
           let same : x ≡ d = stands_one ds n x d (subst (λ (i : ℕ). Stands ds i x) here t) s in
-          subst (λ (y : Declared L ℕ). Members_give ds y.members ts) same m
+          subst (λ (y : EventDeclaration L ℕ). Members_give ds y.members ts) same m
 
   -- the numbers of ways are the counts
   pub are_counts : AreCounts ds (map length wss)
@@ -140,8 +141,8 @@ module _ {L : Type 0} (ds : List (Declared L ℕ)) (keyed : AreKeyed ds)
         (stands_map length wss n a.0 a.1);
   }
 
-  pub all_parts_of : {xs : List (Declared L ℕ)} {uss : List (List (Tree L))}
-      → ((d : Declared L ℕ) → IsOneOf xs d → IsOneOf ds d) → Along (λ d ts. Ways ds d.key ts) xs uss
+  pub all_parts_of : {xs : List (EventDeclaration L ℕ)} {uss : List (List (Tree L))}
+      → ((d : EventDeclaration L ℕ) → IsOneOf xs d → IsOneOf ds d) → Along (λ d ts. Ways ds d.key ts) xs uss
       → way_parts uss ≡ all_parts (map length wss) xs
   all_parts_of of l.none = refl
   all_parts_of of (l.one_and {a = d} {b = ts} {xs = xs} {ys = uss} w ws) =

@@ -1,7 +1,7 @@
 -- How many ways declared events have, told by sums and products.
 use Rattle.std.specs.Prelude.{◌≡◌, ℕ, ◌+◌, ◌*◌, ◌<◌, ◌≤◌, Bool, List, [], ◌∷◌, length, Option, Some, slice_index}
 use Rattle.ar_base.specs.Lists.{Stands, IsOneOf}
-use Rattle.ar_meaning.specs.Expand.{Declared, Member, One, Synchronises}
+use Rattle.ar_meaning.specs.Expand.{EventDeclaration, Member, One, Synchronises}
 use Rattle.sync_expand.specs.Plans.{first_of}
 
 -- the choices of one way for each part: the product of the parts' numbers of ways
@@ -30,15 +30,15 @@ parts_given counts [] = 0
 parts_given counts (m ∷ ms) = member_parts counts m + parts_given counts ms
 
 -- the parts of the ways of events
-abbrev pub all_parts : {L : Type 0} → List ℕ → List (Declared L ℕ) → ℕ
+abbrev pub all_parts : {L : Type 0} → List ℕ → List (EventDeclaration L ℕ) → ℕ
 all_parts counts [] = 0
 all_parts counts (d ∷ ds) = parts_given counts d.members + all_parts counts ds
 
 -- these are the numbers of ways of the events: each the sum over its members, and over a
 -- synchronisation's parts the product
-pub record AreCounts {L : Type 0} (events : List (Declared L ℕ)) (counts : List ℕ) : Type 0 where
+pub record AreCounts {L : Type 0} (events : List (EventDeclaration L ℕ)) (counts : List ℕ) : Type 0 where
   pub long : length counts ≡ length events
-  pub each : (n : ℕ) (d : Declared L ℕ) → Stands events n d
+  pub each : (n : ℕ) (d : EventDeclaration L ℕ) → Stands events n d
       → Stands counts n (way_count counts d.members)
 
 -- what is known of the counts is right, and within the limit
@@ -53,5 +53,5 @@ pub record AreFirsts (counts : List ℕ) (firsts : List ℕ) : Type 0 where
   pub each : (n : ℕ) → n < length counts → Stands firsts n (first_of counts n)
 
 -- no event has more ways than the limit
-pub record AreFew {L : Type 0} (counts : List ℕ) (events : List (Declared L ℕ)) : Type 0 where
-  pub few : (d : Declared L ℕ) → IsOneOf events d → way_count counts d.members ≤ 256
+pub record AreFew {L : Type 0} (counts : List ℕ) (events : List (EventDeclaration L ℕ)) : Type 0 where
+  pub few : (d : EventDeclaration L ℕ) → IsOneOf events d → way_count counts d.members ≤ 256

@@ -2,7 +2,8 @@
 use Rattle.std.specs.Prelude.{◌≡◌, ℕ, ◌+◌, ◌-◌, ◌<◌, ◌^◌, List, ◌++◌, map, length, sum, Option}
 use Rattle.ar_meaning.specs.Numbered.{Body}
 use Rattle.sync_expand.specs.Counts.{AreKnown, AreFirsts}
-use Rattle.sync_expand.specs.Plans.{planned_of, numbered_from}
+use Rattle.sync_expand.specs.Plans.{numbered_from}
+use Rattle.sync_expand.specs.Planned.{planned_of}
 use Rattle.sync_expand.specs.declared.planning.Numbering.{Numbering}
 use Rattle.sync_expand.specs.declared.plans.WayPlan.{WayPlan}
 

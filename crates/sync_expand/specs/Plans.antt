@@ -1,17 +1,9 @@
 -- The plan of the ways of declared events: all ways in one list, in which parts name ways by
 -- number.
-use Rattle.std.specs.Prelude.{◌≡◌, ℕ, ◌+◌, Bool, List, [], ◌∷◌, ◌++◌, map, length, sum, take, slice_index}
+use Rattle.std.specs.Prelude.{ℕ, ◌+◌, Bool, List, [], ◌∷◌, ◌++◌, map, sum, take, slice_index}
 use Rattle.std.specs.List.{flat_map, range_with_len}
-use Rattle.ar_base.specs.Lists.{Stands}
-use Rattle.ar_meaning.specs.Systems.{Way}
-use Rattle.ar_meaning.specs.Expand.{Declared, Member, One, Synchronises}
+use Rattle.ar_meaning.specs.Expand.{EventDeclaration, Member, One, Synchronises}
 use Rattle.ar_meaning.specs.Numbered.{Body, Acts, Joins}
-use Rattle.gts_core.specs.View.{part_of}
-use Rattle.gts_core.specs.Bound.{declared_from}
-use Rattle.gts_core.specs.declared.bound.DeclaredEvent.{DeclaredEvent}
-use Rattle.sync_expand.specs.declared.plans.WayPlan.{WayPlan}
-use Rattle.sync_expand.specs.declared.plans.PlanBody.{PlanBody}
-use Rattle.sync_expand.specs.declared.plans.PlanBody.TheVariants.{Local, Sync}
 
 -- `counts` has the number of ways of each event, in the order of the events
 
@@ -39,10 +31,6 @@ bodies_by act counts k (One l ∷ ms) = Acts (act k l) ∷ bodies_by act counts 
 bodies_by act counts k (Synchronises parts ∷ ms) =
     map Joins (choices_by counts parts) ++ bodies_by act counts (k + 1) ms
 
--- the bodies of the ways of all events, event by event, with transitions in them
-abbrev pub all_bodies : {L : Type 0} → List ℕ → List (Declared L ℕ) → List (Body L)
-all_bodies counts events = flat_map (λ d. bodies_by (λ k l. l) counts 0 d.members) events
-
 -- a way of the plan: its event, its number among the event's ways, and its body, in which a
 -- transition stands by its place among the event's members
 pub record PlannedWay : Type 0 where
@@ -56,30 +44,9 @@ numbered_from e k [] = []
 numbered_from e k (b ∷ bs) = record { event = e; number = k; body = b } ∷ numbered_from e (k + 1) bs
 
 -- the ways of one event
-abbrev pub ways_of_event : {L : Type 0} → List ℕ → Declared L ℕ → List PlannedWay
+abbrev pub ways_of_event : {L : Type 0} → List ℕ → EventDeclaration L ℕ → List PlannedWay
 ways_of_event counts d = numbered_from d.key 1 (bodies_by (λ k l. k) counts 0 d.members)
 
 -- the ways of all events, event by event
-abbrev pub planned_ways : {L : Type 0} → List ℕ → List (Declared L ℕ) → List PlannedWay
+abbrev pub planned_ways : {L : Type 0} → List ℕ → List (EventDeclaration L ℕ) → List PlannedWay
 planned_ways counts events = flat_map (ways_of_event counts) events
-
--- a way of the plan with its transition in it: the member at its place among the event's members
-pub data IsResolved {L : Type 0} (events : List (Declared L ℕ)) (w : PlannedWay) : Body L
-    → Type 0 where
-  acts : {k : ℕ} {d : Declared L ℕ} {l : L} → w.body ≡ Acts k → Stands events w.event d
-      → Stands d.members k (One l) → IsResolved events w (Acts l)
-  joins : {parts : List (Bool × ℕ)} → w.body ≡ Joins parts → IsResolved events w (Joins parts)
-
--- what the code plans, in these words
-abbrev pub planned_body : PlanBody → Body ℕ
-planned_body (Local place) = Acts place
-planned_body (Sync parts) = Joins (map part_of parts.items)
-
-abbrev pub planned_of : WayPlan → PlannedWay
-planned_of w = record { event = w.event.n; number = w.number; body = planned_body w.body }
-
--- the plan has the ways of the declared events, which have these ways: event by event, each event's
--- ways numbered from 1, and a way's number among all ways is its place in the plan
-pub record IsPlan (events : List DeclaredEvent) (ways : List (List (Way ℕ)))
-    (plan : List WayPlan) : Type 0 where
-  pub is : map planned_of plan ≡ planned_ways (map length ways) (declared_from 0 events)

@@ -5,7 +5,7 @@ ghost use Rattle.ar_base.specs.Lists.{Stands};
 ghost use Rattle.ar_base.specs.Stages.{Fits, Meets, IsRefusal, rule_told};
 ghost use Rattle.ar_base.specs.declared.counts.Count.TheVariants.{Ways, WayParts};
 ghost use Rattle.gts_core.specs.Bound.{declared_from, event_part_of, member_of};
-ghost use Rattle.sync_expand.specs.Expanding.{greatest};
+ghost use Rattle.sync_expand.specs.Counting.{greatest};
 ghost use Rattle.sync_expand.specs.Counts.{AreCounts, AreKnown, all_parts, choice_count as choices_of, member_count, member_parts, parts_given, way_count as ways_given, AreFew};
 
 use ar_base::{Count, EventId, Memory, RuleFault};

@@ -2,7 +2,7 @@
 
 ghost use Rattle.ar_base.specs.Stages.{Meets};
 ghost use Rattle.sync_expand.specs.Expanding.{AreExpandable, Expands};
-ghost use Rattle.sync_expand.specs.Plans.{IsPlan};
+ghost use Rattle.sync_expand.specs.Planned.{IsPlan};
 
 use crate::counting::{count_ways, fit_parts};
 use crate::links::keep_rule;

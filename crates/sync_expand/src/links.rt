@@ -5,7 +5,8 @@ ghost use Rattle.ar_base.specs.Breach.{IsEarlier};
 ghost use Rattle.ar_base.specs.Stages.{Keeps, IsRefusal, rule_told};
 ghost use Rattle.ar_base.specs.declared.numbers.Id.{Id};
 ghost use Rattle.ar_base.specs.declared.numbers.EventKind.{EventKind};
-ghost use Rattle.sync_expand.specs.Expanding.{AreExpandable, way_rules, Breaks};
+ghost use Rattle.sync_expand.specs.Expanding.{AreExpandable, BreaksNumberedWayRule};
+ghost use Rattle.sync_expand.specs.Counting.{way_rules};
 ghost use Rattle.sync_expand.specs.Links.{Climbs, IsClimbAmong, IsClimbOf, IsClimbIn, IsClimb, IsFirstLink, IsEarlierOf, IsReached, AreReached, OpensWays, OpensParts, OpensOne, Falls};
 
 use ar_base::{EventId, Memory, Place, RuleFault};
@@ -34,7 +35,7 @@ pub(crate) fn keep_rule(
     requires { AreExpandable events.now }
     ensures kept { OnOk result (Falls events.now ranks.now) }
     ensures refused { IfErr result
-        (λ e. IsRefusal (Keeps way_rules Breaks events.now) (rule_told e)) }
+        (λ e. IsRefusal (Keeps way_rules BreaksNumberedWayRule events.now) (rule_told e)) }
 {
     let Some(link) = first_climb(events, ranks, 0) else {
         return Ok(());

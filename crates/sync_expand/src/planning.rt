@@ -7,8 +7,9 @@ ghost use Rattle.gts_core.specs.Bound.{declared_from, event_part_of, member_of};
 ghost use Rattle.gts_core.specs.View.{part_of};
 ghost use Rattle.gts_core.specs.declared.bound.DeclaredEvent.{DeclaredEvent};
 ghost use Rattle.sync_expand.specs.Counts.{choice_count as choices_of, member_count, way_count, AreFew};
-ghost use Rattle.sync_expand.specs.Expanding.{greatest};
-ghost use Rattle.sync_expand.specs.Plans.{bodies_by, choices_by, first_of, planned_body, planned_of, planned_ways};
+ghost use Rattle.sync_expand.specs.Counting.{greatest};
+ghost use Rattle.sync_expand.specs.Plans.{bodies_by, choices_by, first_of, planned_ways};
+ghost use Rattle.sync_expand.specs.Planned.{planned_body, planned_of};
 ghost use Rattle.sync_expand.specs.Planning.{Adds, IsNumbering, Numbers};
 
 use crate::counting::{choice_count, known};

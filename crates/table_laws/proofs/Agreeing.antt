@@ -10,7 +10,7 @@ use Rattle.typed_expr.specs.Kinds.{HasKind}
 use Rattle.typed_expr.specs.declared.expr.ValueKind.{ValueKind}
 use Rattle.typed_expr.specs.declared.expr.Expr.{Expr, out-Expr}
 use Rattle.ar_meaning.specs.Systems.{Variable, System}
-use Rattle.ar_meaning.specs.Facts.{Allows, IsGiven, HasValue, AreKeyed}
+use Rattle.ar_meaning.specs.Facts.{Allows, HasStateValue, HasValue, AreKeyed}
 use Rattle.ar_meaning.specs.Found.{IsAnswer}
 use Rattle.ar_meaning.proofs.Outcomes.{has_outcome}
 use Rattle.ar_firing.specs.Static.{IsStatic}
@@ -19,7 +19,7 @@ use Rattle.ar_firing.specs.Forest.{ModeTree, IsForest}
 use Rattle.ar_firing.specs.Operands.{HasFault, Shows, Agrees}
 use Rattle.gts_core.specs.Lawful.{IsLawful}
 use Rattle.eq_core.specs.Gates.{Table}
-use Rattle.eq_core.specs.Values.{Tells, value_at}
+use Rattle.eq_core.specs.Values.{IsTrueWhere, value_at}
 use Rattle.eq_build.specs.Tells.{AreEntries}
 use Rattle.table_laws.specs.Known.{IsSomeFlow, IsConflict, Totals}
 use Rattle.table_laws.proofs.Faults.{conflict_faults, no_conflict_flows}
@@ -47,17 +47,18 @@ module _ (sys : System ℕ) (dropped : List ℕ) (kinds : ℕ → ValueKind) (ki
 
   module _ (set : List ℕ) (t : List Value) (f : IsFirable sys dropped set t) where
     first_is : (n : ℕ)
-        → AreEntries set steps.after_modes (first_reading trees steps.modes 0 sys.net.variables n) (IsGiven sys.net t n)
+        → AreEntries set steps.after_modes (first_reading trees steps.modes 0 sys.net.variables n)
+        (HasStateValue sys.net t n)
     first_is n = first_tells sys dropped keyed lawful.numbered static inits set t f trees forest steps.after_modes
         (all_modes_tell set sys dropped keyed static t f trees steps.has_modes forest.sound).1 n
 
     abbrev first_held : ℕ → Value → Bool
     first_held = held set steps.seen.gates (first_reading trees steps.modes 0 sys.net.variables)
 
-    given : (x : ℕ) (d : Value) → (first_held x d ≡ true) ↔ IsGiven sys.net t x d
+    given : (x : ℕ) (d : Value) → (first_held x d ≡ true) ↔ HasStateValue sys.net t x d
     given x d = held_is (modes_to_seen steps) (first_is x) d
 
-    legal : (x : ℕ) (d : Value) → IsGiven sys.net t x d → Allows sys.net x d
+    legal : (x : ℕ) (d : Value) → HasStateValue sys.net t x d → Allows sys.net x d
     legal x d k = record {
       place = k.place;
       variable = k.variable;
@@ -67,7 +68,7 @@ module _ (sys : System ℕ) (dropped : List ℕ) (kinds : ℕ → ValueKind) (ki
           k.is_state d k.value;
     }
 
-    states : (x : ℕ) (d : Value) → IsGiven sys.net t x d → IsSomeFlow sys.net x → ⊥
+    states : (x : ℕ) (d : Value) → HasStateValue sys.net t x d → IsSomeFlow sys.net x → ⊥
     states x d g m =
         let h = m.1 in
         let i : g.place ≡ h.place =
@@ -94,14 +95,14 @@ module _ (sys : System ℕ) (dropped : List ℕ) (kinds : ℕ → ValueKind) (ki
     abbrev known : ℕ → Value → Bool
     known = known_at sys.net trees observer wanted table steps kinds lawful set t begun
 
-    conflict : Tells set table.gates table.conflict (IsConflict sys.net known)
-    conflict = subst (λ z. Tells set z table.conflict (IsConflict sys.net known)) (sym steps.gates)
+    conflict : IsTrueWhere set table.gates table.conflict (IsConflict sys.net known)
+    conflict = subst (λ z. IsTrueWhere set z table.conflict (IsConflict sys.net known)) (sym steps.gates)
         (conflict_told sys.net trees observer wanted table steps kinds lawful set t begun)
 
-    top : Tells set table.gates table.top (Yields (Totals sys.net known) (out-Expr ℕ observer) wanted)
-    top = subst (λ z. Tells set z table.top (Yields (Totals sys.net known) (out-Expr ℕ observer) wanted))
+    top : IsTrueWhere set table.gates table.top (Yields (Totals sys.net known) (out-Expr ℕ observer) wanted)
+    top = subst (λ z. IsTrueWhere set z table.top (Yields (Totals sys.net known) (out-Expr ℕ observer) wanted))
         (sym steps.gates)
-        (subst (λ z. Tells set steps.seen.gates z (Yields (Totals sys.net known) (out-Expr ℕ observer) wanted))
+        (subst (λ z. IsTrueWhere set steps.seen.gates z (Yields (Totals sys.net known) (out-Expr ℕ observer) wanted))
         (sym steps.top) (top_told sys.net trees observer wanted table steps kinds lawful set t begun observed))
 
     -- where the conflict operand is true, the flows of the state are a fault

@@ -12,7 +12,7 @@ use Rattle.typed_expr.specs.declared.expr.ValueKind.{ValueKind}
 use Rattle.typed_expr.specs.declared.expr.ValueKind.TheVariants as kind
 use Rattle.typed_expr.specs.declared.expr.Expr.{Expr, out-Expr}
 use Rattle.ar_meaning.specs.Systems.{Assign, Variable, Net}
-use Rattle.ar_meaning.specs.Facts.{Passes, Allows, AreNumbered}
+use Rattle.ar_meaning.specs.Facts.{PassesConditions, Allows, AreNumbered}
 use Rattle.ar_meaning.specs.Facts as f
 use Rattle.gts_core.specs.Lawful.{IsTypedAssign, IsLawful}
 use Rattle.eq_core.specs.Gates.{Operand, Gate}
@@ -81,7 +81,7 @@ module _ (set : List ℕ) (kinds : ℕ → ValueKind) (facts : ℕ → Value →
 
   record ConditionsTell (g h : List Gate) (cs : List (Expr ℕ × Bool)) (os : List Operand) : Type 0 where
     pub grown : Grows g h
-    pub tell : TellTogether set h os (Passes facts cs)
+    pub tell : TellTogether set h os (PassesConditions facts cs)
 
   conditions_tell : {g h : List Gate} {cs : List (Expr ℕ × Bool)} {os : List Operand}
       → Builds_conditions read g cs os h → TypedConditions cs → Read g → ConditionsTell g h cs os
@@ -95,13 +95,13 @@ module _ (set : List ℕ) (kinds : ℕ → ValueKind) (facts : ℕ → Value →
             (together_before (tells_kept n.grown (entry_tells m.entries (Truth b))) n.tell);
       }
     where
-      split : Passes facts ((e, b) ∷ cs) → Yields facts (out-Expr ℕ e) (Truth b) × Passes facts cs
+      split : PassesConditions facts ((e, b) ∷ cs) → Yields facts (out-Expr ℕ e) (Truth b) × PassesConditions facts cs
       split (f.one_and p q) = (p, q)
 
   -- the operands of an assignment tell whether it is reached, and its entries what it yields
   pub record AssignTells (g : List Gate) (a : Assign ℕ) (r : BuiltAssign) : Type 0 where
     pub grown : Grows g r.gates
-    pub conditions : TellTogether set r.gates r.conditions (Passes facts a.conditions)
+    pub conditions : TellTogether set r.gates r.conditions (PassesConditions facts a.conditions)
     pub entries : AreEntries set r.gates r.entries (Yields facts (out-Expr ℕ a.value))
 
   pub assign_tells : {g : List Gate} {a : Assign ℕ} {r : BuiltAssign} → Builds_assign read g a r
@@ -113,7 +113,7 @@ module _ (set : List ℕ) (kinds : ℕ → ValueKind) (facts : ℕ → Value →
 
   -- the assignment is reached and yields this value of the domain
   abbrev pub Adds : List Value → Assign ℕ → Value → Type 0
-  Adds ds a d = IsInside (Passes facts a.conditions) (Yields facts (out-Expr ℕ a.value)) ds d
+  Adds ds a d = IsInside (PassesConditions facts a.conditions) (Yields facts (out-Expr ℕ a.value)) ds d
 
   gives_tells : {g h : List Gate} {a : Assign ℕ} {es : List Entry} (domain : List Value)
       → Gives_target read domain g a es h → IsTypedAssign kinds a → Read g

@@ -7,7 +7,7 @@ use Rattle.domains.specs.declared.Value.{Value}
 use Rattle.domains.proofs.Same.{same_is, has_in, in_has}
 use Rattle.eq_core.specs.Gates.{Operand, Gate}
 use Rattle.eq_core.specs.Ordered.{AreBelow}
-use Rattle.eq_core.specs.Values.{Tells, EachTrue}
+use Rattle.eq_core.specs.Values.{IsTrueWhere, EachTrue}
 use Rattle.eq_build.specs.Entries.{Entry, one_of_alls}
 use Rattle.eq_build.specs.Tells.{AreEntries}
 use Rattle.eq_build.proofs.EntriesTell.{is_so}
@@ -127,7 +127,7 @@ module _ (set : List ℕ) (g : List Gate) where
   -- an assignment that is reached, and its target has another value
   pub broken_tells : {cs : List Operand} {P : Type 0} {Q R : Value → Type 0} {es fs : List Entry}
       → TellTogether set g cs P → AreEntries set g es Q → AreEntries set g fs R
-      → Tells set (one_of_alls g (broken_terms cs es fs)).gates (one_of_alls g (broken_terms cs es fs)).operand
+      → IsTrueWhere set (one_of_alls g (broken_terms cs es fs)).gates (one_of_alls g (broken_terms cs es fs)).operand
       (IsApart P Q R)
   broken_tells {cs = cs} {P = P} {Q = Q} {R = R} {es = es} {fs = fs} t a b = one_tells
       (record {
@@ -218,7 +218,7 @@ module _ (set : List ℕ) (g : List Gate) where
 
   -- a flow has two values
   pub two_tells : {P : Value → Type 0} {es : List Entry} → AreEntries set g es P
-      → Tells set (one_of_alls g (pairs_in es)).gates (one_of_alls g (pairs_in es)).operand (HasBoth P)
+      → IsTrueWhere set (one_of_alls g (pairs_in es)).gates (one_of_alls g (pairs_in es)).operand (HasBoth P)
   two_tells {P = P} {es = es} a = one_tells
       (record {
         each = λ os o.
@@ -301,7 +301,7 @@ module _ (set : List ℕ) (g : List Gate) where
   -- an assignment that is reached yields a value outside the domain
   pub outside_tells : {cs : List Operand} {P : Type 0} {Q : Value → Type 0} {es : List Entry} (ds : List Value)
       → TellTogether set g cs P → AreEntries set g es Q
-      → Tells set (one_of_alls g (outside_terms ds cs es)).gates (one_of_alls g (outside_terms ds cs es)).operand
+      → IsTrueWhere set (one_of_alls g (outside_terms ds cs es)).gates (one_of_alls g (outside_terms ds cs es)).operand
       (LeavesBy P Q ds)
   outside_tells {cs = cs} {P = P} {Q = Q} {es = es} ds t a = one_tells
       (record {

@@ -5,7 +5,7 @@ use Rattle.ar_base.proofs.Standing.{stands_one}
 use Rattle.domains.specs.declared.Value.{Value}
 use Rattle.typed_expr.proofs.Facts.{yields_more}
 use Rattle.ar_meaning.specs.Systems.{Net}
-use Rattle.ar_meaning.specs.Facts.{Allows, IsGiven, HasValue, FactOf, AreKeyed}
+use Rattle.ar_meaning.specs.Facts.{Allows, HasStateValue, HasValue, FactOf, AreKeyed}
 use Rattle.ar_meaning.specs.Flows.{HasTwo, IsOutside, Completes, Outcome, Fails, Total, Flows, broken, all_hold}
 use Rattle.ar_meaning.specs.Flows as w
 use Rattle.ar_meaning.proofs.Least.{passes_more, closed}
@@ -32,7 +32,7 @@ broken_more {V = V} net P Q h o = record {
 module _ {V : Type 0} (net : Net V) (keyed : AreKeyed net) (t : List Value) (blocks : List (List V))
     (known : V → Value → Bool) (k : IsKnown net t blocks known) (flows : AreOfFlows net blocks) where
   -- no variable is a state and a flow
-  state_or_flow : (x : V) (v : Value) → IsGiven net t x v → IsSomeFlow net x → ⊥
+  state_or_flow : (x : V) (v : Value) → HasStateValue net t x v → IsSomeFlow net x → ⊥
   state_or_flow x v g f =
       let i = keyed.one g.place f.1.place g.variable f.1.variable g.stands f.1.stands (g.is_key ∙ sym f.1.is_key) in
       let e : g.variable ≡ f.1.variable = stands_one net.variables f.1.place g.variable f.1.variable
@@ -89,7 +89,8 @@ module _ {V : Type 0} (net : Net V) (keyed : AreKeyed net) (t : List Value) (blo
       | inr b ↦ flow (flows.members b.0 b.1 b.2 x b.3) (λ w d. one b.0 b.1 b.2 x w v b.3 d e)
     ]
       where
-        given : (g : IsGiven net t x v) → Stays (FactOf net t) t values g.place g.variable → HasValue net values x v
+        given : (g : HasStateValue net t x v) → Stays (FactOf net t) t values g.place g.variable
+            → HasValue net values x v
         given g (as_state i u a b) =
             let s : u ≡ v = stands_one t g.place u v a g.value in
             record {
@@ -166,7 +167,7 @@ module _ {V : Type 0} (net : Net V) (keyed : AreKeyed net) (t : List Value) (blo
             passes = p;
             yields = y;
             outside = λ c. same o.assign.target o.value o.other f
-                (closed net.assertions (Allows net) (IsGiven net t) o.assign o.value o.is_one p y (record {
+                (closed net.assertions (Allows net) (HasStateValue net t) o.assign o.value o.is_one p y (record {
                   place =
                       f.1.place;
                   variable = f.1.variable;

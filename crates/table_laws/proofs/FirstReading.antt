@@ -7,7 +7,7 @@ use Rattle.ar_base.proofs.Standing.{stands_one, stands_none, one_none}
 use Rattle.domains.specs.declared.Value.{Value}
 use Rattle.ar_meaning.specs.Systems.{Variable, System}
 use Rattle.ar_meaning.specs.Runs.{Label}
-use Rattle.ar_meaning.specs.Facts.{AreKeyed, AreNumbered, IsGiven}
+use Rattle.ar_meaning.specs.Facts.{AreKeyed, AreNumbered, HasStateValue}
 use Rattle.ar_firing.specs.Fragment.{Edge, IsModeOf, named, first}
 use Rattle.ar_firing.specs.Static.{IsStatic}
 use Rattle.ar_firing.specs.Cuts.{IsFirable}
@@ -165,10 +165,10 @@ module _ (sys : System ℕ) (dropped : List ℕ) (keyed : AreKeyed sys.net) (num
 
   -- what is read before the rounds
   pub first_tells : (g : List Gate) {rows : List (List Entry)} → TreesTell g trees rows → (n : ℕ)
-      → AreEntries set g (first_reading trees rows 0 sys.net.variables n) (IsGiven sys.net t n)
+      → AreEntries set g (first_reading trees rows 0 sys.net.variables n) (HasStateValue sys.net t n)
   first_tells g {rows = rows} a n = go (variable_or_none sys.net.variables n)
     where
-      same : (x : Variable ℕ) → Stands sys.net.variables n x → (d : Value) → (k : IsGiven sys.net t n d)
+      same : (x : Variable ℕ) → Stands sys.net.variables n x → (d : Value) → (k : HasStateValue sys.net t n d)
           → (k.variable ≡ x) × Stands t n d
       same x s d k =
           let i : k.place ≡ n = sym (numbered.key k.place k.variable k.stands) ∙ k.is_key in (
@@ -178,7 +178,7 @@ module _ (sys : System ℕ) (dropped : List ℕ) (keyed : AreKeyed sys.net) (num
           )
 
       row_tells : (x : Variable ℕ) → Stands sys.net.variables n x → (b : Bool) → x.is_state ≡ b
-          → AreEntries set g (if b then modes_at n trees rows x.value else []) (IsGiven sys.net t n)
+          → AreEntries set g (if b then modes_at n trees rows x.value else []) (HasStateValue sys.net t n)
       row_tells x s true i = entries_as
           (λ d v. record {
             place = n;
@@ -196,13 +196,14 @@ module _ (sys : System ℕ) (dropped : List ℕ) (keyed : AreKeyed sys.net) (num
           let u : x.is_state ≡ true = ap (λ (z : Variable ℕ). z.is_state) (sym j) ∙ q in cc)
 
       go : ((x : Variable ℕ) × Stands sys.net.variables n x) ⊎ ((x : Variable ℕ) → Stands sys.net.variables n x → ⊥)
-          → AreEntries set g (first_reading trees rows 0 sys.net.variables n) (IsGiven sys.net t n)
-      go (inl v) = subst (λ z. AreEntries set g z (IsGiven sys.net t n))
+          → AreEntries set g (first_reading trees rows 0 sys.net.variables n) (HasStateValue sys.net t n)
+      go (inl v) = subst (λ z. AreEntries set g z (HasStateValue sys.net t n))
           (sym (row_at trees rows sys.net.variables 0 n n v.0 (omega arith) v.1)) (row_tells v.0 v.1 v.0.is_state refl)
       go (inr h) =
           let none : (k : ℕ) (x : Variable ℕ) → n ≡ 0 + k → Stands sys.net.variables k x → ⊥ = λ k x e s.
           let j : k ≡ n = omega (arith, e) in h x (subst (λ z. Stands sys.net.variables z x) j s) in
-          subst (λ z. AreEntries set g z (IsGiven sys.net t n)) (sym (no_row trees rows sys.net.variables 0 n none))
+          subst (λ z. AreEntries set g z (HasStateValue sys.net t n))
+          (sym (no_row trees rows sys.net.variables 0 n none))
           (nothing_tells (λ d k. h k.variable
           (subst (λ z. Stands sys.net.variables z k.variable)
           (sym (numbered.key k.place k.variable k.stands) ∙ k.is_key) k.stands)))

@@ -5,7 +5,7 @@ use Rattle.ar_base.proofs.Standing.{stands_none}
 use Rattle.domains.specs.declared.Value.{Value}
 use Rattle.typed_expr.specs.declared.expr.ValueKind.{ValueKind}
 use Rattle.ar_meaning.specs.Systems.{Assign, Net}
-use Rattle.ar_meaning.specs.Facts.{Allows, IsGiven}
+use Rattle.ar_meaning.specs.Facts.{Allows, HasStateValue}
 use Rattle.ar_meaning.specs.Dependence.{Names}
 use Rattle.gts_core.specs.Lawful.{IsLawful}
 use Rattle.eq_core.specs.Gates.{Gate}
@@ -181,8 +181,8 @@ module _ (set : List ℕ) (kinds : ℕ → ValueKind) (net : Net ℕ) (lawful : 
   -- what is known in the end
   pub all_known : {blocks : List (List ℕ)} {g h : List Gate} {read last : Reading} (t : List Value)
       → All_rounds net blocks g read last h → SoundAt g read → Grows h gates → AreInOrder net blocks
-      → AreOfFlows net blocks → ((x : ℕ) (d : Value) → (held set gates read x d ≡ true) ↔ IsGiven net t x d)
-      → ((x : ℕ) (d : Value) → IsGiven net t x d → IsSomeFlow net x → ⊥)
+      → AreOfFlows net blocks → ((x : ℕ) (d : Value) → (held set gates read x d ≡ true) ↔ HasStateValue net t x d)
+      → ((x : ℕ) (d : Value) → HasStateValue net t x d → IsSomeFlow net x → ⊥)
       → IsKnown net t blocks (held set gates last)
   all_known {blocks = blocks} {read = read} {last = last} t c s top order flows given states =
       let r = all_hold c s top in
@@ -206,7 +206,7 @@ module _ (set : List ℕ) (kinds : ℕ → ValueKind) (net : Net ℕ) (lawful : 
         ];
       }
     where
-      at_end : (x : ℕ) (d : Value) → IsGiven net t x d → IsAmong blocks 0 (length blocks) x ⊎ (last x ≡ read x)
+      at_end : (x : ℕ) (d : Value) → HasStateValue net t x d → IsAmong blocks 0 (length blocks) x ⊎ (last x ≡ read x)
           → held set gates last x d ≡ true
       at_end x d e (inl a) = absurd (states x d e (flows.members a.place a.block a.stands x a.is_one))
       at_end x d e (inr i) = subst (λ z. value_at gates (operand_for z d) set ≡ true) (sym i) ((given x d).1 e)

@@ -29,7 +29,7 @@ use Rattle.firable_families.proofs.Alike.{firable_seen}
 use Rattle.firable_families.proofs.Cutting.{in_system}
 use Rattle.firable_families.proofs.InForests.{firable_in_trees, firable_in_system}
 use Rattle.gate_diagrams.specs.Answers.{IsAnswer}
-use Rattle.gate_diagrams.specs.Needed.{IsConflictAt, NodesMay}
+use Rattle.gate_diagrams.specs.NodeLimits.{IsConflictAt, NodesMay}
 use Rattle.gate_diagrams.specs.declared.answer.Drawn.{Drawn}
 use Rattle.gate_diagrams.specs.declared.answer.Drawn.TheVariants.{Conflicts, Cuts}
 use Rattle.table_laws.specs.GateLaws.{ShowsLeast}

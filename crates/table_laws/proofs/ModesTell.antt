@@ -18,7 +18,7 @@ use Rattle.ar_firing.proofs.ModesOfSets.{stays, entered, enters_and_stays, stays
 use Rattle.ar_firing.proofs.TreeEdges.{row_is_live, live_is_row}
 use Rattle.ar_firing.proofs.Shapes.{is_tree}
 use Rattle.eq_core.specs.Gates.{EventIs, Gate, all_of}
-use Rattle.eq_core.specs.Values.{Tells, Grows, has_event}
+use Rattle.eq_core.specs.Values.{IsTrueWhere, Grows, has_event}
 use Rattle.eq_core.proofs.Telling.{grows_self, grows_on, tells_kept, tells_as, all_tells, all_more}
 use Rattle.eq_build.specs.Entries.{Entry, Built}
 use Rattle.eq_build.specs.Tells.{AreEntries}
@@ -61,10 +61,10 @@ rows_differ (r ∷ rs) h = (
 )
 
 module _ (set : List ℕ) where
-  has_tells : (g : List Gate) (e : ℕ) → Tells set g (EventIs e true) (IsOneOf set e)
+  has_tells : (g : List Gate) (e : ℕ) → IsTrueWhere set g (EventIs e true) (IsOneOf set e)
   has_tells g e = record { below = tt; true_so = λ h. event_in set e h; so_true = λ o. in_event set e o }
 
-  lacks_tells : (g : List Gate) (e : ℕ) → Tells set g (EventIs e false) (IsOneOf set e → ⊥)
+  lacks_tells : (g : List Gate) (e : ℕ) → IsTrueWhere set g (EventIs e false) (IsOneOf set e → ⊥)
   lacks_tells g e = record {
     below = tt;
     true_so = λ h o. not_true (has_event set e) h (in_event set e o);
@@ -101,7 +101,7 @@ module _ (set : List ℕ) where
   -- the entries of the modes that these edges enter
   record AreEntered (P : Value → Type 0) (g : List Gate) (rs : List Row) (b : Built) : Type 0 where
     pub grown : Grows g b.gates
-    pub tells : (e : Entry) → IsOneOf b.entries e → Tells set b.gates e.operand (P e.value)
+    pub tells : (e : Entry) → IsOneOf b.entries e → IsTrueWhere set b.gates e.operand (P e.value)
     pub comes : (r : Row) → IsOneOf rs r → P r.to → (e : Entry) × IsOneOf b.entries e × (e.value ≡ r.to)
     pub of_row : (e : Entry) → IsOneOf b.entries e → (r : Row) × IsOneOf rs r × (r.to ≡ e.value)
     pub differ : Differ b.entries
@@ -124,12 +124,12 @@ module _ (set : List ℕ) where
       let n = entered_tells P all rs m.gates d.1 (λ q o h. c q (one_rest r rs q o) h) in
       let b = w.entered all rs m.gates in
       let here : Entry = record { value = r.to; operand = m.operand } in
-      let t : Tells set b.gates m.operand (P r.to) =
+      let t : IsTrueWhere set b.gates m.operand (P r.to) =
       tells_kept n.grown (tells_as u.true_so u.so_true (all_tells set g os u.below)) in
       record {
         grown = grows_on (all_more g os) n.grown;
         tells = λ e o. elim (entry_cases r.to m.operand b.entries e o) [
-          | inl i ↦ subst (λ (z : Entry). Tells set b.gates z.operand (P z.value)) i t
+          | inl i ↦ subst (λ (z : Entry). IsTrueWhere set b.gates z.operand (P z.value)) i t
           | inr p ↦ n.tells e p
         ];
         comes = λ q o p. elim (one_cases r rs q o) [
@@ -172,7 +172,7 @@ module _ (set : List ℕ) where
         let os = not_left tree.first tree.edges in
         let first = all_of g os in
         let u = not_left_tells g tree.first tree.edges in
-        let at_first : Tells set first.gates first.operand (Stands t n tree.first) = tells_as
+        let at_first : IsTrueWhere set first.gates first.operand (Stands t n tree.first) = tells_as
         (λ e. subst (λ z. Stands t n z) (sym k.first)
         (stays_at_first sys dropped keyed static f n x p.stands p.is_state
         (subst (λ z. NoneLeaves sys dropped set n z) k.first (none tree.first (u.true_so e)))))
@@ -192,12 +192,12 @@ module _ (set : List ℕ) where
         (together_before (has_tells h q.label.event) (not_left_tells h q.to tree.edges))) in
         let b = w.entered tree.edges tree.edges first.gates in
         let e0 : Entry = record { value = tree.first; operand = first.operand } in
-        let at_end : Tells set b.gates first.operand (Stands t n tree.first) = tells_kept r.grown at_first in (
+        let at_end : IsTrueWhere set b.gates first.operand (Stands t n tree.first) = tells_kept r.grown at_first in (
           grows_on (all_more g os) r.grown,
           record {
             entries = record {
               tells = λ e o. elim (entry_cases tree.first first.operand b.entries e o) [
-                | inl i ↦ subst (λ (z : Entry). Tells set b.gates z.operand (Stands t n z.value)) i at_end
+                | inl i ↦ subst (λ (z : Entry). IsTrueWhere set b.gates z.operand (Stands t n z.value)) i at_end
                 | inr q ↦ r.tells e q
               ];
               whole = λ m v. elim (comes_by sys dropped keyed static f n x p.stands p.is_state m v) [

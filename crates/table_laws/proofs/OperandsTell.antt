@@ -5,7 +5,7 @@ use Rattle.ar_base.specs.Lists as l
 use Rattle.ar_base.proofs.Standing.{one_cases, one_first, one_rest, one_none, one_left, one_right, one_split}
 use Rattle.eq_core.specs.Gates.{Operand, Gate, any_of}
 use Rattle.eq_core.specs.Ordered.{AreBelow}
-use Rattle.eq_core.specs.Values.{IsBelow, Tells, Grows, EachTrue, OneTrue, value_at}
+use Rattle.eq_core.specs.Values.{IsBelow, IsTrueWhere, Grows, EachTrue, OneTrue, value_at}
 use Rattle.eq_core.proofs.Telling.{value_kept, below_kept, tells_kept, tells_as, any_tells}
 use Rattle.eq_build.specs.Entries.{one_of_alls}
 use Rattle.eq_build.proofs.EntriesTell.{OneAll, AllBelow, one_grows}
@@ -43,7 +43,7 @@ nothing_told p = record {
 
 -- one operand more at the end
 pub together_more : {set : List ℕ} {g : List Gate} {os : List Operand} {o : Operand} {P Q : Type 0}
-    → TellTogether set g os P → Tells set g o Q → TellTogether set g (os ++ o ∷ []) (P × Q)
+    → TellTogether set g os P → IsTrueWhere set g o Q → TellTogether set g (os ++ o ∷ []) (P × Q)
 together_more {set = set} {g = g} {os = os} {o = o} {P = P} {Q = Q} t u = record {
   below = record {
     each = λ p m. elim (one_split os (o ∷ []) p m) [
@@ -71,7 +71,7 @@ together_more {set = set} {g = g} {os = os} {o = o} {P = P} {Q = Q} t u = record
 
 -- one operand before
 pub together_before : {set : List ℕ} {g : List Gate} {os : List Operand} {o : Operand} {P Q : Type 0}
-    → Tells set g o P → TellTogether set g os Q → TellTogether set g (o ∷ os) (P × Q)
+    → IsTrueWhere set g o P → TellTogether set g os Q → TellTogether set g (o ∷ os) (P × Q)
 together_before {set = set} {g = g} {os = os} {o = o} u t = record {
   below = record {
     each = λ p m. elim (one_cases o os p m) [
@@ -135,7 +135,7 @@ some_or {os = os} {ps = ps} t u = record {
 }
 
 pub any_of_some : {set : List ℕ} {g : List Gate} {os : List Operand} {P : Type 0} → TellSome set g os P
-    → Tells set (any_of g os).gates (any_of g os).operand P
+    → IsTrueWhere set (any_of g os).gates (any_of g os).operand P
 any_of_some {set = set} {g = g} {os = os} t = tells_as t.true_so t.so_true (any_tells set g os t.below)
 
 -- P holds of one of the items
@@ -146,7 +146,7 @@ pub record SomeIs {A : Type 0} (P : A → Type 0) (xs : List A) : Type 0 where
 
 -- operands that tell of P, each of its item
 pub some_along : {A : Type 0} (P : A → Type 0) {set : List ℕ} {g : List Gate} {xs : List A} {os : List Operand}
-    → Along (λ a o. Tells set g o (P a)) xs os → TellSome set g os (SomeIs P xs)
+    → Along (λ a o. IsTrueWhere set g o (P a)) xs os → TellSome set g os (SomeIs P xs)
 some_along P l.none = record {
   below = record { each = λ o m. absurd (one_none o m) };
   true_so = λ e. absurd (one_none e.operand e.is_one);
@@ -181,9 +181,9 @@ some_along {A = A} P {set = set} {g = g} (l.one_and {a = a} {b = o} {xs = xs} {y
 module _ {A : Type 0} (set : List ℕ) (R : List Gate → A → Operand → List Gate → Type 0)
     (more : (g h : List Gate) (a : A) (o : Operand) → R g a o h → Grows g h)
     (Inv : List Gate → Type 0) (kept : (g h : List Gate) → Grows g h → Inv g → Inv h) (Ok P : A → Type 0)
-    (tell : (g h : List Gate) (a : A) (o : Operand) → Ok a → Inv g → R g a o h → Tells set h o (P a)) where
+    (tell : (g h : List Gate) (a : A) (o : Operand) → Ok a → Inv g → R g a o h → IsTrueWhere set h o (P a)) where
   pub threads_tell : {g h : List Gate} {xs : List A} {os : List Operand} → Threads R g xs os h
-      → ((n : ℕ) (a : A) → Stands xs n a → Ok a) → Inv g → Along (λ a o. Tells set h o (P a)) xs os
+      → ((n : ℕ) (a : A) → Stands xs n a → Ok a) → Inv g → Along (λ a o. IsTrueWhere set h o (P a)) xs os
   threads_tell none ok i = l.none
   threads_tell (one_and {g = g} {h = h} {a = a} {b = o} c d) ok i =
       l.one_and (tells_kept (threads_more R more d) (tell g h a o (ok zero a refl) i c))
@@ -192,5 +192,5 @@ module _ {A : Type 0} (set : List ℕ) (R : List Gate → A → Operand → List
 -- one of the lists is true, by what the lists are
 pub one_tells : {set : List ℕ} {g : List Gate} {oss : List (List Operand)} {P : Type 0} → AllBelow g oss
     → (OneAll set g oss → P) → (P → OneAll set g oss)
-    → Tells set (one_of_alls g oss).gates (one_of_alls g oss).operand P
+    → IsTrueWhere set (one_of_alls g oss).gates (one_of_alls g oss).operand P
 one_tells {set = set} {g = g} {oss = oss} a f k = tells_as f k (one_grows set g oss a).1

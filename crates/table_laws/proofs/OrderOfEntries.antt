@@ -7,7 +7,7 @@ use Rattle.domains.specs.Values.{is_before}
 use Rattle.domains.specs.declared.Value.{Value}
 use Rattle.domains.proofs.Same.{same_is}
 use Rattle.eq_core.specs.Gates.{Operand, Always, Never, EventIs, GateIs, Gate, Made}
-use Rattle.eq_core.specs.Values.{Tells}
+use Rattle.eq_core.specs.Values.{IsTrueWhere}
 use Rattle.eq_build.specs.Entries.{Entry, Term, Group, with_term, with_terms, one_of_alls, is_never, with_entry, entries_of}
 use Rattle.eq_build.specs.Tells.{AreEntries}
 use Rattle.eq_build.proofs.EntriesTell.{entry_cases, true_kept, entry_first, entry_rest}
@@ -219,7 +219,7 @@ order_tells {set = set} {g = g} {es = es} {P = P} d a =
     record {
       tells = λ e o.
           let f = from_order es d e o in
-          subst (λ (z : Entry). Tells set g z.operand (P z.value)) f.2 (a.tells f.0 f.1);
+          subst (λ (z : Entry). IsTrueWhere set g z.operand (P z.value)) f.2 (a.tells f.0 f.1);
       whole = λ v p.
           let x = a.whole v p in
           let t = a.tells x.0 x.1 in

@@ -6,7 +6,7 @@ use Rattle.ar_base.proofs.Standing.{stands_left, stands_right, one_contains}
 use Rattle.ar_meaning.proofs.Dependence.{passes_named}
 use Rattle.typed_expr.proofs.Facts.{yields_named}
 use Rattle.ar_meaning.specs.Systems.{Assign, Variable, Net}
-use Rattle.ar_meaning.specs.Facts.{Allows, IsGiven, FactOf}
+use Rattle.ar_meaning.specs.Facts.{Allows, HasStateValue, FactOf}
 use Rattle.ar_meaning.specs.Facts as f
 use Rattle.ar_meaning.proofs.Least.{least, closed}
 use Rattle.table_laws.specs.Known.{Holds, Gives, HasRounds, IsKnown, HasBroken}
@@ -159,7 +159,7 @@ module _ {V : Type 0} (net : Net V) where
     -- where no assignment is at odds with what is known, each fact is known
     pub facts_known : HaveOne → (HasBroken net (Holds known) → ⊥) → (x : V) (v : Value) → FactOf net t x v
         → known x v ≡ true
-    facts_known one even = least net.assertions (Allows net) (IsGiven net t) (Holds known) k.given
+    facts_known one even = least net.assertions (Allows net) (HasStateValue net t) (Holds known) k.given
         (λ a v m p y l.
         let b = k.covers a m in
         block_closed known b.0 (k.rounds b.1.place b.0 b.1.stands) (one b.1.place b.0 b.1.stands) even a.target v
@@ -189,7 +189,7 @@ module _ {V : Type 0} (net : Net V) where
         ])
         (r.sound j x v (omega (arith, l)) o e) in
         subst (λ z. FactOf net t z v) g.is_target
-        (closed net.assertions (Allows net) (IsGiven net t) g.assign v g.is_one g.passes g.yields
+        (closed net.assertions (Allows net) (HasStateValue net t) g.assign v g.is_one g.passes g.yields
         (subst (λ z. Allows net z v) (sym g.is_target) (r.allowed (suc j) x v o e)))
 
     blocks_sound : (n m : ℕ) (block : List V) → m < n → Stands blocks m block → (x : V) (v : Value)

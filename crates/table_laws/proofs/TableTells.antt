@@ -11,11 +11,11 @@ use Rattle.typed_expr.specs.Kinds.{kind_of, HasKind}
 use Rattle.typed_expr.specs.declared.expr.ValueKind.{ValueKind}
 use Rattle.typed_expr.specs.declared.expr.Expr.{Expr, out-Expr}
 use Rattle.ar_meaning.specs.Systems.{Assign, Variable, Net}
-use Rattle.ar_meaning.specs.Facts.{Passes, Allows, IsGiven}
+use Rattle.ar_meaning.specs.Facts.{PassesConditions, Allows, HasStateValue}
 use Rattle.ar_firing.specs.Forest.{ModeTree}
 use Rattle.gts_core.specs.Lawful.{IsTypedAssign, IsLawful}
 use Rattle.eq_core.specs.Gates.{Operand, Gate, Made, Table}
-use Rattle.eq_core.specs.Values.{Tells, Grows}
+use Rattle.eq_core.specs.Values.{IsTrueWhere, Grows}
 use Rattle.eq_core.proofs.Telling.{grows_on, tells_kept, tells_as}
 use Rattle.eq_build.specs.Entries.{Entry, operand_for}
 use Rattle.eq_build.specs.Tells.{AreEntries}
@@ -43,8 +43,9 @@ pub record HasBegun (set : List ℕ) (t : List Value) {net : Net ℕ} {kinds : �
   pub sound : IsSound set kinds net lawful steps.seen.gates steps.after_modes
       (first_reading trees steps.modes 0 net.variables)
   pub given : (x : ℕ) (d : Value)
-      → (held set steps.seen.gates (first_reading trees steps.modes 0 net.variables) x d ≡ true) ↔ IsGiven net t x d
-  pub states : (x : ℕ) (d : Value) → IsGiven net t x d → IsSomeFlow net x → ⊥
+      → (held set steps.seen.gates (first_reading trees steps.modes 0 net.variables) x d ≡ true) ↔ HasStateValue net t x
+      d
+  pub states : (x : ℕ) (d : Value) → HasStateValue net t x d → IsSomeFlow net x → ⊥
 
 module _ (net : Net ℕ) (trees : List ModeTree) (observer : Expr ℕ) (wanted : Value) (table : Table)
     (steps : IsTable net trees observer wanted table) (kinds : ℕ → ValueKind) (lawful : IsLawful net kinds)
@@ -106,13 +107,14 @@ module _ (net : Net ℕ) (trees : List ModeTree) (observer : Expr ℕ) (wanted :
       (λ n. Unit {0}) Two (λ g h n o ok k c. at g n h o k c) steps.sees_twos (λ n x s. tt) after_rounds_told)
     where
       at : (g : List Gate) (n : ℕ) (h : List Gate) (o : Operand) → KnownTold g → Sees_two steps.known g n o h
-          → Tells set h o (Two n)
+          → IsTrueWhere set h o (Two n)
       at g n h o k sees_two = two_tells set g (k.each n)
 
   -- values outside
   abbrev Leaves : Variable ℕ × Assign ℕ → Type 0
   Leaves y =
-      LeavesBy (Passes (Holds known_at) y.1.conditions) (Yields (Holds known_at) (out-Expr ℕ y.1.value)) y.0.domain
+      LeavesBy (PassesConditions (Holds known_at) y.1.conditions) (Yields (Holds known_at) (out-Expr ℕ y.1.value))
+      y.0.domain
 
   outs_told : TellSome set steps.after_outs steps.outs (SomeIs Leaves steps.leaving)
   outs_told = some_along Leaves (threads_tell set (Sees_outside steps.known) (outside_more steps.known) KnownTold
@@ -122,7 +124,7 @@ module _ (net : Net ℕ) (trees : List ModeTree) (observer : Expr ℕ) (wanted :
       after_twos_told)
     where
       at : (g h : List Gate) (y : Variable ℕ × Assign ℕ) (o : Operand) → IsTypedAssign kinds y.1 → KnownTold g
-          → Sees_outside steps.known g y o h → Tells set h o (Leaves y)
+          → Sees_outside steps.known g y o h → IsTrueWhere set h o (Leaves y)
       at g h y o q k (sees_outside {x = x} {r = r} c) =
           let a = assign_tells set kinds (Holds known_at) known_kinds steps.known c q (record { each = k.each }) in
           outside_tells set r.gates x.domain a.conditions a.entries
@@ -217,7 +219,8 @@ module _ (net : Net ℕ) (trees : List ModeTree) (observer : Expr ℕ) (wanted :
   -- assignments that do not hold
   abbrev Breaks : Assign ℕ → Type 0
   Breaks a =
-      IsApart (Passes total_facts a.conditions) (Yields total_facts (out-Expr ℕ a.value)) (total_facts a.target)
+      IsApart (PassesConditions total_facts a.conditions) (Yields total_facts (out-Expr ℕ a.value))
+      (total_facts a.target)
 
   broken_told : TellSome set steps.after_broken steps.broken (SomeIs Breaks net.assertions)
   broken_told = some_along Breaks (threads_tell set (Sees_broken steps.total) (broken_more steps.total) TotalsTold
@@ -225,7 +228,7 @@ module _ (net : Net ℕ) (trees : List ModeTree) (observer : Expr ℕ) (wanted :
       (λ n a s. lawful.typed a (record { place = n; stands = s })) after_totals_told)
     where
       at : (g : List Gate) (a : Assign ℕ) (h : List Gate) (o : Operand) → IsTypedAssign kinds a → TotalsTold g
-          → Sees_broken steps.total g a o h → Tells set h o (Breaks a)
+          → Sees_broken steps.total g a o h → IsTrueWhere set h o (Breaks a)
       at g a h o q k (sees_broken {r = r} c) =
           let m = assign_tells set kinds total_facts total_kinds steps.total c q (record { each = k.each }) in
           broken_tells set r.gates m.conditions m.entries (entries_kept m.grown (k.each a.target))
@@ -333,18 +336,18 @@ module _ (net : Net ℕ) (trees : List ModeTree) (observer : Expr ℕ) (wanted :
   }))
 
   -- the conflict operand
-  pub conflict_told : Tells set steps.seen.gates table.conflict (IsConflict net known_at)
+  pub conflict_told : IsTrueWhere set steps.seen.gates table.conflict (IsConflict net known_at)
   conflict_told =
       let outs_on = grows_on (up_outs steps) (up_totals steps) in
       let all = some_or (some_kept (grows_on (up_twos steps) outs_on) twos_told)
       (some_or (some_kept outs_on outs_told) broken_told) in
       tells_kept (up_seen steps)
-      (subst (λ (z : Made). Tells set z.gates z.operand (IsConflict net known_at)) (joint_is steps)
+      (subst (λ (z : Made). IsTrueWhere set z.gates z.operand (IsConflict net known_at)) (joint_is steps)
       (tells_as to_conflict from_conflict (any_of_some all)))
 
   -- the top operand
   pub top_told : {kind : ValueKind} → HasKind kinds (out-Expr ℕ observer) kind
-      → Tells set steps.seen.gates (operand_for steps.seen.entries wanted)
+      → IsTrueWhere set steps.seen.gates (operand_for steps.seen.entries wanted)
       (Yields total_facts (out-Expr ℕ observer) wanted)
   top_told k =
       let i = totals_kept steps.after_totals steps.after_conflict (grows_on (up_totals steps) (up_conflict steps))

@@ -7,7 +7,7 @@ use Rattle.domains.specs.declared.Value.{Value}
 use Rattle.domains.proofs.Same.{has_in, in_has}
 use Rattle.eq_core.specs.Gates.{Operand, Gate}
 use Rattle.eq_core.specs.Ordered.{AreBelow}
-use Rattle.eq_core.specs.Values.{Tells, EachTrue}
+use Rattle.eq_core.specs.Values.{IsTrueWhere, EachTrue}
 use Rattle.eq_build.specs.Entries.{Entry, Term, entries_for}
 use Rattle.eq_build.specs.Tells.{AreEntries, IsBuilt}
 use Rattle.eq_build.proofs.EntriesTell.{SomeTerm, terms_tell}
@@ -68,14 +68,14 @@ pub record IsInside (P : Type 0) (Q : Value → Type 0) (ds : List Value) (d : V
   pub inside : Contains ds d
 
 module _ (set : List ℕ) (g : List Gate) where
-  pub single_tells : {o : Operand} {P : Type 0} → Tells set g o P → TellTogether set g (o ∷ []) P
+  pub single_tells : {o : Operand} {P : Type 0} → IsTrueWhere set g o P → TellTogether set g (o ∷ []) P
   single_tells {o = o} {P = P} t =
       let u : TellTogether set g (o ∷ []) (P × Unit {0}) = together_before t (nothing_told tt) in
       together_as (λ p. p.0) (λ p. (p, tt)) u
 
   -- where the operands of an entry are true, its value has P; and the other way round
-  pub own_tells : (P : Value → Type 0) {e : Entry} → Tells set g e.operand (P e.value) → (t : Term) → own_term e ≡ t
-      → TellTogether set g t.operands (P t.value)
+  pub own_tells : (P : Value → Type 0) {e : Entry} → IsTrueWhere set g e.operand (P e.value) → (t : Term) → own_term e
+      ≡ t → TellTogether set g t.operands (P t.value)
   own_tells P t u i = subst (λ (z : Term). TellTogether set g z.operands (P z.value)) i (single_tells t)
 
   module _ {A : Type 0} (P : A → Value → Type 0) where

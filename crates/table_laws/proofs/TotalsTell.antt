@@ -5,7 +5,7 @@ use Rattle.ar_base.proofs.Standing.{one_cases, one_first, one_rest, one_none, on
 use Rattle.domains.specs.declared.Value.{Value}
 use Rattle.eq_core.specs.Gates.{Operand, Gate, all_of}
 use Rattle.eq_core.specs.Ordered.{AreBelow}
-use Rattle.eq_core.specs.Values.{Tells, Grows, EachTrue}
+use Rattle.eq_core.specs.Values.{IsTrueWhere, Grows, EachTrue}
 use Rattle.eq_core.proofs.Telling.{grows_on, tells_as, tells_opposite, all_tells, all_more}
 use Rattle.eq_build.specs.Entries.{Entry, Term}
 use Rattle.eq_build.specs.Tells.{AreEntries, IsBuilt}
@@ -24,7 +24,7 @@ module _ (set : List ℕ) (g : List Gate) (P : Value → Type 0) where
   abbrev NoneHas : List Entry → Type 0
   NoneHas es = (e : Entry) → IsOneOf es e → P e.value → ⊥
 
-  none_tell : (es : List Entry) → ((e : Entry) → IsOneOf es e → Tells set g e.operand (P e.value))
+  none_tell : (es : List Entry) → ((e : Entry) → IsOneOf es e → IsTrueWhere set g e.operand (P e.value))
       → TellTogether set g (opposites es) (NoneHas es)
   none_tell [] t = nothing_told (λ e o p. one_none e o)
   none_tell (e ∷ es) t = together_as to from
@@ -47,7 +47,7 @@ module _ (set : List ℕ) (P : Value → Type 0) (row : List Entry) (reset : Val
   all_terms o = as_terms row ++ last o ∷ []
 
   -- what a term of the row, or the one of the reset value, says
-  term_says : (h : List Gate) (o : Operand) → AreEntries set h row P → Tells set h o ((w : Value) → P w → ⊥)
+  term_says : (h : List Gate) (o : Operand) → AreEntries set h row P → IsTrueWhere set h o ((w : Value) → P w → ⊥)
       → (t : Term) → IsOneOf (all_terms o) t
       → AreBelow (length h) t.operands × (EachTrue set h t.operands → IsTotal P reset t.value)
   term_says h o a n t m = elim (one_split (as_terms row) (last o ∷ []) t m) [
@@ -64,7 +64,7 @@ module _ (set : List ℕ) (P : Value → Type 0) (row : List Entry) (reset : Val
     ]
   ]
 
-  some_term : (h : List Gate) (o : Operand) → AreEntries set h row P → Tells set h o ((w : Value) → P w → ⊥)
+  some_term : (h : List Gate) (o : Operand) → AreEntries set h row P → IsTrueWhere set h o ((w : Value) → P w → ⊥)
       → (d : Value) → IsTotal P reset d → SomeTerm set h (all_terms o) d
   some_term h o a n d (known p) =
       let e = a.whole d p in
@@ -90,7 +90,7 @@ module _ (set : List ℕ) (P : Value → Type 0) (row : List Entry) (reset : Val
       let n = none_tell set g P row a.tells in
       let m = all_of g os in
       let s : Grows g m.gates = all_more g os in
-      let none : Tells set m.gates m.operand ((w : Value) → P w → ⊥) = tells_as
+      let none : IsTrueWhere set m.gates m.operand ((w : Value) → P w → ⊥) = tells_as
       (λ e w p. let r = a.whole w p in n.true_so e r.0 r.1 (subst P (sym r.2) p))
       (λ h. n.so_true (λ e o p. h e.value p))
       (all_tells set g os n.below) in

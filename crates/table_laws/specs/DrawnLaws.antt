@@ -15,7 +15,7 @@ use Rattle.zdd_nodes.specs.Nodes.{IsNumber}
 use Rattle.eq_core.specs.Gates.{Table}
 use Rattle.firable_families.specs.Firable.{IsFirableOf}
 use Rattle.gate_diagrams.specs.Answers.{IsAnswer}
-use Rattle.gate_diagrams.specs.Needed.{NodesMay}
+use Rattle.gate_diagrams.specs.NodeLimits.{NodesMay}
 use Rattle.gate_diagrams.specs.declared.answer.Drawn.{Drawn}
 use Rattle.table_steps.specs.Table.{IsTable}
 use Rattle.table_laws.specs.Drawn.{AreDrawn, sets_of, family_of}

@@ -6,7 +6,7 @@ use Rattle.domains.specs.declared.Value.{Value}
 use Rattle.typed_expr.specs.Yields.{Yields}
 use Rattle.typed_expr.specs.declared.expr.Expr.{out-Expr}
 use Rattle.ar_meaning.specs.Systems.{Assign, Variable, Net}
-use Rattle.ar_meaning.specs.Facts.{Passes, Allows, IsGiven}
+use Rattle.ar_meaning.specs.Facts.{PassesConditions, Allows, HasStateValue}
 use Rattle.ar_meaning.specs.Dependence.{Names, IsFlow}
 
 -- the facts that the reading holds
@@ -18,7 +18,7 @@ pub record Gives {V : Type 0} (net : Net V) (facts : V → Value → Type 0) (x 
   pub assign : Assign V
   pub is_one : IsOneOf net.assertions assign
   pub is_target : assign.target ≡ x
-  pub passes : Passes facts assign.conditions
+  pub passes : PassesConditions facts assign.conditions
   pub yields : Yields facts (out-Expr V assign.value) v
 
 -- the readings of a block's rounds, as many as it has flows: the first holds nothing of the block, each next one what
@@ -40,22 +40,22 @@ pub record HasRounds {V : Type 0} (net : Net V) (known : V → Value → Bool) (
 -- states and blocks before it
 pub record IsKnown {V : Type 0} (net : Net V) (t : List Value) (blocks : List (List V))
     (known : V → Value → Bool) : Type 0 where
-  pub given : (x : V) (v : Value) → IsGiven net t x v → known x v ≡ true
+  pub given : (x : V) (v : Value) → HasStateValue net t x v → known x v ≡ true
   pub only : (x : V) (v : Value) → known x v ≡ true
-      → IsGiven net t x v ⊎ ((n : ℕ) × (block : List V) × Stands blocks n block × IsOneOf block x)
+      → HasStateValue net t x v ⊎ ((n : ℕ) × (block : List V) × Stands blocks n block × IsOneOf block x)
   pub rounds : (n : ℕ) (block : List V) → Stands blocks n block → HasRounds net known block
   pub covers : (a : Assign V) → IsOneOf net.assertions a
       → (block : List V) × IsOneOf blocks block × IsOneOf block a.target
   pub earlier : (n : ℕ) (block : List V) → Stands blocks n block → (a : Assign V) (x : V) → IsOneOf net.assertions a
       → IsOneOf block a.target → Names a x
-      → IsOneOf block x ⊎ (((v : Value) → known x v ≡ true → IsGiven net t x v) ⊎
+      → IsOneOf block x ⊎ (((v : Value) → known x v ≡ true → HasStateValue net t x v) ⊎
       ((m : ℕ) × (other : List V) × (m < n) × Stands blocks m other × IsOneOf other x))
 
 -- an assignment that is reached yields a value, and its target is known to have another
 pub record HasBroken {V : Type 0} (net : Net V) (facts : V → Value → Type 0) : Type 0 where
   pub assign : Assign V
   pub is_one : IsOneOf net.assertions assign
-  pub passes : Passes facts assign.conditions
+  pub passes : PassesConditions facts assign.conditions
   pub value : Value
   pub yields : Yields facts (out-Expr V assign.value) value
   pub other : Value
@@ -90,7 +90,7 @@ pub record SeesOutside {V : Type 0} (net : Net V) (known : V → Value → Bool)
   pub assign : Assign V
   pub is_one : IsOneOf net.assertions assign
   pub is_target : assign.target ≡ variable.key
-  pub passes : Passes (Holds known) assign.conditions
+  pub passes : PassesConditions (Holds known) assign.conditions
   pub value : Value
   pub yields : Yields (Holds known) (out-Expr V assign.value) value
   pub outside : Contains variable.domain value → ⊥

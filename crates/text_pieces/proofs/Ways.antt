@@ -6,8 +6,8 @@ use Rattle.ar_base.specs.Texts.{text_at}
 use Rattle.ar_base.proofs.Standing.{stands_some, stands_get, stands_map, along_on, along_length}
 use Rattle.ar_meaning.specs.Systems as s
 use Rattle.ar_meaning.specs.Runs.{Label, IsWay}
-use Rattle.ar_meaning.specs.TraceText.{way_text, ways_of, label_text, place_text}
-use Rattle.gts_core.specs.View.{Views, IsEvent, IsWayAt}
+use Rattle.ar_meaning.specs.TraceText.{way_text, ways_of, label_text, optional_place_text}
+use Rattle.gts_core.specs.View.{Views, IsEventView, IsWayAt}
 use Rattle.gts_core.specs.Sound.{IsSound, IsOwn}
 use Rattle.gts_core.specs.declared.system.Assign.{Assign}
 use Rattle.gts_core.specs.declared.system.Event.{Event}
@@ -23,7 +23,7 @@ pub record IsNamed (p : GtsParts) (sys : s.System ℕ) (n : ℕ) : Type 0 where
   pub is_at : IsWayAt p n way
 
 -- events have as many ways in the system as in its parts
-ways_alike : (p : GtsParts) {es : List Event} {vs : List (s.Event ℕ)} → Along (IsEvent p) es vs → (n : ℕ)
+ways_alike : (p : GtsParts) {es : List Event} {vs : List (s.Event ℕ)} → Along (IsEventView p) es vs → (n : ℕ)
     → ways_found (slice_get es n) ≡ ways_of (slice_get vs n)
 ways_alike p l.none zero = refl
 ways_alike p l.none (suc n) = refl
@@ -49,8 +49,9 @@ number_read p n w sound h = let own = sound.own_ways n w h in omega (arith, own.
 
 -- the place of an assignment that is read
 pub place_read : (p : GtsParts) (n : ℕ) (a : Assign) → Stands p.assigns.items n a
-    → decimal a.at.line ++ (codes ":" ++ decimal a.at.column) ≡ place_text (slice_get (naming_of_parts p).places n)
-place_read p n a h = ap place_text (sym (stands_map (λ (z : Assign). z.at) p.assigns.items n a h))
+    → decimal a.at.line ++ (codes ":" ++ decimal a.at.column) ≡ optional_place_text
+    (slice_get (naming_of_parts p).places n)
+place_read p n a h = ap optional_place_text (sym (stands_map (λ (z : Assign). z.at) p.assigns.items n a h))
 
 module _ (p : GtsParts) (sys : s.System ℕ) (views : Views p sys) where
   -- the canonical label of a way

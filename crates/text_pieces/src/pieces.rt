@@ -4,7 +4,7 @@ ghost use Rattle.std.specs.Prelude.{◌≡◌, ◌++◌, codes, decimal, slice_g
 ghost use Rattle.std.specs.Fmt.{signed_decimal};
 ghost use Rattle.ar_io.specs.Writing.{Writes};
 ghost use Rattle.ar_base.specs.Texts.{text_at};
-ghost use Rattle.ar_meaning.specs.TraceText.{place_text};
+ghost use Rattle.ar_meaning.specs.TraceText.{optional_place_text};
 ghost use Rattle.ar_meaning.specs.ValueTexts.{value_text};
 ghost use Rattle.gts_flatten.specs.Flat.{naming_of_parts};
 ghost use Rattle.text_pieces.specs.WayLabels.{ways_found};

@@ -2,7 +2,8 @@
 use Rattle.std.proofs.Common.{◌≡◌, ℕ, ◌↔◌, Bool, true, false, IsTrue, List, [], ◌∷◌, Contains, Box, Vec, Global, Option, Result, Ok, Err, sym, ap, ◌∙◌, subst, ◌⊎◌}
 use Rattle.domains.specs.declared.Value.{Value}
 use Rattle.domains.specs.declared.Value.TheVariants.{Truth}
-use Rattle.typed_expr.specs.Sets.{HasMoreThan, Stopped, Gathers}
+use Rattle.typed_expr.specs.Sets.{Stopped, Gathers}
+use Rattle.typed_expr.specs.Sizes.{HasMoreThan}
 use Rattle.typed_expr.specs.Yields.{Level}
 use Rattle.typed_expr.specs.Possible.{IsWide}
 use Rattle.typed_expr.specs.Evaluating.{Evaluates, IsTruth, SomeRelated, SomeWide, Tallies, Folds, Sums, CaseWide, Took, Chooses, Joins}

@@ -3,7 +3,7 @@ use Rattle.std.proofs.Common.{Bool, true, false, List, [], ◌∷◌, ◌++◌, 
 use Rattle.std.proofs.lemmas.List.Elements.{Contains-append_left, Contains-append_right, Contains-append_cases, Contains-push, Contains-push_cases}
 use Rattle.domains.specs.declared.Value.{Value}
 use Rattle.domains.specs.declared.Value.TheVariants.{Truth}
-use Rattle.typed_expr.specs.Pairs.{Pair, Has, Needs}
+use Rattle.typed_expr.specs.Pairs.{Pair, HasPair, Needs}
 use Rattle.typed_expr.specs.Yields.{Level, Yields, Some_yields, All_yield, Picks, Picks_parts, Takes}
 use Rattle.typed_expr.specs.Yields as y
 use Rattle.typed_expr.specs.Mentions.{Mentions, Some_mentions, Parts_mention, Cases_mention}
@@ -88,15 +88,15 @@ module _ (V : Type 0) (P Q : V → Value → Type 0) (more : (x : V) (v : Value)
   takes_more d = takes_named (λ x w n p. more x w p) (λ x w n p. more x w p) d
 
 pub either_holds : {V : Type 0} (P : V → Value → Type 0) (K L : List (Pair V))
-    → ((x : V) (v : Value) → Has K x v → P x v) → ((x : V) (v : Value) → Has L x v → P x v)
-    → (x : V) (v : Value) → Has (K ++ L) x v → P x v
+    → ((x : V) (v : Value) → HasPair K x v → P x v) → ((x : V) (v : Value) → HasPair L x v → P x v)
+    → (x : V) (v : Value) → HasPair (K ++ L) x v → P x v
 either_holds P K L h k x v n = ⊎_elim (λ a. h x v a) (λ b. k x v b) (Contains-append_cases K L (x, v) n)
 
-pub nothing_holds : {V : Type 0} (x : V) (v : Value) → Has [] x v → ⊥
+pub nothing_holds : {V : Type 0} (x : V) (v : Value) → HasPair [] x v → ⊥
 nothing_holds x v (k, h, e) = absurd (omega (arith, h))
 
 only_holds : {V : Type 0} (P : V → Value → Type 0) (x : V) (v : Value) → P x v → (z : V) (w : Value)
-    → Has ((x, v) ∷ []) z w → P z w
+    → HasPair ((x, v) ∷ []) z w → P z w
 only_holds P x v h z w n =
     ⊎_elim (λ a. absurd (nothing_holds z w a)) (λ e. let Q : Pair _ → Type 0 = λ k. P k.0 k.1 in subst Q e h)
     (Contains-push_cases [] (x, v) (z, w) n)
@@ -110,10 +110,10 @@ needs_both V P R S T more_r more_s both n k = record {
   pairs = n.pairs ++ k.pairs;
   hold = either_holds P n.pairs k.pairs n.hold k.hold;
   suffice =
-      both (Has (n.pairs ++ k.pairs))
-      (more_r (Has n.pairs) (Has (n.pairs ++ k.pairs)) (λ x v h. Contains-append_left n.pairs k.pairs (x, v) h)
+      both (HasPair (n.pairs ++ k.pairs))
+      (more_r (HasPair n.pairs) (HasPair (n.pairs ++ k.pairs)) (λ x v h. Contains-append_left n.pairs k.pairs (x, v) h)
       n.suffice)
-      (more_s (Has k.pairs) (Has (n.pairs ++ k.pairs)) (λ x v h. Contains-append_right n.pairs k.pairs (x, v) h)
+      (more_s (HasPair k.pairs) (HasPair (n.pairs ++ k.pairs)) (λ x v h. Contains-append_right n.pairs k.pairs (x, v) h)
       k.suffice);
 }
 

@@ -5,10 +5,11 @@ use Rattle.domains.specs.declared.Value.TheVariants.{Truth, Whole}
 use Rattle.domains.proofs.Members.{contains-head, contains-cons, contains-cases, nothing-in}
 use Rattle.domains.proofs.Order.{Ascends, ascends-from, not_before}
 use Rattle.typed_expr.specs.Values.{is_related, sum_of}
-use Rattle.typed_expr.specs.Sets.{HasExactly, HasMoreThan, AtLimit, Gathers}
+use Rattle.typed_expr.specs.Sets.{HasExactly, AtLimit, Gathers}
+use Rattle.typed_expr.specs.Sizes.{HasMoreThan}
 use Rattle.typed_expr.specs.Yields.{Level, facts_of, Yields, Some_yields, All_yield, Picks, Picks_parts, Takes}
 use Rattle.typed_expr.specs.Yields as y
-use Rattle.typed_expr.specs.Possible.{IsPart, itself, in_not, in_all, in_any, in_left, in_right, in_sum, in_product, in_least, in_greatest, in_count, in_test, in_value, in_other, IsWide, subexpression, step}
+use Rattle.typed_expr.specs.Possible.{IsSubexpression, itself, in_not, in_all, in_any, in_left, in_right, in_sum, in_product, in_least, in_greatest, in_count, in_test, in_value, in_other, IsWide, subexpression, step}
 use Rattle.typed_expr.specs.Evaluating.{Evaluates, IsTruth, SomeRelated, SomeWide, Tallied, Tallies, FoldYields, SomeStep, Folds, SumYields, PartWide, Sums, CaseWide, Took, PassesAll, Chosen, Chooses, BranchYields, Joins}
 use Rattle.typed_expr.specs.Folds.{fold_of}
 use Rattle.typed_expr.specs.declared.expr.Relation.{Relation}
@@ -195,7 +196,8 @@ module _ {V : Type 0} (facts : V → Value → Type 0) where
   wide-choice cs other n (step k (in_other q) h) = inr (inr (step k q h))
 
   -- where an operand is too wide, so is the form
-  deeper : {n : ℕ} {p e : Level V} → ((q : Level V) → IsPart q p → IsPart q e) → IsWide facts n p → IsWide facts n e
+  deeper : {n : ℕ} {p e : Level V} → ((q : Level V) → IsSubexpression q p → IsSubexpression q e) → IsWide facts n p
+      → IsWide facts n e
   deeper f (subexpression {p = p} q h) = subexpression (f p q) h
   deeper f (step {p = p} k q h) = step k (f p q) h
 

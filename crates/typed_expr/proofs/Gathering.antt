@@ -11,7 +11,8 @@ use Rattle.domains.proofs.Members.{contains-head, contains-cons, contains-cases,
 use Rattle.domains.proofs.Order.{ascends-from, ascends-length}
 use Rattle.typed_expr.specs.Values.{is_related}
 use Rattle.typed_expr.specs.Folds.{next_of}
-use Rattle.typed_expr.specs.Sets.{HasExactly, HasMoreThan, AtLimit, KeepsLimit, Gathers, Stopped, Adds, Inserts, Refuses}
+use Rattle.typed_expr.specs.Sets.{HasExactly, AtLimit, KeepsLimit, Gathers, Stopped, AddsValue, Inserts, RefusesValue}
+use Rattle.typed_expr.specs.Sizes.{HasMoreThan}
 use Rattle.typed_expr.specs.Evaluating.{IsTruth, IsNext, SomeRelated}
 use Rattle.typed_expr.specs.declared.fold.Step.{Step}
 use Rattle.typed_expr.specs.declared.expr.Relation.{Relation}
@@ -48,7 +49,7 @@ gathers-as most (Err TooMany) {P} {Q} f g h =
 gathers-as most (Err (NoMemory memory)) f g h = tt
 
 -- where the set has exactly the values of P and another goes in
-pub exactly-put : (set new : List Value) (v : Value) (P Q : Value → Type 0) → HasExactly set P → Adds set v new
+pub exactly-put : (set new : List Value) (v : Value) (P Q : Value → Type 0) → HasExactly set P → AddsValue set v new
     → ((d : Value) → P d → Q d) → Q v
     → ((d : Value) → Q d → P d ⊎ (d ≡ v)) → HasExactly new Q
 exactly-put set new v P Q h a up here down = record {
@@ -60,7 +61,7 @@ exactly-put set new v P Q h a up here down = record {
 
 -- where one more is refused, there are too many
 pub refused-put : (most : Option ℕ) (set : List Value) (v : Value) (stop : Stop) (P Q : Value → Type 0)
-    → HasExactly set P → Refuses most set v stop → ((d : Value) → P d → Q d) → Q v
+    → HasExactly set P → RefusesValue most set v stop → ((d : Value) → P d → Q d) → Q v
     → Gathers most (Err stop) Q
 refused-put None set v TooMany P Q h r up here = r
 refused-put (Some n) set v TooMany P Q h (new, a, s, l) up here = record {
@@ -134,7 +135,7 @@ joined-more most old set new values i d h s a = (
 
 pub joined-refused : (most : Option ℕ) (old set values : List Value) (i : ℕ) (d : Value) (stop : Stop)
     → i < length values → SoFar most set (JoinedTo old values i)
-    → Refuses most set (get_or values i d) stop → Gathers most (Err stop) (λ v. Contains old v ⊎ Contains values v)
+    → RefusesValue most set (get_or values i d) stop → Gathers most (Err stop) (λ v. Contains old v ⊎ Contains values v)
 joined-refused most old set values i d stop h s r =
     refused-put most set (get_or values i d) stop (JoinedTo old values i)
     (λ v. Contains old v ⊎ Contains values v) s.0 r
@@ -226,7 +227,7 @@ pub stepped-refused : (most : Option ℕ) (s : Step) (first : Bool) (n x : Value
     (d : Value) (stop : Stop)
     → i < length values
     → SoFar most set (SteppedTo s first n old values i) → x ≡ Whole (next_of s first (whole_of n) (get_or values i d))
-    → Refuses most set x stop
+    → RefusesValue most set x stop
     → Gathers most (Err stop) (λ v. Contains old v ⊎ IsNext s first (n ∷ []) values v)
 stepped-refused most s first n x old set values i d stop h t e r =
     refused-put most set x stop (SteppedTo s first n old values i)
@@ -414,7 +415,7 @@ wanted-as most set more values wanted r w e g = gathers-as most r {P = λ v. Con
 
 -- Results made in runs and sorted
 
-adds-push : (xs : List Value) (v : Value) → Adds xs v (xs ++ v ∷ [])
+adds-push : (xs : List Value) (v : Value) → AddsValue xs v (xs ++ v ∷ [])
 adds-push xs v = record {
   kept = λ d m. Contains-append_left xs (v ∷ []) d m;
   added = Contains-push xs v;

@@ -10,7 +10,8 @@ use Rattle.domains.proofs.Members.{contains-head, contains-cons, nothing-in, con
 use Rattle.domains.specs.Values.{whole_of}
 use Rattle.typed_expr.specs.Values.{added, sum_of}
 use Rattle.typed_expr.specs.Folds.{fold_of, next_of}
-use Rattle.typed_expr.specs.Sets.{HasExactly, HasMoreThan, AtLimit, KeepsLimit, Stopped, Gathers}
+use Rattle.typed_expr.specs.Sets.{HasExactly, AtLimit, KeepsLimit, Stopped, Gathers}
+use Rattle.typed_expr.specs.Sizes.{HasMoreThan}
 use Rattle.typed_expr.specs.Yields.{Level, Yields, Some_yields, All_yield, Picks, Picks_parts}
 use Rattle.typed_expr.specs.Yields as y
 use Rattle.typed_expr.specs.Possible.{IsWide}

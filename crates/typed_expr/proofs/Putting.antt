@@ -10,7 +10,7 @@ use Rattle.domains.specs.Values.{is_before, IsAscending}
 use Rattle.domains.specs.declared.Value.{Value}
 use Rattle.domains.proofs.Members.{contains-head, contains-cons, contains-cases, nothing-in}
 use Rattle.domains.proofs.Order.{Ascends, ascends-from, ascending-from, is_before-trans}
-use Rattle.typed_expr.specs.Sets.{Adds, GoesAt, AtLimit, Inserts}
+use Rattle.typed_expr.specs.Sets.{AddsValue, GoesAt, AtLimit, Inserts}
 
 pub insert-cases : {X : Type 0} (xs : List X) (n : ℕ) (v d : X) → Contains (insert xs n v) d → (v ≡ d) ⊎ Contains xs d
 insert-cases xs zero v d m = contains-cases v d xs m
@@ -35,7 +35,7 @@ insert-keeps (x ∷ xs) (suc n) v d m =
       | inr k ↦ contains-cons x d (insert xs n v) (insert-keeps xs n v d k)
     ]
 
-pub adds-insert : (xs : List Value) (n : ℕ) (v : Value) → Adds xs v (insert xs n v)
+pub adds-insert : (xs : List Value) (n : ℕ) (v : Value) → AddsValue xs v (insert xs n v)
 adds-insert xs n v = record {
   kept = insert-keeps xs n v;
   added = insert-has xs n v;
@@ -118,7 +118,7 @@ goes-last xs v n h l p = record { within = h; lower = p.0; upper = λ k d i j. a
 
 pub refuses : (most : Option ℕ) (xs : List Value) (v : Value) (n len : ℕ) → GoesAt xs v n → IsAscending xs
     → len ≡ length xs → AtLimit most (λ m. m ≤ len)
-    → AtLimit most (λ m. (new : List Value) × Adds xs v new × IsAscending new × (m < length new))
+    → AtLimit most (λ m. (new : List Value) × AddsValue xs v new × IsAscending new × (m < length new))
 refuses None xs v n len g a e h = h
 refuses (Some m) xs v n len g a e h =
     (insert xs n v, adds-insert xs n v, ascending-insert xs n v g a, rw (length-insert xs n v g.within) (omega arith))

@@ -5,7 +5,8 @@ use Rattle.domains.specs.declared.Value.TheVariants.{Truth, Whole}
 use Rattle.domains.specs.Values.{whole_of}
 use Rattle.typed_expr.specs.Values.{sum_of, is_related}
 use Rattle.typed_expr.specs.Folds.{fold_of, next_of}
-use Rattle.typed_expr.specs.Sets.{HasExactly, HasMoreThan, AtLimit, KeepsLimit, Stopped}
+use Rattle.typed_expr.specs.Sets.{HasExactly, AtLimit, KeepsLimit, Stopped}
+use Rattle.typed_expr.specs.Sizes.{HasMoreThan}
 use Rattle.typed_expr.specs.Yields.{Level, Yields, Some_yields, All_yield, Picks, Picks_parts}
 use Rattle.typed_expr.specs.Possible.{IsWide}
 use Rattle.typed_expr.specs.declared.expr.Expr.{Expr, out-Expr}

@@ -1,5 +1,6 @@
 pub mod Values
 pub mod Sets
+pub mod Sizes
 pub mod Yields
 pub mod Pairs
 pub mod Kinds

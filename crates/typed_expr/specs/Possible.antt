@@ -3,7 +3,7 @@ use Rattle.std.specs.Prelude.{◌≡◌, ℕ, Bool, List, Contains, take, Box, V
 use Rattle.std.specs.Global.{Global}
 use Rattle.domains.specs.declared.Value.{Value}
 use Rattle.domains.specs.declared.Value.TheVariants.{Whole}
-use Rattle.typed_expr.specs.Sets.{HasMoreThan}
+use Rattle.typed_expr.specs.Sizes.{HasMoreThan}
 use Rattle.typed_expr.specs.Values.{sum_of, product_of, least_of, greatest_of, count_of}
 use Rattle.typed_expr.specs.Yields.{Level, Yields, Picks, Picks_parts}
 use Rattle.typed_expr.specs.declared.expr.Relation.{Relation}
@@ -11,31 +11,35 @@ use Rattle.typed_expr.specs.declared.expr.Expr.{Expr, out-Expr}
 use Rattle.typed_expr.specs.declared.expr.Expr.TheOpen.{Constant, Variable, Not, All, Any, Compare, Sum, Product, Least, Greatest, Count, Choose}
 
 -- p is a subexpression, or the expression itself
-pub data IsPart {V : Type 0} (p : Level V) : Level V → Type 0 where
-  itself : IsPart p p
-  in_not : {a : Box (Expr V) Global} → IsPart p (out-Expr V a.value) → IsPart p (Not a)
-  in_all : {es : Vec (Expr V) Global} {e : Expr V} → Contains es.items e → IsPart p (out-Expr V e) → IsPart p (All es)
-  in_any : {es : Vec (Expr V) Global} {e : Expr V} → Contains es.items e → IsPart p (out-Expr V e) → IsPart p (Any es)
-  in_left : {r : Relation} {a b : Box (Expr V) Global} → IsPart p (out-Expr V a.value) → IsPart p (Compare r a b)
-  in_right : {r : Relation} {a b : Box (Expr V) Global} → IsPart p (out-Expr V b.value) → IsPart p (Compare r a b)
+pub data IsSubexpression {V : Type 0} (p : Level V) : Level V → Type 0 where
+  itself : IsSubexpression p p
+  in_not : {a : Box (Expr V) Global} → IsSubexpression p (out-Expr V a.value) → IsSubexpression p (Not a)
+  in_all : {es : Vec (Expr V) Global} {e : Expr V} → Contains es.items e → IsSubexpression p (out-Expr V e)
+      → IsSubexpression p (All es)
+  in_any : {es : Vec (Expr V) Global} {e : Expr V} → Contains es.items e → IsSubexpression p (out-Expr V e)
+      → IsSubexpression p (Any es)
+  in_left : {r : Relation} {a b : Box (Expr V) Global} → IsSubexpression p (out-Expr V a.value)
+      → IsSubexpression p (Compare r a b)
+  in_right : {r : Relation} {a b : Box (Expr V) Global} → IsSubexpression p (out-Expr V b.value)
+      → IsSubexpression p (Compare r a b)
   in_sum : {ps : Vec (Bool × Expr V) Global} {plus : Bool} {e : Expr V} → Contains ps.items (plus, e)
-      → IsPart p (out-Expr V e) → IsPart p (Sum ps)
-  in_product : {es : Vec (Expr V) Global} {e : Expr V} → Contains es.items e → IsPart p (out-Expr V e)
-      → IsPart p (Product es)
-  in_least : {es : Vec (Expr V) Global} {e : Expr V} → Contains es.items e → IsPart p (out-Expr V e)
-      → IsPart p (Least es)
-  in_greatest : {es : Vec (Expr V) Global} {e : Expr V} → Contains es.items e → IsPart p (out-Expr V e)
-      → IsPart p (Greatest es)
-  in_count : {es : Vec (Expr V) Global} {e : Expr V} → Contains es.items e → IsPart p (out-Expr V e)
-      → IsPart p (Count es)
+      → IsSubexpression p (out-Expr V e) → IsSubexpression p (Sum ps)
+  in_product : {es : Vec (Expr V) Global} {e : Expr V} → Contains es.items e → IsSubexpression p (out-Expr V e)
+      → IsSubexpression p (Product es)
+  in_least : {es : Vec (Expr V) Global} {e : Expr V} → Contains es.items e → IsSubexpression p (out-Expr V e)
+      → IsSubexpression p (Least es)
+  in_greatest : {es : Vec (Expr V) Global} {e : Expr V} → Contains es.items e → IsSubexpression p (out-Expr V e)
+      → IsSubexpression p (Greatest es)
+  in_count : {es : Vec (Expr V) Global} {e : Expr V} → Contains es.items e → IsSubexpression p (out-Expr V e)
+      → IsSubexpression p (Count es)
   in_test : {cs : Vec (Expr V × Expr V) Global} {other : Box (Expr V) Global} {test value : Expr V}
-      → Contains cs.items (test, value) → IsPart p (out-Expr V test)
-      → IsPart p (Choose cs other)
+      → Contains cs.items (test, value) → IsSubexpression p (out-Expr V test)
+      → IsSubexpression p (Choose cs other)
   in_value : {cs : Vec (Expr V × Expr V) Global} {other : Box (Expr V) Global} {test value : Expr V}
-      → Contains cs.items (test, value) → IsPart p (out-Expr V value)
-      → IsPart p (Choose cs other)
-  in_other : {cs : Vec (Expr V × Expr V) Global} {other : Box (Expr V) Global} → IsPart p (out-Expr V other.value)
-      → IsPart p (Choose cs other)
+      → Contains cs.items (test, value) → IsSubexpression p (out-Expr V value)
+      → IsSubexpression p (Choose cs other)
+  in_other : {cs : Vec (Expr V × Expr V) Global} {other : Box (Expr V) Global} → IsSubexpression p (out-Expr V
+      other.value) → IsSubexpression p (Choose cs other)
 
 -- v is what the form's fold may have come to after its first k operands
 abbrev pub StepYields : {V : Type 0} → (V → Value → Type 0) → Level V → ℕ → Value → Type 0
@@ -55,5 +59,5 @@ StepYields facts (Choose cs other) k v = ⊥
 
 -- a subexpression, or a step of a fold in it, has more than so many values
 pub data IsWide {V : Type 0} (facts : V → Value → Type 0) (most : ℕ) (e : Level V) : Type 0 where
-  subexpression : {p : Level V} → IsPart p e → HasMoreThan most (Yields facts p) → IsWide facts most e
-  step : {p : Level V} (k : ℕ) → IsPart p e → HasMoreThan most (StepYields facts p k) → IsWide facts most e
+  subexpression : {p : Level V} → IsSubexpression p e → HasMoreThan most (Yields facts p) → IsWide facts most e
+  step : {p : Level V} (k : ℕ) → IsSubexpression p e → HasMoreThan most (StepYields facts p k) → IsWide facts most e

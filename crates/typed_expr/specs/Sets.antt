@@ -5,6 +5,7 @@ use Rattle.domains.specs.Values.{is_before, IsAscending}
 use Rattle.domains.specs.declared.Value.{Value}
 use Rattle.typed_expr.specs.declared.value_set.Stop.{Stop}
 use Rattle.typed_expr.specs.declared.value_set.Stop.TheVariants.{TooMany, NoMemory}
+use Rattle.typed_expr.specs.Sizes.{HasMoreThan}
 
 -- what a set of values is seen as
 abbrev pub Values : Type 0
@@ -14,13 +15,6 @@ Values = List Value
 pub record HasExactly (set : List Value) (P : Value → Type 0) : Type 0 where
   pub sound : (v : Value) → Contains set v → P v
   pub complete : (v : Value) → P v → Contains set v
-
--- P holds of more than so many values: there is an ascending list of them
-pub record HasMoreThan (most : ℕ) (P : Value → Type 0) : Type 0 where
-  pub values : List Value
-  pub ascend : IsAscending values
-  pub more : most < length values
-  pub each : (v : Value) → Contains values v → P v
 
 -- a fact about the limit, where there is one
 abbrev pub AtLimit : Option ℕ → (ℕ → Type 0) → Type 0
@@ -43,20 +37,20 @@ Gathers most (Ok set) P = HasExactly set P × KeepsLimit most set
 Gathers most (Err stop) P = Stopped most (λ n. HasMoreThan n P) stop
 
 -- the set with one more value
-pub record Adds (old : List Value) (v : Value) (new : List Value) : Type 0 where
+pub record AddsValue (old : List Value) (v : Value) (new : List Value) : Type 0 where
   pub kept : (d : Value) → Contains old d → Contains new d
   pub added : Contains new v
   pub only : (d : Value) → Contains new d → Contains old d ⊎ (d ≡ v)
 
 -- with the value put in, the set keeps the limit that it kept before
 abbrev pub Inserts : Option ℕ → List Value → Value → List Value → Type 0
-Inserts most old v new = Adds old v new × (KeepsLimit most old → KeepsLimit most new)
+Inserts most old v new = AddsValue old v new × (KeepsLimit most old → KeepsLimit most new)
 
 -- with the value put in, the set would pass the limit
-abbrev pub Refuses : Option ℕ → List Value → Value → Stop → Type 0
-Refuses most old v TooMany =
-    AtLimit most (λ n. (new : List Value) × Adds old v new × IsAscending new × (n < length new))
-Refuses most old v (NoMemory memory) = Unit {0}
+abbrev pub RefusesValue : Option ℕ → List Value → Value → Stop → Type 0
+RefusesValue most old v TooMany =
+    AtLimit most (λ n. (new : List Value) × AddsValue old v new × IsAscending new × (n < length new))
+RefusesValue most old v (NoMemory memory) = Unit {0}
 
 -- the values before the place come before the value, and those from the place on come after it
 pub record GoesAt (values : List Value) (v : Value) (place : ℕ) : Type 0 where

@@ -4,7 +4,7 @@ ghost use Rattle.std.specs.Prelude.{◌≡◌, ◌≤◌, ◌<◌, ◌↔◌, �
 ghost use Rattle.std.specs.List.Sorted.{IsPartitionPoint};
 ghost use Rattle.domains.specs.Values.{is_before, IsAscending};
 ghost use Rattle.domains.specs.declared.Value.{Value};
-ghost use Rattle.typed_expr.specs.Sets.{HasExactly, Gathers, Adds, Inserts, Refuses, GoesAt, AtLimit};
+ghost use Rattle.typed_expr.specs.Sets.{HasExactly, Gathers, AddsValue, Inserts, RefusesValue, GoesAt, AtLimit};
 
 use ar_base::Memory;
 use domains::Value;
@@ -77,7 +77,7 @@ impl ValueSet {
     // Puts a value in, within the limit where there is one.
     pub(crate) fn put(&mut self, v: Value, most: Option<u32>) -> Result<(), Stop>
         ensures ok { OnOk result (Inserts most self.old v self.new) }
-        ensures err { IfErr result (Refuses most self.old v) }
+        ensures err { IfErr result (RefusesValue most self.old v) }
     {
         let Some(place) = place_of(v, self.items.as_slice()) else {
             return Ok(());

@@ -4,7 +4,7 @@ use Rattle.ar_base.specs.declared.places.Place.{Place}
 use Rattle.ar_syntax.specs.declared.members.Member.{Member, out-Member}
 use Rattle.class_table.specs.Declaring.{Declared}
 use Rattle.class_table.specs.Rules.{NamesClass, HasInside, class, block, IsWithin, itself, further, BreaksContainment, StandsIn, l3}
-use Rattle.hierarchy.specs.Models.{RootedModel, IsKept}
+use Rattle.hierarchy.specs.Models.{RootedModel, KeepsTextRules}
 use Rattle.unit_laws.proofs.Nesting.{block_later}
 
 -- inside what is inside
@@ -23,7 +23,7 @@ record IsBetween (d : Declared) (a b : ℕ) : Type 0 where
   pub before : IsWithin d a body
   pub after : IsWithin d class b
 
-module _ {m : RootedModel} (k : IsKept m) where
+module _ {m : RootedModel} (k : KeepsTextRules m) where
   d : Declared
   d = m.declared
 

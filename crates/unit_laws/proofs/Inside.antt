@@ -10,11 +10,11 @@ use Rattle.ar_syntax.specs.declared.members.TypeForm.{TypeForm}
 use Rattle.ar_syntax.specs.declared.members.TypeForm.TheVariants as form
 use Rattle.ar_syntax.specs.declared.members.Setting.{Setting}
 use Rattle.class_table.specs.Declaring.{MemberForm, TextBody, Declared, NamedType, DomainType, ClassType}
-use Rattle.class_table.specs.Members.{Site, type_named, class_named, class_body, own_of, own_at, owned_at, extended, name_extended, sites_from, Members, members, Inherits, nothing, from, passes, MemberKind, Inner, Variable, NamedMember, kind_of, declared_kind, all_named, names_of, names_of_form}
+use Rattle.class_table.specs.Members.{Site, type_named, class_named, class_body, own_of, own_at, owned_at, extended, name_extended, sites_from, Members, members, Inherits, nothing, from, passes, MemberKind, Inner, Variable, NamedMember, member_kind_of, declared_kind, all_named, names_of, names_of_form}
 use Rattle.class_table.specs.Rules.{NamesClass, extends, instances, HasInside, class, block, IsWithin, itself, further}
 use Rattle.class_table.specs.declared.tables.Owned.{Owned}
 use Rattle.class_table.specs.declared.tables.Owned.TheVariants.{Plain, Nested}
-use Rattle.hierarchy.specs.Models.{RootedModel, IsKept}
+use Rattle.hierarchy.specs.Models.{RootedModel, KeepsTextRules}
 use Rattle.hierarchy.specs.Units.{UnitPath, body_of, members_at, names_at}
 use Rattle.hierarchy.proofs.Things.{ComesFrom, flat_origin}
 
@@ -40,9 +40,9 @@ inner_class d s form.Integer settings names g b at o e = absurd (one_none g o)
 inner_class d s (form.Named x) settings names g b at o e = go (type_named d x.n) refl
   where
     there : (t : Option NamedType) → type_named d x.n ≡ t
-        → IsOneOf (all_named s (option_map (λ (z : NamedType). kind_of s (form.Named x) z settings) t) names) g
+        → IsOneOf (all_named s (option_map (λ (z : NamedType). member_kind_of s (form.Named x) z settings) t) names) g
     there t i = subst (λ (z : Option NamedType). IsOneOf
-        (all_named s (option_map (λ (y : NamedType). kind_of s (form.Named x) y settings) z) names) g) i o
+        (all_named s (option_map (λ (y : NamedType). member_kind_of s (form.Named x) y settings) z) names) g) i o
 
     go : (t : Option NamedType) → type_named d x.n ≡ t
         → (y : NameId) × (form.Named x ≡ form.Named y) × (class_named d y.n ≡ Some b)
@@ -144,7 +144,7 @@ pub record IsInside (d : Declared) (a b : ℕ) : Type 0 where
   pub inside : HasInside d body b
 
 -- a unit's blocks and instances have bodies inside its own
-pub inner_inside : {m : RootedModel} → IsKept m → (u : UnitPath) (g : NamedMember) (b : ℕ) (at : Option Site)
+pub inner_inside : {m : RootedModel} → KeepsTextRules m → (u : UnitPath) (g : NamedMember) (b : ℕ) (at : Option Site)
     → IsOneOf (names_at m u) g → g.kind ≡ Inner b at
     → IsInside m.declared (body_of m u) b
 inner_inside {m = m} k u g b at o e = go (slice_get m.members (body_of m u)) refl

@@ -5,8 +5,8 @@ use Rattle.ar_base.specs.Lists.{IsOneOf}
 use Rattle.ar_base.proofs.Standing.{one_none, one_cases, one_first, one_rest, one_left, one_right, stands_map}
 use Rattle.class_table.specs.Members.{Site, NamedMember, MemberKind, Inner, named_at}
 use Rattle.class_table.specs.Rules.{IsWithin, itself as here}
-use Rattle.hierarchy.specs.Models.{RootedModel, IsKept}
-use Rattle.hierarchy.specs.Units.{Level, UnitPath, body_of, bodies_of, has, names_at}
+use Rattle.hierarchy.specs.Models.{RootedModel, KeepsTextRules}
+use Rattle.hierarchy.specs.Units.{UnitLevel, UnitPath, body_of, bodies_of, has_number, names_at}
 use Rattle.hierarchy.proofs.Finding.{same_or_not}
 use Rattle.hierarchy.proofs.Things.{flat_one}
 use Rattle.unit_laws.proofs.Passing.{passing, passing_length, no_more, fewer}
@@ -17,7 +17,7 @@ use Rattle.class_table.specs.Rules.{further}
 -- the second unit is the first, or above it
 pub data IsAbove : UnitPath → UnitPath → Type 0 where
   itself : {u : UnitPath} → IsAbove u u
-  owner : {l : Level} {u v : UnitPath} → IsAbove u v → IsAbove (l ∷ u) v
+  owner : {l : UnitLevel} {u v : UnitPath} → IsAbove u v → IsAbove (l ∷ u) v
 
 -- the body of a block or an instance
 abbrev pub inner_body : MemberKind → List ℕ
@@ -26,7 +26,7 @@ inner_body _ = []
 
 -- the names of a model's members, and of the levels of a unit
 abbrev pub all_names : RootedModel → UnitPath → List ℕ
-all_names m base = map (λ (l : Level). l.name) base ++ flat_map
+all_names m base = map (λ (l : UnitLevel). l.name) base ++ flat_map
     (λ (sites : List Site). map (λ (g : NamedMember). g.name) (named_at m.declared sites)) m.members
 
 -- the bodies of its blocks and instances, and of a unit and those above it
@@ -41,13 +41,13 @@ pub data IsMade (m : RootedModel) (base : UnitPath) : List ℕ → UnitPath → 
   inner : {run : List ℕ} {u : UnitPath} {b : ℕ} {from : Option Site} (g : NamedMember) → IsMade m base run u
       → IsOneOf (names_at m u) g → g.kind ≡ Inner b from
       → IsMade m base (b ∷ run) (record { name = g.name; body = b; set_at = from } ∷ u)
-  copied : {run : List ℕ} {u : UnitPath} {l : Level} → IsMade m base run u → IsOneOf (all_names m base) l.name
-      → IsOneOf (all_bodies m base) l.body → has (bodies_of m u) l.body ≡ false
+  copied : {run : List ℕ} {u : UnitPath} {l : UnitLevel} → IsMade m base run u → IsOneOf (all_names m base) l.name
+      → IsOneOf (all_bodies m base) l.body → has_number (bodies_of m u) l.body ≡ false
       → IsMade m base (l.body ∷ []) (l ∷ u)
 
 -- not in the list
 abbrev pub is_free : List ℕ → ℕ → Bool
-is_free used b = not (has used b)
+is_free used b = not (has_number used b)
 
 -- how many bodies are not in the list
 abbrev pub free : RootedModel → UnitPath → List ℕ → ℕ
@@ -68,28 +68,29 @@ times_less n zero w h = absurd (omega (arith, h))
 times_less n (suc p) w h = let t = times_more n p w (omega (arith, h)) in omega (arith, t)
 
 -- the number is the first of a list, or among the rest
-has_cases : (x : ℕ) (xs : List ℕ) (n : ℕ) → has (x ∷ xs) n ≡ true → (x ≡ n) ⊎ (has xs n ≡ true)
+has_cases : (x : ℕ) (xs : List ℕ) (n : ℕ) → has_number (x ∷ xs) n ≡ true → (x ≡ n) ⊎ (has_number xs n ≡ true)
 has_cases x xs n h = elim (same_or_not x n) [
   | inl e ↦ inl e.1
   | inr e ↦ (let w : (x == n) ≡ false = e.0 in inr (rw w at h))
 ]
 
-has_first : (x : ℕ) (xs : List ℕ) → has (x ∷ xs) x ≡ true
+has_first : (x : ℕ) (xs : List ℕ) → has_number (x ∷ xs) x ≡ true
 has_first x xs = elim (same_or_not x x) [
   | inl e ↦ (let w : (x == x) ≡ true = e.0 in rw w refl)
   | inr e ↦ absurd (e.1 refl)
 ]
 
 free_less : (x : ℕ) (xs : List ℕ) (n : ℕ) → is_free (x ∷ xs) n ≡ true → is_free xs n ≡ true
-free_less x xs n h = go (has xs n) refl
+free_less x xs n h = go (has_number xs n) refl
   where
-    go : (b : Bool) → has xs n ≡ b → is_free xs n ≡ true
+    go : (b : Bool) → has_number xs n ≡ b → is_free xs n ≡ true
     go false e = ap not e
     go true e = over (x == n) refl
       where
         over : (c : Bool) → (x == n) ≡ c → is_free xs n ≡ true
-        over true f = let k : is_free (x ∷ xs) n ≡ false = ap (λ (z : Bool). not (z || has xs n)) f in cc
-        over false f = let k : is_free (x ∷ xs) n ≡ is_free xs n = ap (λ (z : Bool). not (z || has xs n)) f in sym k ∙ h
+        over true f = let k : is_free (x ∷ xs) n ≡ false = ap (λ (z : Bool). not (z || has_number xs n)) f in cc
+        over false f = let k : is_free (x ∷ xs) n ≡ is_free xs n =
+            ap (λ (z : Bool). not (z || has_number xs n)) f in sym k ∙ h
 
 module _ (m : RootedModel) (base : UnitPath) where
   -- one more body leaves no more free
@@ -97,7 +98,7 @@ module _ (m : RootedModel) (base : UnitPath) where
   free_more x xs = no_more (is_free (x ∷ xs)) (is_free xs) (free_less x xs) (all_bodies m base)
 
   -- a new one leaves fewer free
-  free_fewer : (x : ℕ) (xs : List ℕ) → IsOneOf (all_bodies m base) x → has xs x ≡ false
+  free_fewer : (x : ℕ) (xs : List ℕ) → IsOneOf (all_bodies m base) x → has_number xs x ≡ false
       → free m base (x ∷ xs) < free m base xs
   free_fewer x xs o n = fewer (is_free (x ∷ xs)) (is_free xs) (free_less x xs) (all_bodies m base) o.place x o.stands
       (ap not (has_first x xs)) (ap not n)
@@ -125,7 +126,7 @@ module _ (m : RootedModel) (base : UnitPath) where
   pub name_among : (u : UnitPath) (g : NamedMember) → IsOneOf (names_at m u) g → IsOneOf (all_names m base) g.name
   name_among u g o =
       let s = members_among u g o in
-      one_right (map (λ (l : Level). l.name) base) _ g.name
+      one_right (map (λ (l : UnitLevel). l.name) base) _ g.name
       (flat_one (λ (sites : List Site). map (λ (h : NamedMember). h.name) (named_at m.declared sites)) m.members s.0
       g.name s.1
       (record {
@@ -160,29 +161,31 @@ module _ (m : RootedModel) (base : UnitPath) where
 
   -- the levels of a unit have names and bodies among these
   pub record HasKeys (u : UnitPath) : Type 0 where
-    pub each : (l : Level) → IsOneOf u l → IsOneOf (all_names m base) l.name × IsOneOf (all_bodies m base) l.body
+    pub each : (l : UnitLevel) → IsOneOf u l → IsOneOf (all_names m base) l.name × IsOneOf (all_bodies m base) l.body
 
-  levels_above : {u v : UnitPath} → IsAbove u v → (l : Level) → IsOneOf v l
-      → IsOneOf (map (λ (k : Level). k.name) u) l.name × IsOneOf (bodies_of m u) l.body
+  levels_above : {u v : UnitPath} → IsAbove u v → (l : UnitLevel) → IsOneOf v l
+      → IsOneOf (map (λ (k : UnitLevel). k.name) u) l.name × IsOneOf (bodies_of m u) l.body
   levels_above {u = k ∷ u} (owner a) l o = let r = levels_above a l o in (one_rest k.name _ l.name r.0, one_rest k.body _ l.body r.1)
   levels_above {u = u} itself l o = (
     record
-        { place = o.place; stands = stands_map (λ (k : Level). k.name) u o.place l o.stands },
+        { place = o.place; stands = stands_map (λ (k : UnitLevel). k.name) u o.place l o.stands },
     body_at u o,
   )
     where
       body_at : (w : UnitPath) → IsOneOf w l → IsOneOf (bodies_of m w) l.body
       body_at [] i = absurd (one_none l i)
       body_at (k ∷ w) i = elim (one_cases k w l i) [
-        | inl e ↦ subst (λ (z : Level). IsOneOf (k.body ∷ bodies_of m w) z.body) e (one_first k.body (bodies_of m w))
+        | inl e ↦ subst (λ (z : UnitLevel). IsOneOf (k.body ∷ bodies_of m w) z.body) e
+            (one_first k.body (bodies_of m w))
         | inr r ↦ one_rest k.body (bodies_of m w) l.body (body_at w r)
       ]
 
-  keys_more : (k : Level) (u : UnitPath) → IsOneOf (all_names m base) k.name → IsOneOf (all_bodies m base) k.body
+  keys_more : (k : UnitLevel) (u : UnitPath) → IsOneOf (all_names m base) k.name → IsOneOf (all_bodies m base) k.body
       → HasKeys u → HasKeys (k ∷ u)
   keys_more k u x b h = record {
     each = λ l o. elim (one_cases k u l o) [
-      | inl e ↦ subst (λ (z : Level). IsOneOf (all_names m base) z.name × IsOneOf (all_bodies m base) z.body) e (x, b)
+      | inl e ↦ subst (λ (z : UnitLevel). IsOneOf (all_names m base) z.name × IsOneOf (all_bodies m base) z.body) e
+          (x, b)
       | inr r ↦ h.each l r
     ];
   }
@@ -202,9 +205,9 @@ module _ (m : RootedModel) (base : UnitPath) where
   most = length base + (length (all_bodies m base) + times (length (all_bodies m base))
       (suc (length (all_bodies m base))))
 
-  module _ (k : IsKept m) where
+  module _ (k : KeepsTextRules m) where
     -- the bodies since the last clone have the unit's body inside
-    run_within : {run : List ℕ} {u : UnitPath} → IsMade m base run u → (r : ℕ) → has run r ≡ true
+    run_within : {run : List ℕ} {u : UnitPath} → IsMade m base run u → (r : ℕ) → has_number run r ≡ true
         → IsWithin m.declared r (body_of m u)
     run_within {u = u} (given a) r h =
         elim (has_cases (body_of m u) [] r h)
@@ -218,10 +221,10 @@ module _ (m : RootedModel) (base : UnitPath) where
 
     -- a block's or an instance's body is none of them
     new_body : {run : List ℕ} {u : UnitPath} (g : NamedMember) (b : ℕ) (from : Option Site) → IsMade m base run u
-        → IsOneOf (names_at m u) g → g.kind ≡ Inner b from → has run b ≡ false
-    new_body {run = run} {u = u} g b from d o e = go (has run b) refl
+        → IsOneOf (names_at m u) g → g.kind ≡ Inner b from → has_number run b ≡ false
+    new_body {run = run} {u = u} g b from d o e = go (has_number run b) refl
       where
-        go : (t : Bool) → has run b ≡ t → has run b ≡ false
+        go : (t : Bool) → has_number run b ≡ t → has_number run b ≡ false
         go false f = f
         go true f = let i = inner_inside k u g b from o e in absurd (not_again k i.inside (within_all (run_within d b f) i.within))
 

@@ -19,8 +19,8 @@ use Rattle.ar_syntax.specs.declared.members.Setting.{Setting}
 use Rattle.ar_syntax.specs.declared.members.TypeForm.{TypeForm}
 use Rattle.ar_syntax.specs.declared.members.TypeForm.TheVariants as type_form
 use Rattle.class_table.specs.Declaring.{MemberForm, TextBody, NamedType, DomainType, ClassType, Declared}
-use Rattle.class_table.specs.Members.{Site, type_in, type_named, domain_body, own_of, own_at, owned_at, kind_of, declared_kind, all_named, names_of_form, names_of, named_at, MemberKind, NamedMember}
-use Rattle.class_table.specs.Rules.{item_name, item_place, IsNoDomain, twice, many, BreaksItems, one_name, no_domain, IsNoDomainName, IsNoType, Misnames, StandsIn, BreaksTypes, NamesClass, HasInside, IsWithin, itself, further, BreaksContainment, BreaksNames, LacksMain, Breaks, l1, l2, l3, l4, l5}
+use Rattle.class_table.specs.Members.{Site, type_in, type_named, domain_body, own_of, own_at, owned_at, member_kind_of, declared_kind, all_named, names_of_form, names_of, named_at, MemberKind, NamedMember}
+use Rattle.class_table.specs.Rules.{item_name, item_place, IsNoDomain, twice, many, BreaksItems, one_name, no_domain, IsNoDomainName, IsNoType, Misnames, StandsIn, BreaksTypes, NamesClass, HasInside, IsWithin, itself, further, BreaksContainment, BreaksNames, LacksMain, BreaksTextRule, l1, l2, l3, l4, l5}
 use Rattle.class_table.specs.Tables.{IsMain}
 use Rattle.class_table.specs.Rules.IsNoType.{named as no_type}
 use Rattle.class_table.specs.Rules.IsNoDomainName.{named as no_domain_name}
@@ -244,8 +244,8 @@ module _ (opens : (m n : Member) → SameMember m n → SameKind (out-Member m) 
   kinds_both s (type_form.Named x) ss rs = go (types_both x.n)
     where
       go : {a b : Option NamedType} → Both SameType a b
-          → Both (λ (k l : MemberKind). Unit {0}) (option_map (λ t. kind_of s (type_form.Named x) t ss) a)
-          (option_map (λ t. kind_of s (type_form.Named x) t rs) b)
+          → Both (λ (k l : MemberKind). Unit {0}) (option_map (λ t. member_kind_of s (type_form.Named x) t ss) a)
+          (option_map (λ t. member_kind_of s (type_form.Named x) t rs) b)
       go neither = neither
       go (both r) = both tt
 
@@ -313,7 +313,7 @@ module _ (opens : (m n : Member) → SameMember m n → SameKind (out-Member m) 
       place = h.place ∙ s.end;
     }
 
-    pub breaks_there : (r : ℕ) (p : Place) → Breaks x main d r p → Breaks y main e r p
+    pub breaks_there : (r : ℕ) (p : Place) → BreaksTextRule x main d r p → BreaksTextRule y main e r p
     breaks_there _ p (l1 h) = l1 (items_there x.items.items y.items.items s.items p h)
     breaks_there _ p (l2 h) = l2 (types_there p h)
     breaks_there _ p (l3 h) = l3 (containment_there p h)

@@ -5,7 +5,7 @@ use Rattle.ar_base.specs.Lists.{IsOneOf}
 use Rattle.ar_base.proofs.Standing.{one_first, one_rest, stands_map}
 use Rattle.ar_base.proofs.Comparing.{itself}
 use Rattle.hierarchy.specs.Models.{RootedModel}
-use Rattle.hierarchy.specs.Units.{Level, UnitPath, Thing, same_unit, same_thing, is_among}
+use Rattle.hierarchy.specs.Units.{UnitLevel, UnitPath, Thing, same_unit, same_thing, is_among}
 use Rattle.hierarchy.specs.Walks.{thing}
 use Rattle.hierarchy.proofs.Things.{flat_one}
 use Rattle.hierarchy.proofs.SameUnits.{unit_itself}
@@ -13,7 +13,7 @@ use Rattle.unit_laws.proofs.Passing.{passing, fewer}
 use Rattle.unit_laws.proofs.Made.{all_names, all_bodies, HasKeys}
 
 -- a level by its name and body alone
-abbrev pub level : ℕ → ℕ → Level
+abbrev pub level : ℕ → ℕ → UnitLevel
 level x b = record { name = x; body = b; set_at = None }
 
 abbrev pub plain : UnitPath → UnitPath
@@ -52,17 +52,17 @@ new_less s f t h = go (same_thing s t) refl
 
 module _ (m : RootedModel) (base : UnitPath) where
   -- units of these levels, of this depth at most
-  abbrev levels : List Level
+  abbrev levels : List UnitLevel
   levels = flat_map (λ (x : ℕ). map (λ (b : ℕ). level x b) (all_bodies m base)) (all_names m base)
 
   abbrev units : ℕ → List UnitPath
   units zero = [] ∷ []
-  units (suc n) = [] ∷ flat_map (λ (u : UnitPath). map (λ (l : Level). l ∷ u) levels) (units n)
+  units (suc n) = [] ∷ flat_map (λ (u : UnitPath). map (λ (l : UnitLevel). l ∷ u) levels) (units n)
 
   abbrev things : ℕ → List Thing
   things n = flat_map (λ (u : UnitPath). map (λ (x : ℕ). thing u x) (all_names m base)) (units n)
 
-  level_in : (l : Level) → IsOneOf (all_names m base) l.name → IsOneOf (all_bodies m base) l.body
+  level_in : (l : UnitLevel) → IsOneOf (all_names m base) l.name → IsOneOf (all_bodies m base) l.body
       → IsOneOf levels (level l.name l.body)
   level_in l x b = flat_one (λ (y : ℕ). map (λ (c : ℕ). level y c) (all_bodies m base)) (all_names m base) l.name
       (level l.name l.body) x
@@ -80,11 +80,12 @@ module _ (m : RootedModel) (base : UnitPath) where
       let here = k.each l (one_first l u) in
       let o = level_in l here.0 here.1 in
       let r = unit_in n u (omega (arith, h)) (record { each = λ j i. k.each j (one_rest l u j i) }) in
-      one_rest [] _ (plain (l ∷ u)) (flat_one (λ (v : UnitPath). map (λ (j : Level). j ∷ v) levels) (units n) (plain u)
+      one_rest [] _ (plain (l ∷ u))
+      (flat_one (λ (v : UnitPath). map (λ (j : UnitLevel). j ∷ v) levels) (units n) (plain u)
       (plain (l ∷ u)) r
       (record {
         place = o.place;
-        stands = stands_map (λ (j : Level). j ∷ plain u) levels o.place (level l.name l.body)
+        stands = stands_map (λ (j : UnitLevel). j ∷ plain u) levels o.place (level l.name l.body)
             o.stands;
       }))
 

@@ -4,9 +4,9 @@ use Rattle.ar_base.specs.Lists.{IsOneOf}
 use Rattle.ar_syntax.specs.declared.paths.PathStart.{PathStart}
 use Rattle.ar_syntax.specs.declared.paths.PathStart.TheVariants.{Here, Owner, Main}
 use Rattle.class_table.specs.Members.{NamedMember, MemberKind, Inner, Clone, Alias, Variable, Parameter, Kept, Event, Observer}
-use Rattle.hierarchy.specs.Models.{RootedModel, IsKept}
-use Rattle.hierarchy.specs.Units.{Level, UnitPath, Thing, body_of, set_at_of, bodies_of, has, is_among, names_at, name_at, kind_at, start_of, numbers}
-use Rattle.hierarchy.specs.Walks.{Outcome, Reaches, Nothing, Loops, thing, cloned, NameLeads, NamesLead, inner, clones, embeds, clones_again, embeds_again, no_unit, absent, nowhere, arrives, on, stops, loops}
+use Rattle.hierarchy.specs.Models.{RootedModel, KeepsTextRules}
+use Rattle.hierarchy.specs.Units.{UnitLevel, UnitPath, Thing, body_of, set_at_of, bodies_of, has_number, is_among, names_at, name_at, kind_at, start_of, numbers}
+use Rattle.hierarchy.specs.Walks.{WalkOutcome, Reaches, Nothing, Loops, thing, cloned, NameLeads, NamesLead, inner, clones, embeds, clones_again, embeds_again, no_unit, absent, nowhere, arrives, on, stops, loops}
 use Rattle.hierarchy.proofs.Apart.{named_back}
 use Rattle.unit_laws.proofs.Made.{IsAbove, itself, owner, all_names, IsMade, given, inner as made_inner, copied, name_among, made_body, made_keys, most, made_deep}
 use Rattle.unit_laws.proofs.Universe.{left, left_fewer}
@@ -29,7 +29,7 @@ pub record Made (m : RootedModel) (base : UnitPath) (u : UnitPath) : Type 0 wher
   pub is_made : IsMade m base run u
 
 -- a unit that is reached is made
-pub data IsFine (m : RootedModel) (base : UnitPath) : Outcome → Type 0 where
+pub data IsFine (m : RootedModel) (base : UnitPath) : WalkOutcome → Type 0 where
   reached : {v : UnitPath} → Made m base v → IsFine m base (Reaches v)
   nothing : IsFine m base Nothing
   looping : IsFine m base Loops
@@ -37,14 +37,14 @@ pub data IsFine (m : RootedModel) (base : UnitPath) : Outcome → Type 0 where
 -- a name leads somewhere
 pub record Leads (m : RootedModel) (base : UnitPath) (f : List Thing) (u : UnitPath) (x : ℕ)
     (w : Option MemberKind) : Type 0 where
-  pub outcome : Outcome
+  pub outcome : WalkOutcome
   pub leads : NameLeads m f u x w outcome
   pub fine : IsFine m base outcome
 
 -- names lead somewhere
 pub record LeadOn (m : RootedModel) (base : UnitPath) (f : List Thing) (start : Option UnitPath) (xs : List ℕ) : Type
     0 where
-  pub outcome : Outcome
+  pub outcome : WalkOutcome
   pub lead : NamesLead m f start xs outcome
   pub fine : IsFine m base outcome
 
@@ -61,7 +61,7 @@ module _ (m : RootedModel) (base : UnitPath) where
       let l = step.each u d x (kind_at m u x) (kind_named m u x) in
       go (λ v e. names_from f step v e xs) l.outcome l.leads l.fine
     where
-      go : ((v : UnitPath) → Made m base v → LeadOn m base f (Some v) xs) → (o : Outcome)
+      go : ((v : UnitPath) → Made m base v → LeadOn m base f (Some v) xs) → (o : WalkOutcome)
           → NameLeads m f u x (kind_at m u x) o → IsFine m base o
           → LeadOn m base f (Some u) (x ∷ xs)
       go next (Reaches v) l (reached e) = let r = next v e in record { outcome = r.outcome; lead = on v l r.lead; fine = r.fine }
@@ -75,11 +75,11 @@ module _ (m : RootedModel) (base : UnitPath) where
   made_main : Made m base []
   made_main = record { run = m.main ∷ []; is_made = given (above_main base) }
 
-  above_owner : {u v : UnitPath} {l : Level} → IsAbove u (l ∷ v) → IsAbove u v
+  above_owner : {u v : UnitPath} {l : UnitLevel} → IsAbove u (l ∷ v) → IsAbove u v
   above_owner itself = owner itself
   above_owner (owner a) = owner (above_owner a)
 
-  made_owner : {l : Level} {u : UnitPath} → Made m base (l ∷ u) → Made m base u
+  made_owner : {l : UnitLevel} {u : UnitPath} → Made m base (l ∷ u) → Made m base u
   made_owner {l = l} {u = u} d = go d.is_made
     where
       go : {run : List ℕ} → IsMade m base run (l ∷ u) → Made m base u
@@ -95,13 +95,13 @@ module _ (m : RootedModel) (base : UnitPath) where
   start_from f step u d Main xs = names_from f step [] made_main xs
 
   -- what a clone is made as
-  cloned_fine : (u : UnitPath) → Made m base u → (x : ℕ) → IsOneOf (all_names m base) x → (o : Outcome)
+  cloned_fine : (u : UnitPath) → Made m base u → (x : ℕ) → IsOneOf (all_names m base) x → (o : WalkOutcome)
       → IsFine m base o → IsFine m base (cloned m u x o)
   cloned_fine u d x i Nothing h = nothing
   cloned_fine u d x i Loops h = looping
-  cloned_fine u d x i (Reaches t) (reached h) = go (has (bodies_of m u) (body_of m t)) refl
+  cloned_fine u d x i (Reaches t) (reached h) = go (has_number (bodies_of m u) (body_of m t)) refl
     where
-      go : (b : Bool) → has (bodies_of m u) (body_of m t) ≡ b → IsFine m base (cloned m u x (Reaches t))
+      go : (b : Bool) → has_number (bodies_of m u) (body_of m t) ≡ b → IsFine m base (cloned m u x (Reaches t))
       go true e = rw e looping
       go false e = rw e (reached (record {
         run = body_of m t ∷ [];
@@ -146,7 +146,7 @@ module _ (m : RootedModel) (base : UnitPath) where
         subst (λ (y : ℕ). Leads m base f u y (Some g.kind)) e
         (kinds u d g o g.kind refl (is_among f (thing u g.name)) refl)
 
-  module _ (k : IsKept m) where
+  module _ (k : KeepsTextRules m) where
     pub all_lead : (n : ℕ) (f : List Thing) → left m base (most m base) f < n → AllLead f
     all_lead zero f h = absurd (omega (arith, h))
     all_lead (suc n) f h = record {
@@ -157,16 +157,16 @@ module _ (m : RootedModel) (base : UnitPath) where
     }
 
 -- each name of each unit comes to an outcome
-pub name_outcome : (m : RootedModel) → IsKept m → (f : List Thing) (u : UnitPath) (x : ℕ)
-    → (o : Outcome) × NameLeads m f u x (kind_at m u x) o
+pub name_outcome : (m : RootedModel) → KeepsTextRules m → (f : List Thing) (u : UnitPath) (x : ℕ)
+    → (o : WalkOutcome) × NameLeads m f u x (kind_at m u x) o
 name_outcome m k f u x =
     let l = (all_lead m u k (suc (left m u (most m u) f)) f (omega arith)).each u
     (record { run = body_of m u ∷ []; is_made = given itself }) x (kind_at m u x) (kind_named m u x) in
     (l.outcome, l.leads)
 
 -- and so does each path
-pub names_outcome : (m : RootedModel) → IsKept m → (f : List Thing) (u : Option UnitPath) (xs : List ℕ)
-    → (o : Outcome) × NamesLead m f u xs o
+pub names_outcome : (m : RootedModel) → KeepsTextRules m → (f : List Thing) (u : Option UnitPath) (xs : List ℕ)
+    → (o : WalkOutcome) × NamesLead m f u xs o
 names_outcome m k f None xs = (Nothing, nowhere)
 names_outcome m k f (Some u) xs =
     let l = names_from m u f (all_lead m u k (suc (left m u (most m u) f)) f (omega arith)) u

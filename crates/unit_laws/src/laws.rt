@@ -7,7 +7,7 @@ ghost use Rattle.parser_laws.specs.Models.{SameModel};
 ghost use Rattle.ar_syntax.specs.declared.items.Model.{Model};
 ghost use Rattle.class_table.specs.Declaring.{Declared, IsDeclared};
 ghost use Rattle.class_table.specs.Members.{Site, Members};
-ghost use Rattle.class_table.specs.Rules.{Breaks};
+ghost use Rattle.class_table.specs.Rules.{BreaksTextRule};
 ghost use Rattle.hierarchy.specs.Models.{RootedModel, IsRootedIn};
 ghost use Rattle.unit_laws.specs.Tables.{AreSeenAlike, SameTable};
 
@@ -70,7 +70,7 @@ pub fn texts_break_the_same_rules()
     ensures { (text : List ℕ) (k : ℕ) (x y : Model) (d e : Declared) → ReadsWithin k text x
         → ReadsWithin k text y → IsDeclared x d → IsDeclared y e
         → (main : Option (List ℕ)) (r : ℕ) (p : Place)
-        → (Breaks x main d r p ↔ Breaks y main e r p) }
+        → (BreaksTextRule x main d r p ↔ BreaksTextRule y main e r p) }
 {
     one_tree();
     agreement_opens();

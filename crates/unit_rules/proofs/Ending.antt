@@ -19,9 +19,9 @@ use Rattle.class_table.specs.declared.tables.Owned.{Owned}
 use Rattle.class_table.specs.declared.tables.Owned.TheVariants.{Plain, Nested}
 use Rattle.class_table.proofs.FirstPlaces.{earliest_same}
 use Rattle.class_table.proofs.Looping.{AtItem}
-use Rattle.hierarchy.specs.Models.{RootedModel, IsKept, IsKeptTable, sites_kept}
+use Rattle.hierarchy.specs.Models.{RootedModel, KeepsTextRules, IsKeptTable, sites_kept}
 use Rattle.hierarchy.specs.Units.{UnitPath, body_of, members_at, names_at, kind_at}
-use Rattle.hierarchy.specs.Walks.{Outcome, Reaches, Nothing, Loops, NameLeads, LeadsFrom}
+use Rattle.hierarchy.specs.Walks.{WalkOutcome, Reaches, Nothing, Loops, NameLeads, LeadsFrom}
 use Rattle.hierarchy.specs.Tie.{AreOutlines}
 use Rattle.hierarchy.specs.declared.outline.Outline.{Outline}
 use Rattle.hierarchy.proofs.Apart.{members_apart, named_here}
@@ -37,27 +37,27 @@ not_before_itself : (p : Place) → IsEarlier p p → ⊥
 not_before_itself p (inl h) = omega (arith, h)
 not_before_itself p (inr h) = let k = h.1 in omega (arith, k)
 
-pub ends_none : {m : RootedModel} {u : UnitPath} {o : Outcome} (s : Option (Path × ℕ)) → s ≡ None
+pub ends_none : {m : RootedModel} {u : UnitPath} {o : WalkOutcome} (s : Option (Path × ℕ)) → s ≡ None
     → IsEarliest (EndsSo m u o s) None
 ends_none None e = nowhere (λ p h. elim h [ ])
 ends_none (Some s) e = cc e
 
-only_place : {m : RootedModel} {u : UnitPath} {o : Outcome} {p : Path} {x : ℕ} {q : Place}
+only_place : {m : RootedModel} {u : UnitPath} {o : WalkOutcome} {p : Path} {x : ℕ} {q : Place}
     → EndsSo m u o (Some (p, x)) q → q ≡ p.at
 only_place (ends l) = refl
 
-pub ends_here : {m : RootedModel} {u : UnitPath} {o : Outcome} (s : Option (Path × ℕ)) (p : Path) (x : ℕ)
+pub ends_here : {m : RootedModel} {u : UnitPath} {o : WalkOutcome} (s : Option (Path × ℕ)) (p : Path) (x : ℕ)
     → Some (p, x) ≡ s → LeadsFrom m u x o → IsEarliest (EndsSo m u o s) (Some p.at)
 ends_here {m = m} {u = u} {o = o} s p x e l =
     subst (λ (t : Option (Path × ℕ)). IsEarliest (EndsSo m u o t) (Some p.at)) e
     (there (ends l) (λ q b h. not_before_itself p.at (subst (λ (r : Place). IsEarlier r p.at) (only_place h) b)))
 
-no_end : {m : RootedModel} {u : UnitPath} {o r : Outcome} {p : Path} {x : ℕ} {q : Place} → LeadsFrom m u x r
+no_end : {m : RootedModel} {u : UnitPath} {o r : WalkOutcome} {p : Path} {x : ℕ} {q : Place} → LeadsFrom m u x r
     → (o ≡ r → ⊥) → EndsSo m u o (Some (p, x)) q → ⊥
 no_end l n (ends k) = n (leads_same k l)
 
-pub ends_other : {m : RootedModel} {u : UnitPath} {o : Outcome} (r : Outcome) (s : Option (Path × ℕ)) (p : Path) (x : ℕ)
-    → Some (p, x) ≡ s → LeadsFrom m u x r → (o ≡ r → ⊥) → IsEarliest (EndsSo m u o s) None
+pub ends_other : {m : RootedModel} {u : UnitPath} {o : WalkOutcome} (r : WalkOutcome) (s : Option (Path × ℕ)) (p : Path)
+    (x : ℕ) → Some (p, x) ≡ s → LeadsFrom m u x r → (o ≡ r → ⊥) → IsEarliest (EndsSo m u o s) None
 ends_other {m = m} {u = u} {o = o} r s p x e l n =
     subst (λ (t : Option (Path × ℕ)). IsEarliest (EndsSo m u o t) None) e (nowhere (λ q h. no_end l n h))
 
@@ -75,16 +75,16 @@ nothing_not_looping false n e = cc e
 
 -- The member at a site
 
-owned_back : {m : RootedModel} {u : UnitPath} {o : Outcome} {w : Owned} {p : Place} → SiteEndsSo m u o (Some w) p
+owned_back : {m : RootedModel} {u : UnitPath} {o : WalkOutcome} {w : Owned} {p : Place} → SiteEndsSo m u o (Some w) p
     → EndsSo m u o (statement_of w) p
 owned_back (owned h) = h
 
-pub site_none : {m : RootedModel} {u : UnitPath} {o : Outcome} (t : Option Owned) → None ≡ t
+pub site_none : {m : RootedModel} {u : UnitPath} {o : WalkOutcome} (t : Option Owned) → None ≡ t
     → IsEarliest (SiteEndsSo m u o t) None
 site_none None e = nowhere (λ p h. elim h [ ])
 site_none (Some w) e = cc e
 
-pub site_some : {m : RootedModel} {u : UnitPath} {o : Outcome} (t : Option Owned) (w : Owned) (r : Option Place)
+pub site_some : {m : RootedModel} {u : UnitPath} {o : WalkOutcome} (t : Option Owned) (w : Owned) (r : Option Place)
     → Some w ≡ t → IsEarliest (EndsSo m u o (statement_of w)) r → IsEarliest (SiteEndsSo m u o t) r
 site_some {m = m} {u = u} {o = o} t w r e h =
     subst (λ (z : Option Owned). IsEarliest (SiteEndsSo m u o z) r) e
@@ -93,10 +93,10 @@ site_some {m = m} {u = u} {o = o} t w r e h =
 -- The members of a body
 
 -- the member at this site of the list ends so
-abbrev pub SiteEnds : RootedModel → UnitPath → Outcome → ℕ → BodyId × ℕ → Place → Type 0
+abbrev pub SiteEnds : RootedModel → UnitPath → WalkOutcome → ℕ → BodyId × ℕ → Place → Type 0
 SiteEnds m u o k a p = SiteEndsSo m u o (owned_at m.declared (site_of a)) p
 
-pub among_to : {m : RootedModel} {u : UnitPath} {o : Outcome} (all : List (BodyId × ℕ)) (k : ℕ) (a : BodyId × ℕ)
+pub among_to : {m : RootedModel} {u : UnitPath} {o : WalkOutcome} (all : List (BodyId × ℕ)) (k : ℕ) (a : BodyId × ℕ)
     (p : Place) → Stands all k a → SiteEnds m u o k a p → SitesEndSo m u o (map site_of all) p
 among_to all k a p s h = record {
   site = site_of a;
@@ -104,7 +104,7 @@ among_to all k a p s h = record {
   ends = h;
 }
 
-pub among_back : {m : RootedModel} {u : UnitPath} {o : Outcome} (all : List (BodyId × ℕ)) (p : Place)
+pub among_back : {m : RootedModel} {u : UnitPath} {o : WalkOutcome} (all : List (BodyId × ℕ)) (p : Place)
     → SitesEndSo m u o (map site_of all) p → (k : ℕ) × AtItem all (SiteEnds m u o) k p
 among_back {m = m} {u = u} {o = o} all p h =
     let r = stands_map_back site_of all h.is_one.place h.site h.is_one.stands in (
@@ -164,12 +164,13 @@ form_takes d s (member.Sync y at parts) g p o h = absurd (one_none g o)
 form_takes d s (member.Assert i) g p o h = absurd (one_none g o)
 
 -- what the name of a member is in its unit
-kind_here : {m : RootedModel} → IsKept m → (u : UnitPath) (g : NamedMember) → IsOneOf (names_at m u) g
+kind_here : {m : RootedModel} → KeepsTextRules m → (u : UnitPath) (g : NamedMember) → IsOneOf (names_at m u) g
     → kind_at m u g.name ≡ Some g.kind
 kind_here {m = m} k u g o = ap (option_map (λ (h : NamedMember). h.kind))
     (named_here (names_at m u) o.place g (members_apart k u) o.stands)
 
-statement_ends : {m : RootedModel} {u : UnitPath} {o : Outcome} → IsKept m → (s : Site) → IsOneOf (members_at m u) s
+statement_ends : {m : RootedModel} {u : UnitPath} {o : WalkOutcome} → KeepsTextRules m → (s : Site)
+    → IsOneOf (members_at m u) s
     → (w : Owned) → owned_at m.declared s ≡ Some w → (t : Option (Path × ℕ)) → statement_of w ≡ t → (p : Place)
     → EndsSo m u o t p → EndsIn m u o p
 statement_ends k s i (Nested y at b) e None q p h = elim h [ ]
@@ -193,7 +194,7 @@ statement_ends {m = m} {u = u} {o = o} k s i (Plain w) e (Some (path, x)) q p h 
     ended : {p : Place} → EndsSo m u o (Some (path, x)) p → LeadsFrom m u x o
     ended (ends l) = l
 
-pub unit_to : {m : RootedModel} {u : UnitPath} {o : Outcome} → IsKept m → (p : Place)
+pub unit_to : {m : RootedModel} {u : UnitPath} {o : WalkOutcome} → KeepsTextRules m → (p : Place)
     → SitesEndSo m u o (members_at m u) p → EndsIn m u o p
 unit_to {m = m} {u = u} {o = o} k p h = go (owned_at m.declared h.site) refl h.ends
   where
@@ -201,7 +202,7 @@ unit_to {m = m} {u = u} {o = o} k p h = go (owned_at m.declared h.site) refl h.e
     go None e z = elim z [ ]
     go (Some w) e z = statement_ends k h.site h.is_one w e (statement_of w) refl p (owned_back z)
 
-pub unit_back : {m : RootedModel} {u : UnitPath} {o : Outcome} → IsKept m → (p : Place) → EndsIn m u o p
+pub unit_back : {m : RootedModel} {u : UnitPath} {o : WalkOutcome} → KeepsTextRules m → (p : Place) → EndsIn m u o p
     → SitesEndSo m u o (members_at m u) p
 unit_back {m = m} {u = u} {o = o} k p h =
     let c = flat_origin (λ s. names_of m.declared s (owned_at m.declared s)) (members_at m u) h.is_given.place h.given
@@ -226,7 +227,7 @@ unit_back {m = m} {u = u} {o = o} k p h =
     go s (Some (Nested y b c)) i = elim (kind_path (only_item _ _ i) h.has_path) [ ]
 
 -- the earliest among the members that the table keeps is the earliest of the unit
-pub unit_ends : {m : RootedModel} {u : UnitPath} {o : Outcome} {all read : List (BodyId × ℕ)} → IsKept m
+pub unit_ends : {m : RootedModel} {u : UnitPath} {o : WalkOutcome} {all read : List (BodyId × ℕ)} → KeepsTextRules m
     → (r : Option Place) → members_at m u ≡ map site_of all → read ≡ all
     → IsEarliest (SitesEndSo m u o (map site_of read)) r → IsEarliest (EndsIn m u o) r
 unit_ends {m = m} {u = u} {o = o} k r at same h =
@@ -235,8 +236,8 @@ unit_ends {m = m} {u = u} {o = o} k r at same h =
     (subst (λ (sites : List Site). IsEarliest (SitesEndSo m u o sites) r) (sym at) i)
 
 -- where the table has no such body, the unit has no members
-pub no_body : {m : RootedModel} {c : Classes} (u : UnitPath) {b : ℕ} {o : Outcome} → IsKeptTable m c → b ≡ body_of m u
-    → length c.bodies.items ≤ b → IsEarliest (EndsIn m u o) None
+pub no_body : {m : RootedModel} {c : Classes} (u : UnitPath) {b : ℕ} {o : WalkOutcome} → IsKeptTable m c → b ≡ body_of m
+    u → length c.bodies.items ≤ b → IsEarliest (EndsIn m u o) None
 no_body {m = m} {c = c} u {b = b} {o = o} t e h =
     nowhere (λ p k. one_none k.given (subst (λ (gs : List NamedMember). IsOneOf gs k.given) empty k.is_given))
   where
@@ -249,13 +250,13 @@ no_body {m = m} {c = c} u {b = b} {o = o} t e h =
 -- All units
 
 -- the unit of this number has such an end
-pub record UnitEnds (m : RootedModel) (units : List UnitPath) (o : Outcome) (k : ℕ) (d : Outline) (p : Place) : Type
+pub record UnitEnds (m : RootedModel) (units : List UnitPath) (o : WalkOutcome) (k : ℕ) (d : Outline) (p : Place) : Type
     0 where
   pub unit : UnitPath
   pub stands : Stands units k unit
   pub ends : EndsIn m unit o p
 
-pub here_to : {m : RootedModel} {units : List UnitPath} {o : Outcome} (k : ℕ) (d : Outline) (u : UnitPath)
+pub here_to : {m : RootedModel} {units : List UnitPath} {o : WalkOutcome} (k : ℕ) (d : Outline) (u : UnitPath)
     (r : Option Place) → Stands units k u → IsEarliest (EndsIn m u o) r → IsEarliest (UnitEnds m units o k d) r
 here_to {m = m} {units = units} {o = o} k d u r s h =
     earliest_same r (λ p e. record { unit = u; stands = s; ends = e })
@@ -264,7 +265,7 @@ here_to {m = m} {units = units} {o = o} k d u r s h =
     some_same : {A : Type 0} {a b : A} → Some a ≡ Some b → a ≡ b
     some_same e = cc
 
-pub all_to : {m : RootedModel} {units : List UnitPath} {o : Outcome} (k : ℕ) (d : Outline) (p : Place)
+pub all_to : {m : RootedModel} {units : List UnitPath} {o : WalkOutcome} (k : ℕ) (d : Outline) (p : Place)
     → UnitEnds m units o k d p → WalkEnds m units o p
 all_to k d p h = record {
   unit = h.unit;
@@ -278,7 +279,7 @@ all_to k d p h = record {
       h.ends.place;
 }
 
-pub all_back : {m : RootedModel} {units : List UnitPath} {c : Classes} {outlines : List Outline} {o : Outcome}
+pub all_back : {m : RootedModel} {units : List UnitPath} {c : Classes} {outlines : List Outline} {o : WalkOutcome}
     → AreOutlines m units c outlines → (p : Place) → WalkEnds m units o p
     → (k : ℕ) × AtItem outlines (UnitEnds m units o) k p
 all_back {units = units} {outlines = outlines} a p h =

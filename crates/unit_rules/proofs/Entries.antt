@@ -12,13 +12,13 @@ use Rattle.ar_syntax.specs.declared.members.Setting.{Setting}
 use Rattle.ar_syntax.specs.declared.members.TypeForm.{TypeForm}
 use Rattle.domains.specs.declared.Domain.{Domain}
 use Rattle.class_table.specs.Declaring.{Declared, NamedType}
-use Rattle.class_table.specs.Members.{Site, NamedMember, MemberKind, kind_of, all_named, named_at, names_of, owned_at}
+use Rattle.class_table.specs.Members.{Site, NamedMember, MemberKind, member_kind_of, all_named, named_at, names_of, owned_at}
 use Rattle.class_table.proofs.Taken.{take_next}
 use Rattle.class_table.specs.Tables.{domain, class}
 use Rattle.class_table.specs.declared.tables.TypeBody.TheVariants as types
 use Rattle.class_table.specs.declared.tables.Body.{Body}
 use Rattle.class_table.specs.declared.tables.Classes.{Classes}
-use Rattle.hierarchy.specs.Models.{RootedModel, IsTableFor, sites_kept}
+use Rattle.hierarchy.specs.Models.{RootedModel, IsRootedTable, sites_kept}
 use Rattle.unit_rules.specs.Typing.{IsFound, none, some}
 use Rattle.unit_rules.specs.declared.settables.Settable.{Settable}
 use Rattle.unit_rules.specs.declared.settables.Settable.TheVariants as settable
@@ -57,7 +57,7 @@ pub same_next : (s : Settable) (names : List (NameId × Place)) (i : ℕ) (n : N
 same_next s names i n t = ap (same_entries (Some s)) (take_next names i n t)
     ∙ flat_map-append (λ (m : NameId × Place). one_entry m.0.n (Some s)) (take i names) (n ∷ [])
 
-module _ (m : RootedModel) (classes : Classes) (table : IsTableFor m classes) where
+module _ (m : RootedModel) (classes : Classes) (table : IsRootedTable m classes) where
   -- the members of a body that is there, and of none
   pub members_there : (b : ℕ) (body : Body) → Stands classes.bodies.items b body
       → sites_kept body ≡ unwrap_or (slice_get m.members b) []
@@ -77,13 +77,15 @@ module _ (m : RootedModel) (classes : Classes) (table : IsTableFor m classes) wh
 module _ (symbols : List ℕ) (s : Site) (f : TypeForm) (settings : List Setting) where
   -- what the names of a declaration are, by the type that was found
   pub kind_domain : (t : Option NamedType) (v : Domain) → IsFound symbols t (Some (types.Domain v))
-      → option_and_then settable_of (option_map (λ (u : NamedType). kind_of s f u settings) t) ≡ variable_of settings
+      → option_and_then settable_of (option_map (λ (u : NamedType). member_kind_of s f u settings) t) ≡ variable_of
+      settings
   kind_domain t v (some (domain h)) = refl
 
   pub kind_class : (t : Option NamedType) (b : BodyId) → IsFound symbols t (Some (types.Class b))
-      → option_and_then settable_of (option_map (λ (u : NamedType). kind_of s f u settings) t) ≡ Some settable.Inner
+      → option_and_then settable_of (option_map (λ (u : NamedType). member_kind_of s f u settings) t) ≡ Some
+      settable.Inner
   kind_class t b (some (class h)) = refl
 
   pub kind_none : (t : Option NamedType) → IsFound symbols t None
-      → option_and_then settable_of (option_map (λ (u : NamedType). kind_of s f u settings) t) ≡ None
+      → option_and_then settable_of (option_map (λ (u : NamedType). member_kind_of s f u settings) t) ≡ None
   kind_none t none = refl

@@ -11,18 +11,18 @@ use Rattle.class_table.specs.Tables.IsTypeOf.{domain as domain_type, class as cl
 use Rattle.class_table.specs.declared.tables.TypeBody.TheVariants as types
 use Rattle.domains.specs.declared.Domain.{Domain}
 use Rattle.class_table.specs.declared.tables.TypeBody.{TypeBody}
-use Rattle.unit_rules.specs.Typing.{place_in, IsFound, none, some}
+use Rattle.unit_rules.specs.Typing.{type_place_in, IsFound, none, some}
 
 -- one type more, of another name
 place_apart : (ts : List (NameId × TypeBody)) (t : NameId × TypeBody) (x : ℕ) → (t.0.n ≡ x → ⊥)
-    → place_in (ts ++ t ∷ []) x ≡ place_in ts x
+    → type_place_in (ts ++ t ∷ []) x ≡ type_place_in ts x
 place_apart [] t x n = ap (λ (b : Bool). cond b (Some 0) None) (ne_eqb t.0.n x n)
 place_apart (u ∷ us) t x n = ap (λ (o : Option ℕ). cond (nat_eq u.0.n x) (Some 0) (option_map (λ k. k + 1) o))
     (place_apart us t x n)
 
 -- one type more, of a name that was there
-place_had : (ts : List (NameId × TypeBody)) (t : NameId × TypeBody) (x : ℕ) → is_some (place_in ts x) ≡ true
-    → place_in (ts ++ t ∷ []) x ≡ place_in ts x
+place_had : (ts : List (NameId × TypeBody)) (t : NameId × TypeBody) (x : ℕ) → is_some (type_place_in ts x) ≡ true
+    → type_place_in (ts ++ t ∷ []) x ≡ type_place_in ts x
 place_had [] t x e = cc
 place_had (u ∷ us) t x e = by (nat_eq u.0.n x) (λ f. place_had us t x f) e
   where
@@ -30,16 +30,16 @@ place_had (u ∷ us) t x e = by (nat_eq u.0.n x) (λ f. place_had us t x f) e
     mapped None e = cc
     mapped (Some k) e = refl
 
-    by : (b : Bool) → (is_some (place_in us x) ≡ true → place_in (us ++ t ∷ []) x ≡ place_in us x)
-        → is_some (cond b (Some 0) (option_map (λ k. k + 1) (place_in us x))) ≡ true
-        → cond b (Some 0) (option_map (λ k. k + 1) (place_in (us ++ t ∷ []) x))
-        ≡ cond b (Some 0) (option_map (λ k. k + 1) (place_in us x))
+    by : (b : Bool) → (is_some (type_place_in us x) ≡ true → type_place_in (us ++ t ∷ []) x ≡ type_place_in us x)
+        → is_some (cond b (Some 0) (option_map (λ k. k + 1) (type_place_in us x))) ≡ true
+        → cond b (Some 0) (option_map (λ k. k + 1) (type_place_in (us ++ t ∷ []) x))
+        ≡ cond b (Some 0) (option_map (λ k. k + 1) (type_place_in us x))
     by true f e = refl
-    by false f e = ap (λ (o : Option ℕ). option_map (λ k. k + 1) o) (f (mapped (place_in us x) e))
+    by false f e = ap (λ (o : Option ℕ). option_map (λ k. k + 1) o) (f (mapped (type_place_in us x) e))
 
 -- one type more, of a new name
-place_new : (ts : List (NameId × TypeBody)) (t : NameId × TypeBody) (x : ℕ) → t.0.n ≡ x → place_in ts x ≡ None
-    → place_in (ts ++ t ∷ []) x ≡ Some (length ts)
+place_new : (ts : List (NameId × TypeBody)) (t : NameId × TypeBody) (x : ℕ) → t.0.n ≡ x → type_place_in ts x ≡ None
+    → type_place_in (ts ++ t ∷ []) x ≡ Some (length ts)
 place_new [] t x e n = ap (λ (b : Bool). cond b (Some 0) None) (eq-eqb t.0.n x e)
 place_new (u ∷ us) t x e n = by (nat_eq u.0.n x) (λ f. place_new us t x e f) n
   where
@@ -50,36 +50,37 @@ place_new (u ∷ us) t x e n = by (nat_eq u.0.n x) (λ f. place_new us t x e f) 
     more : length us + 1 ≡ suc (length us)
     more = omega arith
 
-    by : (b : Bool) → (place_in us x ≡ None → place_in (us ++ t ∷ []) x ≡ Some (length us))
-        → cond b (Some 0) (option_map (λ k. k + 1) (place_in us x)) ≡ None
-        → cond b (Some 0) (option_map (λ k. k + 1) (place_in (us ++ t ∷ []) x)) ≡ Some (suc (length us))
+    by : (b : Bool) → (type_place_in us x ≡ None → type_place_in (us ++ t ∷ []) x ≡ Some (length us))
+        → cond b (Some 0) (option_map (λ k. k + 1) (type_place_in us x)) ≡ None
+        → cond b (Some 0) (option_map (λ k. k + 1) (type_place_in (us ++ t ∷ []) x)) ≡ Some (suc (length us))
     by true f n = cc
-    by false f n = ap (λ (o : Option ℕ). option_map (λ k. k + 1) o) (f (mapped (place_in us x) n))
+    by false f n = ap (λ (o : Option ℕ). option_map (λ k. k + 1) o) (f (mapped (type_place_in us x) n))
         ∙ ap (λ (k : ℕ). Some k) more
 
 -- a step where the name was there
 pub known_step : (get : ℕ → Option ℕ) (ts : List (NameId × TypeBody)) (t : NameId × TypeBody)
-    → ((x : ℕ) → get x ≡ place_in ts x) → is_some (get t.0.n) ≡ true → (x : ℕ) → get x ≡ place_in (ts ++ t ∷ []) x
+    → ((x : ℕ) → get x ≡ type_place_in ts x) → is_some (get t.0.n) ≡ true → (x : ℕ)
+    → get x ≡ type_place_in (ts ++ t ∷ []) x
 known_step get ts t h e x = by (cases_eq t.0.n x)
   where
-    by : (t.0.n ≡ x) ⊎ (t.0.n ≡ x → ⊥) → get x ≡ place_in (ts ++ t ∷ []) x
+    by : (t.0.n ≡ x) ⊎ (t.0.n ≡ x → ⊥) → get x ≡ type_place_in (ts ++ t ∷ []) x
     by (inl i) = h x ∙ sym (place_had ts t x
         (ap (λ (o : Option ℕ). is_some o) (sym (h x)) ∙ (ap (λ (z : ℕ). is_some (get z)) (sym i) ∙ e)))
     by (inr n) = h x ∙ sym (place_apart ts t x n)
 
 -- a step where it is new
 pub new_step : (get new : ℕ → Option ℕ) (ts : List (NameId × TypeBody)) (t : NameId × TypeBody) (k : ℕ) → length ts ≡ k
-    → ((x : ℕ) → get x ≡ place_in ts x) → is_some (get t.0.n) ≡ false
-    → ((x : ℕ) → new x ≡ cond (nat_eq t.0.n x) (Some k) (get x)) → (x : ℕ) → new x ≡ place_in (ts ++ t ∷ []) x
+    → ((x : ℕ) → get x ≡ type_place_in ts x) → is_some (get t.0.n) ≡ false
+    → ((x : ℕ) → new x ≡ cond (nat_eq t.0.n x) (Some k) (get x)) → (x : ℕ) → new x ≡ type_place_in (ts ++ t ∷ []) x
 new_step get new ts t k l h e u x = by (cases_eq t.0.n x)
   where
     empty : (o : Option ℕ) → is_some o ≡ false → o ≡ None
     empty None e = refl
     empty (Some k) e = cc
 
-    by : (t.0.n ≡ x) ⊎ (t.0.n ≡ x → ⊥) → new x ≡ place_in (ts ++ t ∷ []) x
+    by : (t.0.n ≡ x) ⊎ (t.0.n ≡ x → ⊥) → new x ≡ type_place_in (ts ++ t ∷ []) x
     by (inl i) =
-        let n = empty (place_in ts x) (ap (λ (o : Option ℕ). is_some o) (sym (h x))
+        let n = empty (type_place_in ts x) (ap (λ (o : Option ℕ). is_some o) (sym (h x))
         ∙ (ap (λ (z : ℕ). is_some (get z)) (sym i) ∙ e)) in
         u x ∙ (ap (λ (b : Bool). cond b (Some k) (get x)) (eq-eqb t.0.n x i)
         ∙ (ap (λ (m : ℕ). Some m) (sym l) ∙ sym (place_new ts t x i n)))
@@ -93,10 +94,10 @@ IsTypeAt symbols ts ds x (Some k) =
     (t : NameId × TypeBody) × (n : NamedType) × Stands ts k t × (type_in ds x ≡ Some n) × IsTypeOf symbols n t.1
 
 types_along : (symbols : List ℕ) (ts : List (NameId × TypeBody)) (ds : List (ℕ × NamedType))
-    → Along (IsNamedType symbols) ts ds → (x : ℕ) → IsTypeAt symbols ts ds x (place_in ts x)
+    → Along (IsNamedType symbols) ts ds → (x : ℕ) → IsTypeAt symbols ts ds x (type_place_in ts x)
 types_along symbols ts ds along_none x = refl
 types_along symbols ts ds (along_and {a = t} {b = d} {xs = us} {ys = es} h r) x =
-    by (nat_eq t.0.n x) (ap (λ (n : ℕ). cond (nat_eq n x) (Some d.1) (type_in es x)) (sym h.name)) (place_in us x)
+    by (nat_eq t.0.n x) (ap (λ (n : ℕ). cond (nat_eq n x) (Some d.1) (type_in es x)) (sym h.name)) (type_place_in us x)
     (types_along symbols us es r x)
   where
     by : (b : Bool) → type_in (d ∷ es) x ≡ cond b (Some d.1) (type_in es x) → (o : Option ℕ)
@@ -108,11 +109,11 @@ types_along symbols ts ds (along_and {a = t} {b = d} {xs = us} {ys = es} h r) x 
 
 module _ (d : Declared) (ts : List (NameId × TypeBody)) (a : Along (IsNamedType d.symbols) ts d.types) where
   -- what is found where the name has no place
-  pub found_none : (x : ℕ) → place_in ts x ≡ None → IsFound d.symbols (type_named d x) None
+  pub found_none : (x : ℕ) → type_place_in ts x ≡ None → IsFound d.symbols (type_named d x) None
   found_none x e = let h = subst (IsTypeAt d.symbols ts d.types x) e (types_along d.symbols ts d.types a x) in subst (λ (t : Option NamedType). IsFound d.symbols t None) (sym h) none
 
   -- and where it has one
-  pub found_some : (x k : ℕ) → place_in ts x ≡ Some k
+  pub found_some : (x k : ℕ) → type_place_in ts x ≡ Some k
       → (t : NameId × TypeBody) × Stands ts k t × IsFound d.symbols (type_named d x) (Some t.1)
   found_some x k e =
       let h = subst (IsTypeAt d.symbols ts d.types x) e (types_along d.symbols ts d.types a x) in

@@ -16,7 +16,7 @@ use Rattle.class_table.specs.declared.tables.Owned.{Owned}
 use Rattle.class_table.proofs.OwnAt.{own_shown}
 use Rattle.class_table.proofs.MemberNames.{site_past}
 use Rattle.class_table.proofs.Taken.{take_next}
-use Rattle.hierarchy.specs.Models.{RootedModel, IsTableFor, sites_kept}
+use Rattle.hierarchy.specs.Models.{RootedModel, IsRootedTable, sites_kept}
 use Rattle.hierarchy.specs.Units.{UnitPath, names_at}
 use Rattle.hierarchy.specs.Tie.{IsOutline}
 use Rattle.hierarchy.specs.declared.outline.Outline.{Outline}
@@ -73,7 +73,7 @@ module _ (d : Declared) (bodies : List Body) (rows : List (Vec Counts Global)) (
       (ap (λ (os : List Owned). slice_get os site.1) (own_shown d bodies shown site.0.n w.0 w.1) ∙ o.1)
       (o.2.at (site_of site))
 
-module _ (m : RootedModel) (classes : Classes) (counts : List Counts) (table : IsTableFor m classes)
+module _ (m : RootedModel) (classes : Classes) (counts : List Counts) (table : IsRootedTable m classes)
     (bodies : Along (AreOfBody m.declared) classes.bodies.items counts) where
   -- there is no such body, or it is there
   pub no_body : (b : ℕ) (c : Counts) → length counts ≤ b → AreCounts [] 0 c

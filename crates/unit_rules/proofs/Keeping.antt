@@ -5,7 +5,7 @@ use Rattle.std.proofs.lemmas.Bool.{cases_eq}
 use Rattle.ar_base.specs.Lists.{Stands, IsOneOf}
 use Rattle.ar_base.proofs.Standing.{one_none, one_first, one_split, one_left, one_right, one_cases, stands_one}
 use Rattle.class_table.specs.Members.{NamedMember}
-use Rattle.hierarchy.specs.Models.{RootedModel, IsKept}
+use Rattle.hierarchy.specs.Models.{RootedModel, KeepsTextRules}
 use Rattle.hierarchy.specs.Units.{UnitPath, body_of, names_at, name_at, names_in}
 use Rattle.hierarchy.proofs.Apart.{members_apart, named_here, named_back}
 use Rattle.unit_rules.proofs.Sited.{flat_one, one_flat}
@@ -111,7 +111,7 @@ module _ (m : RootedModel) (units : List UnitPath) where
       (subst (λ (r : Option Settable). IsOneOf (one_entry g.name r) (g.name, s)) (sym e) (one_first (g.name, s) []))
 
   -- all of them are found so
-  pub settables_all : IsKept m → (i : ℕ) (t : Settables) → ((k : ℕ) (u : UnitPath) → Stands units k u → k < i)
+  pub settables_all : KeepsTextRules m → (i : ℕ) (t : Settables) → ((k : ℕ) (u : UnitPath) → Stands units k u → k < i)
       → AreSettablesTo m units i t → AreSettables m units t
   settables_all kept i t within h = record
       { each = λ u x o. by u x o (kept_at t (body_of m u) x) refl (name_at m u x) refl }

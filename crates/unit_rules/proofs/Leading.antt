@@ -9,16 +9,16 @@ use Rattle.ar_syntax.specs.declared.members.Word.TheVariants as word
 use Rattle.class_table.specs.Members.{NamedMember, MemberKind, Inner, Clone, Alias, Variable, Parameter, Kept, Event, Observer}
 use Rattle.hierarchy.specs.Models.{RootedModel}
 use Rattle.hierarchy.specs.Units.{UnitPath, body_of, names_at, name_at, kind_at}
-use Rattle.hierarchy.specs.Walks.{thing, Has, is_parameter, Reaches, LeadsFrom, Outcome, NameLeads}
+use Rattle.hierarchy.specs.Walks.{thing, PassesTest, is_parameter, Reaches, LeadsFrom, WalkOutcome, NameLeads}
 use Rattle.hierarchy.specs.Listing.{is_inner}
-use Rattle.hierarchy.specs.Settings.{TargetWord, Named, Init, Reset, word_of, is_init, is_reset, is_state, is_flow, is_state_variable, is_flow_variable}
+use Rattle.hierarchy.specs.Settings.{TargetWord, Named, Init, Reset, target_word_of, is_init, is_reset, is_state, is_flow, is_state_variable, is_flow_variable}
 use Rattle.hierarchy.specs.Tie.{AreOutlines}
 use Rattle.hierarchy.specs.declared.outline.Outline.{Outline}
 use Rattle.class_table.specs.declared.tables.Classes.{Classes}
 use Rattle.hierarchy.proofs.Apart.{named_back}
 use Rattle.hierarchy.proofs.Outcomes.{leads_same}
 use Rattle.hierarchy.proofs.TargetWords.{one_init, one_reset, no_state}
-use Rattle.unit_rules.specs.Rules.{IsTarget, parameter, init, reset, inside}
+use Rattle.unit_rules.specs.Rules.{IsSettingTarget, parameter, init, reset, inside}
 use Rattle.unit_rules.specs.declared.settables.Settable.{Settable}
 use Rattle.unit_rules.specs.declared.settables.Settable.TheVariants as settable
 use Rattle.unit_rules.specs.declared.settables.Settables.{Settables}
@@ -107,20 +107,20 @@ data Begins (m : RootedModel) (u : UnitPath) (x : ℕ) : Option Settable → Lis
   at_parameter : Begins m u x (Some settable.Parameter) []
   at_state : Begins m u x (Some settable.State) (Init ∷ [])
   at_flow : Begins m u x (Some settable.Flow) (Reset ∷ [])
-  into_unit : {v : UnitPath} {ws : List TargetWord} → LeadsFrom m u x (Reaches v) → IsTarget m v ws
+  into_unit : {v : UnitPath} {ws : List TargetWord} → LeadsFrom m u x (Reaches v) → IsSettingTarget m v ws
       → Begins m u x (Some settable.Inner) ws
 
 module _ (m : RootedModel) (u : UnitPath) where
-  pub no_words : IsTarget m u [] → ⊥
+  pub no_words : IsSettingTarget m u [] → ⊥
   no_words t = elim t [ ]
 
-  pub no_init : (ws : List TargetWord) → IsTarget m u (Init ∷ ws) → ⊥
+  pub no_init : (ws : List TargetWord) → IsSettingTarget m u (Init ∷ ws) → ⊥
   no_init ws t = elim t [ ]
 
-  pub no_reset : (ws : List TargetWord) → IsTarget m u (Reset ∷ ws) → ⊥
+  pub no_reset : (ws : List TargetWord) → IsSettingTarget m u (Reset ∷ ws) → ⊥
   no_reset ws t = elim t [ ]
 
-  begins : {x : ℕ} {ws : List TargetWord} → IsTarget m u (Named x ∷ ws) → Begins m u x (found_at m u x) ws
+  begins : {x : ℕ} {ws : List TargetWord} → IsSettingTarget m u (Named x ∷ ws) → Begins m u x (found_at m u x) ws
   begins {x = x} (parameter h) = subst (λ (o : Option Settable). Begins m u x o [])
       (sym (ap (option_and_then settable_of) h.is ∙ kind_parameter h.kind h.passes)) at_parameter
   begins {x = x} (init h) = subst (λ (o : Option Settable). Begins m u x o (Init ∷ []))
@@ -157,45 +157,45 @@ module _ (m : RootedModel) (u : UnitPath) where
         go (Some g) f h = (g, f, h)
 
     has : (r : Settable) → found_at m u x ≡ Some r → (test : MemberKind → Bool)
-        → ((k : MemberKind) → IsKindOf r k → test k ≡ true) → Has m test (thing u x)
+        → ((k : MemberKind) → IsKindOf r k → test k ≡ true) → PassesTest m test (thing u x)
     has r e test f = let w = given r e in record { kind = w.0.kind; is = ap (option_map (λ (h : NamedMember). h.kind)) w.1; passes = f w.0.kind (kind_back w.0.kind r w.2) }
 
     module _ (ws : List TargetWord) where
-      as_found : (o : Option Settable) → found_at m u x ≡ o → IsTarget m u (Named x ∷ ws) → Begins m u x o ws
+      as_found : (o : Option Settable) → found_at m u x ≡ o → IsSettingTarget m u (Named x ∷ ws) → Begins m u x o ws
       as_found o e t = subst (λ (z : Option Settable). Begins m u x z ws) e (begins t)
 
       -- nothing may be set by the name
-      pub none_named : found_at m u x ≡ None → IsTarget m u (Named x ∷ ws) → ⊥
+      pub none_named : found_at m u x ≡ None → IsSettingTarget m u (Named x ∷ ws) → ⊥
       none_named e t = elim (as_found None e t) [ ]
 
       -- a parameter is set by its name alone
-      pub parameter_named : found_at m u x ≡ Some settable.Parameter → (ws ≡ []) ↔ IsTarget m u (Named x ∷ ws)
+      pub parameter_named : found_at m u x ≡ Some settable.Parameter → (ws ≡ []) ↔ IsSettingTarget m u (Named x ∷ ws)
       parameter_named e = (
-        (λ q. subst (λ (vs : List TargetWord). IsTarget m u (Named x ∷ vs)) (sym q)
+        (λ q. subst (λ (vs : List TargetWord). IsSettingTarget m u (Named x ∷ vs)) (sym q)
             (parameter (has settable.Parameter e is_parameter (λ k h. h)))),
         λ t. only_parameter (as_found _ e t),
       )
 
-      pub state_named : found_at m u x ≡ Some settable.State → (is_init ws ≡ true) ↔ IsTarget m u (Named x ∷ ws)
+      pub state_named : found_at m u x ≡ Some settable.State → (is_init ws ≡ true) ↔ IsSettingTarget m u (Named x ∷ ws)
       state_named e = (
-        (λ q. subst (λ (vs : List TargetWord). IsTarget m u (Named x ∷ vs)) (sym (one_init ws q))
+        (λ q. subst (λ (vs : List TargetWord). IsSettingTarget m u (Named x ∷ vs)) (sym (one_init ws q))
             (init (has settable.State e is_state_variable (λ k h. h)))),
         λ t. only_state (as_found _ e t),
       )
 
-      pub flow_named : found_at m u x ≡ Some settable.Flow → (is_reset ws ≡ true) ↔ IsTarget m u (Named x ∷ ws)
+      pub flow_named : found_at m u x ≡ Some settable.Flow → (is_reset ws ≡ true) ↔ IsSettingTarget m u (Named x ∷ ws)
       flow_named e = (
-        (λ q. subst (λ (vs : List TargetWord). IsTarget m u (Named x ∷ vs)) (sym (one_reset ws q))
+        (λ q. subst (λ (vs : List TargetWord). IsSettingTarget m u (Named x ∷ vs)) (sym (one_reset ws q))
             (reset (has settable.Flow e is_flow_variable (λ k h. h)))),
         λ t. only_flow (as_found _ e t),
       )
 
       -- a unit is gone into
       pub inner_named : found_at m u x ≡ Some settable.Inner → (v : UnitPath) → LeadsFrom m u x (Reaches v)
-          → IsTarget m v ws ↔ IsTarget m u (Named x ∷ ws)
+          → IsSettingTarget m v ws ↔ IsSettingTarget m u (Named x ∷ ws)
       inner_named e v l = (go_in, λ t. come_out (as_found _ e t))
         where
-          go_in : IsTarget m v ws → IsTarget m u (Named x ∷ ws)
+          go_in : IsSettingTarget m v ws → IsSettingTarget m u (Named x ∷ ws)
           go_in t =
               let w = given settable.Inner e in
               let named = named_back (names_at m u) x w.0 w.1 in
@@ -206,12 +206,12 @@ module _ (m : RootedModel) (u : UnitPath) where
                     (subst (λ (k : Option MemberKind). NameLeads m [] u x k (Reaches v)) kind l);
               }) t
 
-          come_out : Begins m u x (Some settable.Inner) ws → IsTarget m v ws
-          come_out (into_unit {v = y} k t) = subst (λ (z : UnitPath). IsTarget m z ws) (let q : Reaches y ≡ Reaches v = leads_same k l in let f : y ≡ v = cc in f) t
+          come_out : Begins m u x (Some settable.Inner) ws → IsSettingTarget m v ws
+          come_out (into_unit {v = y} k t) = subst (λ (z : UnitPath). IsSettingTarget m z ws) (let q : Reaches y ≡ Reaches v = leads_same k l in let f : y ≡ v = cc in f) t
 
       -- a name that leads to no unit is not gone into
-      pub not_inner : found_at m u x ≡ Some settable.Inner → (o : Outcome) → LeadsFrom m u x o
-          → ((v : UnitPath) → o ≡ Reaches v → ⊥) → IsTarget m u (Named x ∷ ws) → ⊥
+      pub not_inner : found_at m u x ≡ Some settable.Inner → (o : WalkOutcome) → LeadsFrom m u x o
+          → ((v : UnitPath) → o ≡ Reaches v → ⊥) → IsSettingTarget m u (Named x ∷ ws) → ⊥
       not_inner e o l n t = go (as_found _ e t)
         where
           go : Begins m u x (Some settable.Inner) ws → ⊥
@@ -221,12 +221,13 @@ module _ (m : RootedModel) (u : UnitPath) where
 
 -- the words of a target that begins with a name
 pub named_words : (ws rest : List Word) (w : Word) (x : NameId) → ws ≡ w ∷ rest → w ≡ word.Name x
-    → map word_of ws ≡ Named x.n ∷ map word_of rest
-named_words ws rest w x e f = ap (map word_of) e ∙ ap (λ (v : Word). word_of v ∷ map word_of rest) f
+    → map target_word_of ws ≡ Named x.n ∷ map target_word_of rest
+named_words ws rest w x e f = ap (map target_word_of) e ∙ ap (λ (v : Word). target_word_of v ∷ map target_word_of rest)
+    f
 
 -- a target that begins with another word
 pub other_word : (m : RootedModel) (u : UnitPath) (w : Word) (ws : List TargetWord)
-    → ((x : NameId) → w ≡ word.Name x → ⊥) → IsTarget m u (word_of w ∷ ws) → ⊥
+    → ((x : NameId) → w ≡ word.Name x → ⊥) → IsSettingTarget m u (target_word_of w ∷ ws) → ⊥
 other_word m u (word.Name x) ws n t = n x refl
 other_word m u word.Init ws n t = no_init m u ws t
 other_word m u word.Reset ws n t = no_reset m u ws t
@@ -250,27 +251,29 @@ module _ (m : RootedModel) (units : List UnitPath) (classes : Classes) (outlines
 
 -- What is told
 
-pub never : (m : RootedModel) (u : UnitPath) (ws vs : List TargetWord) → ws ≡ vs → (IsTarget m u vs → ⊥)
-    → IsTrue false ↔ IsTarget m u ws
-never m u ws vs e n = (λ f. absurd cc, λ t. absurd (n (subst (IsTarget m u) e t)))
+pub never : (m : RootedModel) (u : UnitPath) (ws vs : List TargetWord) → ws ≡ vs → (IsSettingTarget m u vs → ⊥)
+    → IsTrue false ↔ IsSettingTarget m u ws
+never m u ws vs e n = (λ f. absurd cc, λ t. absurd (n (subst (IsSettingTarget m u) e t)))
 
 pub told_by : (m : RootedModel) (u v : UnitPath) (r : Bool) (ws vs xs : List TargetWord) → ws ≡ vs
-    → IsTarget m v xs ↔ IsTarget m u vs → IsTrue r ↔ IsTarget m v xs → IsTrue r ↔ IsTarget m u ws
-told_by m u v r ws vs xs e f g = subst (λ (zs : List TargetWord). IsTrue r ↔ IsTarget m u zs) (sym e)
+    → IsSettingTarget m v xs ↔ IsSettingTarget m u vs → IsTrue r ↔ IsSettingTarget m v xs
+    → IsTrue r ↔ IsSettingTarget m u ws
+told_by m u v r ws vs xs e f g = subst (λ (zs : List TargetWord). IsTrue r ↔ IsSettingTarget m u zs) (sym e)
     (λ h. f.0 (g.0 h), λ t. g.1 (f.1 t))
 
 pub told_so : (m : RootedModel) (u : UnitPath) (r b : Bool) (ws vs : List TargetWord) → ws ≡ vs
-    → (b ≡ true) ↔ IsTarget m u vs → r ≡ b → IsTrue r ↔ IsTarget m u ws
-told_so m u r b ws vs e f g = subst (λ (zs : List TargetWord). IsTrue r ↔ IsTarget m u zs) (sym e)
+    → (b ≡ true) ↔ IsSettingTarget m u vs → r ≡ b → IsTrue r ↔ IsSettingTarget m u ws
+told_so m u r b ws vs e f g = subst (λ (zs : List TargetWord). IsTrue r ↔ IsSettingTarget m u zs) (sym e)
     (λ h. f.0 (sym g ∙ h), λ t. g ∙ f.1 t)
 
 -- no words, by their number
-pub no_length : (m : RootedModel) (u : UnitPath) (ws : List Word) → length ws ≡ 0 → IsTarget m u (map word_of ws) → ⊥
+pub no_length : (m : RootedModel) (u : UnitPath) (ws : List Word) → length ws ≡ 0
+    → IsSettingTarget m u (map target_word_of ws) → ⊥
 no_length m u [] e t = no_words m u t
 no_length m u (w ∷ ws) e t = omega (arith, e)
 
 pub told_empty : (m : RootedModel) (u : UnitPath) (r : Bool) (ws : List TargetWord) (vs : List TargetWord)
-    (rest : List Word) → ws ≡ vs → (map word_of rest ≡ []) ↔ IsTarget m u vs → r ≡ (length rest == 0)
-    → IsTrue r ↔ IsTarget m u ws
+    (rest : List Word) → ws ≡ vs → (map target_word_of rest ≡ []) ↔ IsSettingTarget m u vs → r ≡ (length rest == 0)
+    → IsTrue r ↔ IsSettingTarget m u ws
 told_empty m u r ws vs [] e f g = told_so m u r true ws vs e (λ _. f.0 refl, λ _. refl) g
 told_empty m u r ws vs (w ∷ rest) e f g = told_so m u r false ws vs e (λ h. absurd cc, λ t. absurd (let h = f.1 t in cc)) (g ∙ ne_eqb (length (w ∷ rest)) 0 (λ q. omega (arith, q)))

@@ -13,11 +13,11 @@ use Rattle.ar_syntax.specs.declared.members.Setting.{Setting}
 use Rattle.ar_syntax.specs.declared.members.TypeForm.{TypeForm}
 use Rattle.ar_syntax.specs.declared.members.TypeForm.TheVariants as form
 use Rattle.class_table.specs.Declaring.{Declared, MemberForm, NamedType, DomainType, ClassType}
-use Rattle.class_table.specs.Members.{Site, owned_at, names_of, names_of_form, NamedMember, MemberKind, Inner, Clone, Alias, Variable, type_named, declared_kind, all_named, kind_of}
+use Rattle.class_table.specs.Members.{Site, owned_at, names_of, names_of_form, NamedMember, MemberKind, Inner, Clone, Alias, Variable, type_named, declared_kind, all_named, member_kind_of}
 use Rattle.class_table.specs.Rules.{l2, Misnames, declares, IsNoType, named}
 use Rattle.class_table.specs.declared.tables.Owned.{Owned}
 use Rattle.class_table.specs.declared.tables.Owned.TheVariants.{Plain, Nested}
-use Rattle.hierarchy.specs.Models.{RootedModel, IsKept}
+use Rattle.hierarchy.specs.Models.{RootedModel, KeepsTextRules}
 use Rattle.hierarchy.specs.Units.{UnitPath, members_at, names_at, name_at, kind_at}
 use Rattle.hierarchy.specs.Walks.{Reaches, LeadsFrom}
 use Rattle.hierarchy.specs.Listing.{is_inner}
@@ -62,7 +62,7 @@ declared_back s kind names g o =
     )
 
 kind_no_alias : (s : Site) (f : TypeForm) (t : NamedType) (settings : List Setting)
-    → is_alias (kind_of s f t settings) ≡ false
+    → is_alias (member_kind_of s f t settings) ≡ false
 kind_no_alias s f (DomainType b) settings = refl
 kind_no_alias s f (ClassType b) settings = refl
 
@@ -77,10 +77,10 @@ instance_gives d s (form.Named y) settings names x n o = go (type_named d y.n) r
   where
     go : (t : Option NamedType) → type_named d y.n ≡ t
         → (g : NamedMember) × IsOneOf (all_named s
-        (option_map (λ (t : NamedType). kind_of s (form.Named y) t settings) t) names) g × (g.name ≡ x)
+        (option_map (λ (t : NamedType). member_kind_of s (form.Named y) t settings) t) names) g × (g.name ≡ x)
         × (is_alias g.kind ≡ false)
     go None e = absurd (n (named e))
-    go (Some t) e = let r = declared_one s (kind_of s (form.Named y) t settings) names x o in (r.0, r.1, r.2, ap is_alias r.3 ∙ kind_no_alias s (form.Named y) t settings)
+    go (Some t) e = let r = declared_one s (member_kind_of s (form.Named y) t settings) names x o in (r.0, r.1, r.2, ap is_alias r.3 ∙ kind_no_alias s (form.Named y) t settings)
 
 instance_takes : (d : Declared) (s : Site) (f : TypeForm) (settings : List Setting) (names : List (NameId × Place))
     (g : NamedMember) → IsOneOf (all_named s (declared_kind d s f settings) names) g → is_inner g.kind ≡ true
@@ -90,10 +90,10 @@ instance_takes d s form.Integer settings names g o h = none_there g o
 instance_takes d s (form.Named y) settings names g o h = go (type_named d y.n) o
   where
     go : (t : Option NamedType) → IsOneOf
-        (all_named s (option_map (λ (t : NamedType). kind_of s (form.Named y) t settings) t) names) g
+        (all_named s (option_map (λ (t : NamedType). member_kind_of s (form.Named y) t settings) t) names) g
         → IsOneOf (map (λ (n : NameId × Place). n.0.n) names) g.name
     go None o = none_there g o
-    go (Some t) o = (declared_back s (kind_of s (form.Named y) t settings) names g o).0
+    go (Some t) o = (declared_back s (member_kind_of s (form.Named y) t settings) names g o).0
 
 declared_no_alias : (d : Declared) (s : Site) (f : TypeForm) (settings : List Setting) (names : List (NameId × Place))
     (g : NamedMember) → IsOneOf (all_named s (declared_kind d s f settings) names) g → is_alias g.kind ≡ false
@@ -103,10 +103,10 @@ declared_no_alias d s form.Integer settings names g o = none_there g o
 declared_no_alias d s (form.Named y) settings names g o = go (type_named d y.n) o
   where
     go : (t : Option NamedType) → IsOneOf
-        (all_named s (option_map (λ (t : NamedType). kind_of s (form.Named y) t settings) t) names) g
+        (all_named s (option_map (λ (t : NamedType). member_kind_of s (form.Named y) t settings) t) names) g
         → is_alias g.kind ≡ false
     go None o = none_there g o
-    go (Some t) o = ap is_alias (declared_back s (kind_of s (form.Named y) t settings) names g o).1
+    go (Some t) o = ap is_alias (declared_back s (member_kind_of s (form.Named y) t settings) names g o).1
         ∙ kind_no_alias s (form.Named y) t settings
 
 -- Members
@@ -185,12 +185,12 @@ alias_form_takes d s (member.Sync y at parts) g o h = none_there g o
 alias_form_takes d s (member.Assert i) g o h = none_there g o
 
 -- a member that stands in a body names its types rightly
-typed_member : {m : RootedModel} → IsKept m → (s : Site) (w : Member) → owned_at m.declared s ≡ Some (Plain w)
+typed_member : {m : RootedModel} → KeepsTextRules m → (s : Site) (w : Member) → owned_at m.declared s ≡ Some (Plain w)
     → (p : Place) → Misnames m.declared (out-Member w) p → ⊥
 typed_member k s w e p h = k.kept.kept 2 p (record { place = 1; stands = refl })
     (l2 (record { body = s.body; member = w; stands = record { place = s.place; stands = e }; misnames = h }))
 
-inner_gives : {m : RootedModel} → IsKept m → (s : Site) (o : Option Owned) → owned_at m.declared s ≡ o → (x : ℕ)
+inner_gives : {m : RootedModel} → KeepsTextRules m → (s : Site) (o : Option Owned) → owned_at m.declared s ≡ o → (x : ℕ)
     → IsOneOf (names_if inner_names o) x → Gives m.declared s (names_of m.declared s o) is_alias x
 inner_gives k s None e x o = none_there x o
 inner_gives {m = m} k s (Some (Plain w)) e x o = inner_form_gives m.declared s (out-Member w) x (typed_member k s w e) o
@@ -203,7 +203,7 @@ inner_takes m s None g o h = none_there g o
 inner_takes m s (Some (Plain w)) g o h = inner_form_takes m.declared s (out-Member w) g o h
 inner_takes m s (Some (Nested y at b)) g o h = let e = only_item _ _ o in subst (λ (x : ℕ). IsOneOf (y.n ∷ []) x) (ap (λ (z : NamedMember). z.name) e) (one_first y.n [])
 
-alias_gives : {m : RootedModel} → IsKept m → (s : Site) (o : Option Owned) → owned_at m.declared s ≡ o → (x : ℕ)
+alias_gives : {m : RootedModel} → KeepsTextRules m → (s : Site) (o : Option Owned) → owned_at m.declared s ≡ o → (x : ℕ)
     → IsOneOf (names_if alias_names o) x → Gives m.declared s (names_of m.declared s o) is_inner x
 alias_gives k s None e x o = none_there x o
 alias_gives {m = m} k s (Some (Plain w)) e x o = alias_form_gives m.declared s (out-Member w) x o
@@ -241,7 +241,7 @@ entry_lost (f ∷ fs) e x o q h = elim (same_or_not f.0.n x) [
     no : Some f.1.n ≡ None → ⊥
     no s = cc
 
-module _ {m : RootedModel} (k : IsKept m) (test other : MemberKind → Bool) (names : Owned → List ℕ)
+module _ {m : RootedModel} (k : KeepsTextRules m) (test other : MemberKind → Bool) (names : Owned → List ℕ)
     (either : (w : MemberKind) → (is_inner w ≡ true) ⊎ (is_alias w ≡ true) → other w ≡ false → test w ≡ true)
     (gives : (s : Site) (o : Option Owned) → owned_at m.declared s ≡ o → (x : ℕ) → IsOneOf (names_if names o) x
     → Gives m.declared s (names_of m.declared s o) other x)
@@ -317,13 +317,14 @@ alias_either w (inl h) n = absurd (not_both _ n h)
 alias_either w (inr h) n = h
 
 -- the inner units of a unit, and its aliases, from what was added and put in order
-pub inner_listed : {m : RootedModel} {units : List UnitPath} {u : UnitPath} {list sorted : List Entry} → IsKept m
-    → AddsNames m units u [] (names_at_sites inner_names m.declared (members_at m u)) list → IsPermutation list sorted
+pub inner_listed : {m : RootedModel} {units : List UnitPath} {u : UnitPath} {list sorted : List Entry} → KeepsTextRules
+    m → AddsNames m units u [] (names_at_sites inner_names m.declared (members_at m u)) list → IsPermutation list sorted
     → IsNonDecreasingBy (λ (e : Entry). e.0.n) sorted → AreNames m units is_inner u sorted
 inner_listed {m = m} k adds perm order =
     are_names k is_inner is_alias inner_names inner_either (inner_gives k) (inner_takes m) adds perm order
 
-pub aliases_listed : {m : RootedModel} {units : List UnitPath} {u : UnitPath} {list sorted : List Entry} → IsKept m
+pub aliases_listed : {m : RootedModel} {units : List UnitPath} {u : UnitPath} {list sorted : List Entry}
+    → KeepsTextRules m
     → AddsNames m units u [] (names_at_sites alias_names m.declared (members_at m u)) list → IsPermutation list sorted
     → IsNonDecreasingBy (λ (e : Entry). e.0.n) sorted → AreNames m units is_alias u sorted
 aliases_listed {m = m} k adds perm order =
@@ -338,7 +339,7 @@ declared_plain d s form.Integer settings names g p o h = none_there g o
 declared_plain d s (form.Named y) settings names g p o h = go (type_named d y.n) o
   where
     go : (t : Option NamedType) → IsOneOf
-        (all_named s (option_map (λ (t : NamedType). kind_of s (form.Named y) t settings) t) names) g → ⊥
+        (all_named s (option_map (λ (t : NamedType). member_kind_of s (form.Named y) t settings) t) names) g → ⊥
     go None o = none_there g o
     go (Some (DomainType b)) o = elim (subst (λ (k : MemberKind). HasPath k p)
         (declared_back s (Variable (form.Named y) settings) names g o).1 h) [ ]

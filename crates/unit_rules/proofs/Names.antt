@@ -6,7 +6,7 @@ use Rattle.ar_syntax.specs.declared.members.Setting.{Setting}
 use Rattle.ar_syntax.specs.declared.members.TypeForm.{TypeForm}
 use Rattle.ar_syntax.specs.declared.members.TypeForm.TheVariants as form
 use Rattle.class_table.specs.Declaring.{NamedType, DomainType, ClassType, Declared}
-use Rattle.class_table.specs.Members.{Site, MemberKind, Variable, Inner, type_named, kind_of, domain_body, declared_kind, all_named}
+use Rattle.class_table.specs.Members.{Site, MemberKind, Variable, Inner, type_named, member_kind_of, domain_body, declared_kind, all_named}
 use Rattle.hierarchy.specs.Walks.{is_variable, is_event}
 use Rattle.unit_rules.specs.Counting.{named_so}
 use Rattle.unit_rules.specs.Typing.{bounds_variables}
@@ -32,7 +32,8 @@ module _ (d : Declared) (s : Site) (settings : List Setting) (names : List (Name
   variables_all (form.Named x) e = by (type_named d x.n) e
     where
       by : (t : Option NamedType) → is_some (option_and_then domain_body t) ≡ true
-          → named_so is_variable (all_named s (option_map (λ (u : NamedType). kind_of s (form.Named x) u settings) t)
+          → named_so is_variable
+          (all_named s (option_map (λ (u : NamedType). member_kind_of s (form.Named x) u settings) t)
           names) ≡ length names
       by None e = cc
       by (Some (DomainType b)) e = all_so is_variable s (Variable (form.Named x) settings) names refl
@@ -45,7 +46,8 @@ module _ (d : Declared) (s : Site) (settings : List Setting) (names : List (Name
   variables_none (form.Named x) e = by (type_named d x.n) e
     where
       by : (t : Option NamedType) → is_some (option_and_then domain_body t) ≡ false
-          → named_so is_variable (all_named s (option_map (λ (u : NamedType). kind_of s (form.Named x) u settings) t)
+          → named_so is_variable
+          (all_named s (option_map (λ (u : NamedType). member_kind_of s (form.Named x) u settings) t)
           names) ≡ 0
       by None e = refl
       by (Some (DomainType b)) e = cc
@@ -58,7 +60,7 @@ module _ (d : Declared) (s : Site) (settings : List Setting) (names : List (Name
   events_none (form.Named x) = by (type_named d x.n)
     where
       by : (t : Option NamedType) → named_so is_event
-          (all_named s (option_map (λ (u : NamedType). kind_of s (form.Named x) u settings) t) names) ≡ 0
+          (all_named s (option_map (λ (u : NamedType). member_kind_of s (form.Named x) u settings) t) names) ≡ 0
       by None = refl
       by (Some (DomainType b)) = none_so is_event s (Variable (form.Named x) settings) names refl
       by (Some (ClassType b)) = none_so is_event s (Inner b (Some s)) names refl

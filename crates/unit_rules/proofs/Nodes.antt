@@ -5,7 +5,7 @@ use Rattle.std.proofs.lemmas.List.{take_all}
 use Rattle.ar_base.specs.Lists.{Stands, Along, none, one_and}
 use Rattle.ar_base.proofs.Standing.{stands_map, stands_get, along_back, along_length}
 use Rattle.class_table.proofs.Taken.{take_next}
-use Rattle.hierarchy.specs.Tie.{IsOutline, IsUnit, AreOutlines}
+use Rattle.hierarchy.specs.Tie.{IsOutline, IsUnitNode, AreOutlines}
 use Rattle.hierarchy.specs.declared.outline.Outline.{Outline}
 use Rattle.hierarchy.specs.declared.tree.UnitNode.{UnitNode}
 use Rattle.class_table.specs.Members.{Site}
@@ -60,7 +60,7 @@ along_next {R = R} xs k a ys new b s r e h =
 -- all units have their nodes
 pub along_all : {m : RootedModel} {units : List UnitPath} {c : Classes} {outlines : List Outline}
     {nodes : List UnitNode} → AreOutlines m units c outlines → (k : ℕ) → length outlines ≤ k
-    → Along (IsUnit m units) (take k units) nodes → Along (IsUnit m units) units nodes
+    → Along (IsUnitNode m units) (take k units) nodes → Along (IsUnitNode m units) units nodes
 along_all {m = m} {units = units} {outlines = outlines} {nodes = nodes} o k h a =
     let l = along_length units outlines o.along in
-    subst (λ (us : List UnitPath). Along (IsUnit m units) us nodes) (take_all k units (omega (arith, l, h))) a
+    subst (λ (us : List UnitPath). Along (IsUnitNode m units) us nodes) (take_all k units (omega (arith, l, h))) a

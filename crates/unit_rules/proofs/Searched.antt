@@ -16,17 +16,17 @@ use Rattle.hierarchy.specs.Units.{UnitPath, set_at_of}
 use Rattle.hierarchy.specs.Settings.{target_of, settings_at, settings_of}
 use Rattle.hierarchy.specs.Tie.{IsOutline, IsSetAt, none, some}
 use Rattle.hierarchy.specs.declared.outline.Outline.{Outline}
-use Rattle.unit_rules.specs.Rules.{IsTarget, HasSetting, BreaksSetting, no_target, twice}
+use Rattle.unit_rules.specs.Rules.{IsSettingTarget, HasSetting, BreaksSetting, no_target, twice}
 use Rattle.unit_rules.specs.Wrong.{IsSetBefore, BreaksAt, BreaksIn, BreaksUnit}
 
 -- One setting
 
 module _ {m : RootedModel} {u : UnitPath} {settings : List Setting} {k : ℕ} {s : Setting} where
-  pub wrong_here : (IsTarget m u (target_of s) → ⊥) ⊎ IsSetBefore settings k
+  pub wrong_here : (IsSettingTarget m u (target_of s) → ⊥) ⊎ IsSetBefore settings k
       → IsEarliest (BreaksAt m u settings k s) (Some s.at)
   wrong_here h = there (record { wrong = h; place = refl }) (λ q e b. not_before q s.at e b.place)
 
-  pub right_here : IsTarget m u (target_of s) → (IsSetBefore settings k → ⊥)
+  pub right_here : IsSettingTarget m u (target_of s) → (IsSetBefore settings k → ⊥)
       → IsEarliest (BreaksAt m u settings k s) None
   right_here t n = nowhere (λ p b. elim b.wrong [ inl h ↦ h t | inr h ↦ n h ])
 
@@ -110,7 +110,7 @@ module _ (m : RootedModel) (units : List UnitPath) (outlines : List Outline)
       setting : Setting
       setting = b.breaks.breaks.setting
 
-      go : (IsTarget m b.unit (target_of b.breaks.breaks.setting) → ⊥)
+      go : (IsSettingTarget m b.unit (target_of b.breaks.breaks.setting) → ⊥)
           ⊎ IsSetBefore (settings_at m b.breaks.site) b.breaks.breaks.k → BreaksSetting m units p
       go (inl n) = subst (BreaksSetting m units) (sym b.breaks.breaks.breaks.place)
           (no_target (setting_of b.unit one b.breaks.site b.breaks.set_at b.breaks.breaks.k b.breaks.breaks.setting

@@ -14,7 +14,7 @@ use Rattle.class_table.specs.Members.{Site, owned_at}
 use Rattle.class_table.specs.Tables.{site_of}
 use Rattle.class_table.specs.declared.tables.Classes.{Classes}
 use Rattle.class_table.proofs.Looping.{AtItem}
-use Rattle.hierarchy.specs.Models.{RootedModel, IsTableFor, sites_kept}
+use Rattle.hierarchy.specs.Models.{RootedModel, IsRootedTable, sites_kept}
 use Rattle.hierarchy.specs.Units.{UnitPath}
 use Rattle.hierarchy.specs.Listing.{form_of}
 use Rattle.hierarchy.specs.Tie.{IsOutline}
@@ -66,7 +66,7 @@ module _ (d : Declared) (all : List (BodyId × ℕ)) where
         },
       )
 
-module _ (m : RootedModel) (classes : Classes) (firsts : List (Option Place)) (table : IsTableFor m classes)
+module _ (m : RootedModel) (classes : Classes) (firsts : List (Option Place)) (table : IsRootedTable m classes)
     (bodies : Along (IsFirstIn m.declared) classes.bodies.items firsts) where
   -- there is no such body, or it is there
   pub no_body : (b : ℕ) → length firsts ≤ b

@@ -17,12 +17,12 @@ abbrev pub events_counted : Unfolded → ℕ
 events_counted t = length (events t.model t.units)
 
 -- how many nodes there are
-abbrev pub nodes_counted : Unfolded → ℕ
-nodes_counted t = tree_nodes t.model t.units
+abbrev pub unfolded_nodes : Unfolded → ℕ
+unfolded_nodes t = tree_nodes t.model t.units
 
 -- the limit of variables, then that of events, then that of nodes
 abbrev pub FitsLimits : Unfolded → Result Unfolded RuleFault → Type 0
-FitsLimits = Then (Fits Variables variables_counted) (Then (Fits Events events_counted) (Fits TreeNodes nodes_counted))
+FitsLimits = Then (Fits Variables variables_counted) (Then (Fits Events events_counted) (Fits TreeNodes unfolded_nodes))
 
 -- the answer of a call that tests the limits
 abbrev pub AnswersLimits : {X : Type 0} → RootedModel → List UnitPath → Result X RuleFault → Type 0

@@ -16,7 +16,7 @@ use Rattle.class_table.specs.declared.tables.Owned.{Owned}
 use Rattle.class_table.specs.declared.tables.Owned.TheVariants.{Plain, Nested}
 use Rattle.hierarchy.specs.Models.{RootedModel}
 use Rattle.hierarchy.specs.Units.{UnitPath}
-use Rattle.hierarchy.specs.Walks.{Outcome, Reaches, Nothing, Loops, LeadsFrom}
+use Rattle.hierarchy.specs.Walks.{WalkOutcome, Reaches, Nothing, Loops, LeadsFrom}
 
 -- an entry of a unit's names
 abbrev pub Entry : Type 0
@@ -82,21 +82,21 @@ statement_of (Plain m) = statement_form (out-Member m)
 statement_of (Nested x at b) = None
 
 -- the member is a clone or an alias whose walk comes to this, and whose path stands here
-pub data EndsSo (m : RootedModel) (u : UnitPath) (o : Outcome) : Option (Path × ℕ) → Place → Type 0 where
+pub data EndsSo (m : RootedModel) (u : UnitPath) (o : WalkOutcome) : Option (Path × ℕ) → Place → Type 0 where
   ends : {p : Path} {x : ℕ} → LeadsFrom m u x o → EndsSo m u o (Some (p, x)) p.at
 
 -- the same of a member that was looked up
-pub data SiteEndsSo (m : RootedModel) (u : UnitPath) (o : Outcome) : Option Owned → Place → Type 0 where
+pub data SiteEndsSo (m : RootedModel) (u : UnitPath) (o : WalkOutcome) : Option Owned → Place → Type 0 where
   owned : {w : Owned} {p : Place} → EndsSo m u o (statement_of w) p → SiteEndsSo m u o (Some w) p
 
 -- the same of one of the members at these sites
-pub record SitesEndSo (m : RootedModel) (u : UnitPath) (o : Outcome) (sites : List Site) (p : Place) : Type 0 where
+pub record SitesEndSo (m : RootedModel) (u : UnitPath) (o : WalkOutcome) (sites : List Site) (p : Place) : Type 0 where
   pub site : Site
   pub is_one : IsOneOf sites site
   pub ends : SiteEndsSo m u o (owned_at m.declared site) p
 
 -- a walk that loops, or one that names nothing
-abbrev pub broken_so : Bool → Outcome
+abbrev pub broken_so : Bool → WalkOutcome
 broken_so true = Loops
 broken_so false = Nothing
 

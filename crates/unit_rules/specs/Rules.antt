@@ -10,9 +10,9 @@ use Rattle.ar_syntax.specs.declared.members.TypeName.{TypeName}
 use Rattle.class_table.specs.Declaring.{MemberForm, Declared}
 use Rattle.class_table.specs.Members.{Site, NamedMember}
 use Rattle.hierarchy.specs.Models.{RootedModel}
-use Rattle.hierarchy.specs.Units.{Level, UnitPath, name_at}
-use Rattle.hierarchy.specs.Walks.{thing, Has, is_parameter}
-use Rattle.hierarchy.specs.Listing.{Makes, forms_at}
+use Rattle.hierarchy.specs.Units.{UnitLevel, UnitPath, name_at}
+use Rattle.hierarchy.specs.Walks.{thing, PassesTest, is_parameter}
+use Rattle.hierarchy.specs.Listing.{MakesUnit, forms_at}
 use Rattle.hierarchy.specs.Settings.{TargetWord, Named, Init, Reset, target_of, settings_at, is_state, is_flow, is_state_variable, is_flow_variable}
 use Rattle.unit_rules.specs.Typing.{bounds_variables}
 
@@ -37,17 +37,18 @@ pub record BreaksDeclaration (m : RootedModel) (units : List UnitPath) (at : Pla
 -- L9
 
 -- from the unit the words lead through inner units to a parameter, to init of a state variable or to reset of a flow
-pub data IsTarget (m : RootedModel) : UnitPath → List TargetWord → Type 0 where
-  parameter : {u : UnitPath} {x : ℕ} → Has m is_parameter (thing u x) → IsTarget m u (Named x ∷ [])
-  init : {u : UnitPath} {x : ℕ} → Has m is_state_variable (thing u x) → IsTarget m u (Named x ∷ Init ∷ [])
-  reset : {u : UnitPath} {x : ℕ} → Has m is_flow_variable (thing u x) → IsTarget m u (Named x ∷ Reset ∷ [])
-  inside : {u v : UnitPath} {x : ℕ} {words : List TargetWord} (g : NamedMember) → name_at m u x ≡ Some g → Makes m u g v
-      → IsTarget m v words
-      → IsTarget m u (Named x ∷ words)
+pub data IsSettingTarget (m : RootedModel) : UnitPath → List TargetWord → Type 0 where
+  parameter : {u : UnitPath} {x : ℕ} → PassesTest m is_parameter (thing u x) → IsSettingTarget m u (Named x ∷ [])
+  init : {u : UnitPath} {x : ℕ} → PassesTest m is_state_variable (thing u x) → IsSettingTarget m u (Named x ∷ Init ∷ [])
+  reset : {u : UnitPath} {x : ℕ} → PassesTest m is_flow_variable (thing u x)
+      → IsSettingTarget m u (Named x ∷ Reset ∷ [])
+  inside : {u v : UnitPath} {x : ℕ} {words : List TargetWord} (g : NamedMember) → name_at m u x ≡ Some g → MakesUnit m u
+      g v → IsSettingTarget m v words
+      → IsSettingTarget m u (Named x ∷ words)
 
 -- setting k of the declaration whose settings hold in some unit
 pub record HasSetting (m : RootedModel) (units : List UnitPath) (u : UnitPath) (k : ℕ) (s : Setting) : Type 0 where
-  pub level : Level
+  pub level : UnitLevel
   pub above : UnitPath
   pub split : u ≡ level ∷ above
   pub is_unit : IsOneOf units u
@@ -57,7 +58,7 @@ pub record HasSetting (m : RootedModel) (units : List UnitPath) (u : UnitPath) (
 
 -- a setting has no target, or it is the later of two that set one target
 pub data BreaksSetting (m : RootedModel) (units : List UnitPath) : Place → Type 0 where
-  no_target : {u : UnitPath} {k : ℕ} {s : Setting} → HasSetting m units u k s → (IsTarget m u (target_of s) → ⊥)
+  no_target : {u : UnitPath} {k : ℕ} {s : Setting} → HasSetting m units u k s → (IsSettingTarget m u (target_of s) → ⊥)
       → BreaksSetting m units s.at
   twice : {u : UnitPath} {j k : ℕ} {s t : Setting} → HasSetting m units u j s → HasSetting m units u k t → j < k
       → target_of s ≡ target_of t → BreaksSetting m units t.at

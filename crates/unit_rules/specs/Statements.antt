@@ -6,7 +6,7 @@ use Rattle.ar_syntax.specs.declared.paths.Path.{Path}
 use Rattle.class_table.specs.Members.{NamedMember, MemberKind, Clone, Alias}
 use Rattle.hierarchy.specs.Models.{RootedModel}
 use Rattle.hierarchy.specs.Units.{UnitPath, names_at}
-use Rattle.hierarchy.specs.Walks.{Outcome, NameLeads}
+use Rattle.hierarchy.specs.Walks.{WalkOutcome, NameLeads}
 
 -- the path of a clone or an alias
 pub data HasPath : MemberKind → Path → Type 0 where
@@ -14,7 +14,7 @@ pub data HasPath : MemberKind → Path → Type 0 where
   embeds : {p : Path} → HasPath (Alias p) p
 
 -- the walk of a clone or an alias of some unit, whose path stands here, comes to this
-pub record WalkEnds (m : RootedModel) (units : List UnitPath) (o : Outcome) (at : Place) : Type 0 where
+pub record WalkEnds (m : RootedModel) (units : List UnitPath) (o : WalkOutcome) (at : Place) : Type 0 where
   pub unit : UnitPath
   pub is_unit : IsOneOf units unit
   pub given : NamedMember
@@ -25,7 +25,7 @@ pub record WalkEnds (m : RootedModel) (units : List UnitPath) (o : Outcome) (at 
   pub place : at ≡ path.at
 
 -- the same of one unit
-pub record EndsIn (m : RootedModel) (u : UnitPath) (o : Outcome) (at : Place) : Type 0 where
+pub record EndsIn (m : RootedModel) (u : UnitPath) (o : WalkOutcome) (at : Place) : Type 0 where
   pub given : NamedMember
   pub is_given : IsOneOf (names_at m u) given
   pub path : Path

@@ -17,13 +17,13 @@ bounds_variables d form.Integer = false
 bounds_variables d (form.Named x) = is_some (domain_named d x.n)
 
 -- the place of the first of these types that has the name
-abbrev pub place_in : List (NameId × TypeBody) → ℕ → Option ℕ
-place_in [] x = None
-place_in (t ∷ ts) x = if t.0.n == x then Some 0 else option_map (λ k. k + 1) (place_in ts x)
+abbrev pub type_place_in : List (NameId × TypeBody) → ℕ → Option ℕ
+type_place_in [] x = None
+type_place_in (t ∷ ts) x = if t.0.n == x then Some 0 else option_map (λ k. k + 1) (type_place_in ts x)
 
 -- each name is looked up as it stands first among these types
 pub record KnowsPlaces (types : List (NameId × TypeBody)) (t : TypePlaces) : Type 0 where
-  pub each : (x : ℕ) → hash.get nat_eq t.places x ≡ place_in types x
+  pub each : (x : ℕ) → hash.get nat_eq t.places x ≡ type_place_in types x
 
 -- what is found is the type that is declared, as far as there is one
 pub data IsFound (symbols : List ℕ) : Option NamedType → Option TypeBody → Type 0 where

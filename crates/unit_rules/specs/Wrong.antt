@@ -7,7 +7,7 @@ use Rattle.class_table.specs.Members.{Site}
 use Rattle.hierarchy.specs.Models.{RootedModel}
 use Rattle.hierarchy.specs.Units.{UnitPath, set_at_of}
 use Rattle.hierarchy.specs.Settings.{target_of, settings_at}
-use Rattle.unit_rules.specs.Rules.{IsTarget}
+use Rattle.unit_rules.specs.Rules.{IsSettingTarget}
 
 -- setting k of these has the words of an earlier one
 pub record IsSetBefore (settings : List Setting) (k : ℕ) : Type 0 where
@@ -22,7 +22,7 @@ pub record IsSetBefore (settings : List Setting) (k : ℕ) : Type 0 where
 -- setting k of these, which hold in the unit u, is wrong, and stands here
 pub record BreaksAt (m : RootedModel) (u : UnitPath) (settings : List Setting) (k : ℕ) (s : Setting) (p : Place) : Type
     0 where
-  pub wrong : (IsTarget m u (target_of s) → ⊥) ⊎ IsSetBefore settings k
+  pub wrong : (IsSettingTarget m u (target_of s) → ⊥) ⊎ IsSetBefore settings k
   pub place : p ≡ s.at
 
 -- one of these settings is

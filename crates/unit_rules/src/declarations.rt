@@ -5,9 +5,9 @@ ghost use Rattle.ar_base.specs.Lists.{Along};
 ghost use Rattle.class_table.specs.Declaring.{Declared};
 ghost use Rattle.class_table.specs.Earliest.{IsEarliest};
 ghost use Rattle.class_table.specs.Members.{owned_at as declared_at};
-ghost use Rattle.class_table.specs.Tables.{Holds, IsBodyOf, IsNamedType, site_of};
+ghost use Rattle.class_table.specs.Tables.{HoldsDeclared, IsBodyOf, IsNamedType, site_of};
 ghost use Rattle.class_table.specs.declared.tables.Classes.{Classes as Table};
-ghost use Rattle.hierarchy.specs.Models.{RootedModel, IsTableFor};
+ghost use Rattle.hierarchy.specs.Models.{RootedModel, IsRootedTable};
 ghost use Rattle.hierarchy.specs.Units.{UnitPath};
 ghost use Rattle.hierarchy.specs.Listing.{form_of};
 ghost use Rattle.hierarchy.specs.Settings.{is_state as says_state, is_flow as says_flow};
@@ -46,7 +46,7 @@ pub fn is_flow(settings: &[Setting]) -> bool
 
 // The place of the first name of a declaration of variables without its one setting.
 fn wrong(owned: &Owned, classes: &Classes, places: &TypePlaces) -> Option<Place>
-    ensures { (d : Declared) → Holds d classes.now → KnowsPlaces classes.now.types.items places.now
+    ensures { (d : Declared) → HoldsDeclared d classes.now → KnowsPlaces classes.now.types.items places.now
         → IsEarliest (BreaksOne d (form_of (Some owned.now))) result }
 {
     let member = match owned {
@@ -83,7 +83,7 @@ pub fn owned_at(bodies: &[Body], site: (BodyId, u32)) -> Option<&Owned>
 
 // The place of a wrong declaration at a site.
 fn wrong_at(classes: &Classes, places: &TypePlaces, site: (BodyId, u32)) -> Option<Place>
-    ensures { (d : Declared) → Holds d classes.now → KnowsPlaces classes.now.types.items places.now
+    ensures { (d : Declared) → HoldsDeclared d classes.now → KnowsPlaces classes.now.types.items places.now
         → IsEarliest (BreaksOne d (form_of (declared_at d (site_of site)))) result }
 {
     match owned_at(&classes.bodies, site) {
@@ -94,7 +94,7 @@ fn wrong_at(classes: &Classes, places: &TypePlaces, site: (BodyId, u32)) -> Opti
 
 // The earliest place of a wrong declaration at these sites.
 fn wrong_in(classes: &Classes, places: &TypePlaces, sites: &[(BodyId, u32)]) -> Option<Place>
-    ensures { (d : Declared) → Holds d classes.now → KnowsPlaces classes.now.types.items places.now
+    ensures { (d : Declared) → HoldsDeclared d classes.now → KnowsPlaces classes.now.types.items places.now
         → IsEarliest (BreaksOne d (forms_of d (map site_of sites.now))) result }
 {
     let mut found = None;
@@ -110,7 +110,7 @@ fn of_bodies(
     classes: &Classes,
     places: &TypePlaces,
 ) -> Result<Vec<Option<Place>>, Memory>
-    ensures { (d : Declared) → Holds d classes.now → KnowsPlaces classes.now.types.items places.now
+    ensures { (d : Declared) → HoldsDeclared d classes.now → KnowsPlaces classes.now.types.items places.now
         → IfOk result (λ v. Along (IsFirstIn d) classes.now.bodies.items v.items) }
 {
     let mut firsts = Vec::new(alloc);
@@ -122,7 +122,7 @@ fn of_bodies(
 
 // The earliest place of a wrong declaration of a body.
 fn of_body(firsts: &[Option<Place>], body: BodyId) -> Option<Place>
-    ensures { (m : RootedModel) (classes : Table) → IsTableFor m classes
+    ensures { (m : RootedModel) (classes : Table) → IsRootedTable m classes
         → Along (IsFirstIn m.declared) classes.bodies.items firsts.now
         → IsEarliest (BreaksOne m.declared
         (forms_of m.declared (unwrap_or (slice_get m.members body.n) []))) result }

@@ -10,7 +10,7 @@ ghost use Rattle.class_table.specs.Members.{owned_at as declared_at};
 ghost use Rattle.class_table.specs.Tables.{IsBodyOf, site_of};
 ghost use Rattle.hierarchy.specs.Models.{RootedModel, IsKeptTable};
 ghost use Rattle.hierarchy.specs.Units.{UnitPath};
-ghost use Rattle.hierarchy.specs.Tie.{AreOutlines, IsOutline, IsUnit};
+ghost use Rattle.hierarchy.specs.Tie.{AreOutlines, IsOutline, IsUnitNode};
 ghost use Rattle.unit_walks.specs.Settling.{AreOutcomes};
 ghost use Rattle.unit_rules.specs.Naming.{Entry, AddsName, AddsNames, instance_names, inner_names, alias_names, names_if, names_at_sites};
 
@@ -259,7 +259,7 @@ fn node_of(
 ) -> Result<UnitNode, Memory>
     ensures { (m : RootedModel) (units : List UnitPath) (u : UnitPath) → IsKeptTable m classes.now
         → AreOutcomes m units walks.now → Stands units unit.n u → IsOutline m units u outline.now
-        → IfOk result (IsUnit m units u) }
+        → IfOk result (IsUnitNode m units u) }
 {
     let Some(body) = classes.bodies.get(outline.body.n as usize) else {
         return Err(Memory {});
@@ -286,7 +286,7 @@ pub fn name_units(
     ensures { (m : RootedModel) (units : List UnitPath)
         → AreOutlines m units classes.now outlines.now
         → AreOutcomes m units walks.now → IfOk result
-        (λ nodes. Along (IsUnit m units) units nodes.items) }
+        (λ nodes. Along (IsUnitNode m units) units nodes.items) }
 {
     let mut nodes = Vec::new(alloc);
     for (place, outline) in outlines.iter().enumerate() {

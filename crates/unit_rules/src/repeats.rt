@@ -3,7 +3,7 @@
 ghost use Rattle.std.specs.Prelude.{◌≡◌, ◌+◌, ℕ, List, map, IfOk};
 ghost use Rattle.ar_base.specs.Lists.{Stands};
 ghost use Rattle.ar_syntax.specs.declared.members.Setting.{Setting as SettingOf};
-ghost use Rattle.hierarchy.specs.Settings.{word_of, target_of};
+ghost use Rattle.hierarchy.specs.Settings.{target_word_of, target_of};
 ghost use Rattle.unit_rules.specs.Repeats.{code_of, HaveMet, MeetsOne};
 
 use ar_base::Memory;
@@ -20,7 +20,7 @@ pub(crate) struct Targets {
 
 // The number of a word.
 fn code(word: Word) -> u64
-    ensures { result ≡ code_of (word_of word) }
+    ensures { result ≡ code_of (target_word_of word) }
 {
     match word {
         Word::Init => 0,
@@ -31,7 +31,7 @@ fn code(word: Word) -> u64
 
 // The numbers of words.
 fn codes(alloc: Global, words: &[Word]) -> Result<Vec<u64>, Memory>
-    ensures { IfOk result (λ v. v.items ≡ map code_of (map word_of words.now)) }
+    ensures { IfOk result (λ v. v.items ≡ map code_of (map target_word_of words.now)) }
 {
     let mut codes = Vec::new(alloc);
     for word in words {
@@ -53,7 +53,7 @@ impl Targets {
     /// Meets one more target, and tells whether it is new.
     pub(crate) fn meet(&mut self, alloc: Global, words: &[Word]) -> Result<bool, Memory>
         ensures { (settings : List SettingOf) (i : ℕ) (s : SettingOf) → HaveMet settings i self.old
-            → Stands settings i s → map word_of words.now ≡ target_of s
+            → Stands settings i s → map target_word_of words.now ≡ target_of s
             → IfOk result (λ is_new. MeetsOne settings i is_new self.new) }
     {
         let codes = codes(alloc, words)?;

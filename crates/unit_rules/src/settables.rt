@@ -7,8 +7,8 @@ ghost use Rattle.ar_base.specs.declared.places.Place.{Place as PlaceOf};
 ghost use Rattle.class_table.specs.Declaring.{Declared};
 ghost use Rattle.ar_syntax.specs.declared.members.Member.{out-Member};
 ghost use Rattle.class_table.specs.Members.{Site, names_of, names_of_form, named_at, declared_kind, owned_at as declared_at};
-ghost use Rattle.class_table.specs.Tables.{Holds, site_of};
-ghost use Rattle.hierarchy.specs.Models.{RootedModel, IsTableFor};
+ghost use Rattle.class_table.specs.Tables.{HoldsDeclared, site_of};
+ghost use Rattle.hierarchy.specs.Models.{RootedModel, IsRootedTable};
 ghost use Rattle.hierarchy.specs.Units.{UnitPath, names_in};
 ghost use Rattle.hierarchy.specs.Tie.{AreOutlines};
 ghost use Rattle.unit_rules.specs.Typing.{KnowsPlaces};
@@ -63,7 +63,7 @@ fn declared(
     places: &TypePlaces,
 ) -> Option<Settable>
     ensures { (d : Declared) (s : Site)
-        → Holds d classes.now → KnowsPlaces classes.now.types.items places.now
+        → HoldsDeclared d classes.now → KnowsPlaces classes.now.types.items places.now
         → result ≡ option_and_then settable_of (declared_kind d s form settings.now) }
 {
     match form {
@@ -121,7 +121,7 @@ impl Settables {
         places: &TypePlaces,
     ) -> Result<(), Memory>
         ensures { (d : Declared) (s : Site)
-            → Holds d classes.now → KnowsPlaces classes.now.types.items places.now
+            → HoldsDeclared d classes.now → KnowsPlaces classes.now.types.items places.now
             → OnOk result (Adds body.n (entries_of (names_of_form d s (out-Member member.now)))
             self.old self.new) }
     {
@@ -154,7 +154,7 @@ impl Settables {
         places: &TypePlaces,
     ) -> Result<(), Memory>
         ensures { (d : Declared) (s : Site)
-            → Holds d classes.now → KnowsPlaces classes.now.types.items places.now
+            → HoldsDeclared d classes.now → KnowsPlaces classes.now.types.items places.now
             → OnOk result (Adds body.n (entries_of (names_of d s (Some owned.now)))
             self.old self.new) }
     {
@@ -173,7 +173,7 @@ impl Settables {
         places: &TypePlaces,
     ) -> Result<(), Memory>
         ensures { (d : Declared)
-            → Holds d classes.now → KnowsPlaces classes.now.types.items places.now
+            → HoldsDeclared d classes.now → KnowsPlaces classes.now.types.items places.now
             → OnOk result (Adds body.n
             (entries_of (names_of d (site_of site) (declared_at d (site_of site))))
             self.old self.new) }
@@ -193,7 +193,7 @@ impl Settables {
         places: &TypePlaces,
     ) -> Result<(), Memory>
         ensures { (d : Declared)
-            → Holds d classes.now → KnowsPlaces classes.now.types.items places.now
+            → HoldsDeclared d classes.now → KnowsPlaces classes.now.types.items places.now
             → OnOk result (Adds body.n (entries_of (named_at d (map site_of sites.now)))
             self.old self.new) }
     {
@@ -211,7 +211,7 @@ impl Settables {
         places: &TypePlaces,
     ) -> Result<(), Memory>
         ensures { (m : RootedModel)
-            → IsTableFor m classes.now → KnowsPlaces classes.now.types.items places.now
+            → IsRootedTable m classes.now → KnowsPlaces classes.now.types.items places.now
             → OnOk result (Adds body.n (entries_of (names_in m body.n)) self.old self.new) }
     {
         match classes.bodies.get(body.n as usize) {

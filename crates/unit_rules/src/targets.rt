@@ -5,9 +5,9 @@ ghost use Rattle.ar_base.specs.Lists.{Stands};
 ghost use Rattle.class_table.specs.declared.tables.Classes.{Classes as Table};
 ghost use Rattle.hierarchy.specs.Models.{RootedModel};
 ghost use Rattle.hierarchy.specs.Units.{UnitPath};
-ghost use Rattle.hierarchy.specs.Settings.{word_of, is_init as is_one_init, is_reset as is_one_reset};
+ghost use Rattle.hierarchy.specs.Settings.{target_word_of, is_init as is_one_init, is_reset as is_one_reset};
 ghost use Rattle.hierarchy.specs.Tie.{AreOutlines};
-ghost use Rattle.unit_rules.specs.Rules.{IsTarget};
+ghost use Rattle.unit_rules.specs.Rules.{IsSettingTarget};
 ghost use Rattle.unit_walks.specs.Settling.{AreOutcomes};
 ghost use Rattle.unit_rules.specs.Settables.{AreSettables};
 
@@ -19,14 +19,14 @@ use unit_walks::{Led, Walks};
 
 // Whether this is the one word `init`.
 fn is_init(words: &[Word]) -> bool
-    ensures { result ≡ is_one_init (map word_of words.now) }
+    ensures { result ≡ is_one_init (map target_word_of words.now) }
 {
     matches!(words, [Word::Init])
 }
 
 // Whether this is the one word `reset`.
 fn is_reset(words: &[Word]) -> bool
-    ensures { result ≡ is_one_reset (map word_of words.now) }
+    ensures { result ≡ is_one_reset (map target_word_of words.now) }
 {
     matches!(words, [Word::Reset])
 }
@@ -44,7 +44,7 @@ pub(crate) fn is_target(
     ensures { (m : RootedModel) (units : List UnitPath) (classes : Table) (u : UnitPath)
         → AreOutlines m units classes outlines.now → AreOutcomes m units walks.now
         → AreSettables m units settables.now → Stands units unit.n u
-        → IsTrue result ↔ IsTarget m u (map word_of words.now) }
+        → IsTrue result ↔ IsSettingTarget m u (map target_word_of words.now) }
 {
     let Some((word, rest)) = words.split_first() else {
         return false;

@@ -7,7 +7,7 @@ ghost use Rattle.class_table.specs.Declaring.{Declared};
 ghost use Rattle.class_table.specs.declared.tables.Body.{Body as BodyOf};
 ghost use Rattle.class_table.specs.declared.tables.Classes.{Classes as Table};
 ghost use Rattle.class_table.specs.Tables.{IsBodyOf, IsNamedType, site_of};
-ghost use Rattle.hierarchy.specs.Models.{RootedModel, IsTableFor};
+ghost use Rattle.hierarchy.specs.Models.{RootedModel, IsRootedTable};
 ghost use Rattle.hierarchy.specs.Units.{UnitPath, names_at};
 ghost use Rattle.unit_rules.specs.Sizes.{tree_nodes};
 ghost use Rattle.hierarchy.specs.Tie.{AreOutlines};
@@ -101,7 +101,7 @@ fn of_bodies(alloc: Global, rows: &[Vec<Counts>], bodies: &[Body]) -> Result<Vec
 
 // The counts of a body.
 fn at_body(counts: &[Counts], body: BodyId) -> Counts
-    ensures { (m : RootedModel) (classes : Table) → IsTableFor m classes
+    ensures { (m : RootedModel) (classes : Table) → IsRootedTable m classes
         → Along (AreOfBody m.declared) classes.bodies.items counts.now
         → AreAt m.declared (unwrap_or (slice_get m.members body.n) []) result }
 {

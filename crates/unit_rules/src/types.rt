@@ -8,7 +8,7 @@ ghost use Rattle.class_table.specs.declared.tables.TypeBody.{TypeBody as Body};
 ghost use Rattle.class_table.specs.Declaring.{Declared};
 ghost use Rattle.class_table.specs.Members.{type_named};
 ghost use Rattle.class_table.specs.Tables.{IsNamedType};
-ghost use Rattle.unit_rules.specs.Typing.{place_in, KnowsPlaces, IsFound, bounds_variables};
+ghost use Rattle.unit_rules.specs.Typing.{type_place_in, KnowsPlaces, IsFound, bounds_variables};
 
 use ar_base::{Memory, NameId};
 use ar_syntax::TypeForm;
@@ -40,9 +40,9 @@ impl TypePlaces {
     // Adds the place of a type, where its name has none.
     fn add(&mut self, name: NameId, place: usize) -> Result<(), Memory>
         ensures { (types : List (Name × Body)) (body : Body) → length types ≡ place
-            → ((x : ℕ) → hash.get nat_eq self.old.places x ≡ place_in types x)
+            → ((x : ℕ) → hash.get nat_eq self.old.places x ≡ type_place_in types x)
             → OnOk result ((x : ℕ) → hash.get nat_eq self.new.places x
-            ≡ place_in (types ++ (name, body) ∷ []) x) }
+            ≡ type_place_in (types ++ (name, body) ∷ []) x) }
     {
         if self.places.contains_key(&name.n) {
             return Ok(());

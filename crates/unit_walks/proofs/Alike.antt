@@ -5,14 +5,14 @@ use Rattle.ar_syntax.specs.declared.paths.PathStart.{PathStart}
 use Rattle.ar_syntax.specs.declared.paths.PathStart.TheVariants.{Here, Owner, Main}
 use Rattle.class_table.specs.Members.{MemberKind}
 use Rattle.hierarchy.specs.Models.{RootedModel}
-use Rattle.hierarchy.specs.Units.{UnitPath, Level, same_unit, body_of, set_at_of, bodies_of, has, kind_at, start_of, numbers}
+use Rattle.hierarchy.specs.Units.{UnitPath, UnitLevel, same_unit, body_of, set_at_of, bodies_of, has_number, kind_at, start_of, numbers}
 use Rattle.unit_walks.specs.Forms.{kind_in}
 use Rattle.unit_walks.specs.Ends.{NameEnds, NamesEnd, inner, clones, clones_none, embeds, no_unit, absent, nowhere, arrives, on, stops}
 
 -- the same names and bodies
 pub data Alike : UnitPath → UnitPath → Type 0 where
   main : Alike [] []
-  level : {l k : Level} {u w : UnitPath} → l.name ≡ k.name → l.body ≡ k.body → Alike u w → Alike (l ∷ u) (k ∷ w)
+  level : {l k : UnitLevel} {u w : UnitPath} → l.name ≡ k.name → l.body ≡ k.body → Alike u w → Alike (l ∷ u) (k ∷ w)
 
 -- the same of what may be no unit
 pub data AlikeIf : Option UnitPath → Option UnitPath → Type 0 where
@@ -74,9 +74,9 @@ mutual
       let q = runs_alike (start_alike p.start a) r in
       let v = some_alike q.2 in
       let run = subst (λ o. NamesEnd s n (start_of p.start w) (numbers p.names.items) o) v.1 q.1 in
-      let free : has (bodies_of s w) (body_of s v.0) ≡ false =
-      subst (λ b. has (bodies_of s w) b ≡ false) (body_alike s v.2)
-      (subst (λ bs. has bs (body_of s t) ≡ false) (bodies_alike s a) h) in (
+      let free : has_number (bodies_of s w) (body_of s v.0) ≡ false =
+      subst (λ b. has_number (bodies_of s w) b ≡ false) (body_alike s v.2)
+      (subst (λ bs. has_number bs (body_of s t) ≡ false) (bodies_alike s a) h) in (
         Some (record { name = x; body = body_of s v.0; set_at = set_at_of v.0 } ∷ w),
         clones run free,
         some

@@ -5,8 +5,8 @@ use Rattle.std.proofs.lemmas.Option.{same_Some}
 use Rattle.ar_base.proofs.Comparing.{itself}
 use Rattle.class_table.specs.Members.{MemberKind}
 use Rattle.hierarchy.specs.Models.{RootedModel}
-use Rattle.hierarchy.specs.Units.{UnitPath, Thing, body_of, set_at_of, bodies_of, has, is_among, same_thing, kind_at}
-use Rattle.hierarchy.specs.Walks.{Outcome, Reaches, Nothing, NameLeads, NamesLead, thing, cloned}
+use Rattle.hierarchy.specs.Units.{UnitPath, Thing, body_of, set_at_of, bodies_of, has_number, is_among, same_thing, kind_at}
+use Rattle.hierarchy.specs.Walks.{WalkOutcome, Reaches, Nothing, NameLeads, NamesLead, thing, cloned}
 use Rattle.hierarchy.specs.Walks as g
 use Rattle.hierarchy.proofs.SameUnits.{unit_itself}
 use Rattle.unit_walks.specs.Ends.{NameEnds, NamesEnd, AreHigher, AreEndless, inner, clones, clones_none, embeds, no_unit, absent, nowhere, arrives, on, stops}
@@ -119,11 +119,11 @@ endless_more {s = s} {f = f} {u = u} {x = x} a d =
 pub higher_endless : {s : RootedModel} {f : List Thing} (n : ℕ) → AreEndless s f → AreHigher s f n
 higher_endless n a = record { higher = λ x k u t i d. absurd (a.endless x k u t i d) }
 
-not_looping : (s : RootedModel) (u t : UnitPath) (x : ℕ) → has (bodies_of s u) (body_of s t) ≡ false
+not_looping : (s : RootedModel) (u t : UnitPath) (x : ℕ) → has_number (bodies_of s u) (body_of s t) ≡ false
     → Reaches (record { name = x; body = body_of s t; set_at = set_at_of t } ∷ u) ≡ cloned s u x (Reaches t)
 not_looping s u t x h = rw h refl
 
-abbrev pub outcome_of : Option UnitPath → Outcome
+abbrev pub outcome_of : Option UnitPath → WalkOutcome
 outcome_of None = Nothing
 outcome_of (Some v) = Reaches v
 

@@ -11,19 +11,19 @@ use Rattle.ar_base.specs.declared.faults.RuleFault.TheVariants.{Rule, Limit, Mem
 use Rattle.ar_base.proofs.Standing.{stands_left, stands_one, stands_none, stands_get, along_on, along_length}
 use Rattle.class_table.specs.Members.{MemberKind, NamedMember, Inner, Clone, Alias}
 use Rattle.hierarchy.specs.Models.{RootedModel}
-use Rattle.hierarchy.specs.Units.{UnitPath, Level, Thing, body_of, set_at_of, bodies_of, has, kind_at, names_at, names_in}
-use Rattle.hierarchy.specs.Walks.{Outcome, Reaches, NameLeads, clones, inner, cloned}
+use Rattle.hierarchy.specs.Units.{UnitPath, UnitLevel, Thing, body_of, set_at_of, bodies_of, has_number, kind_at, names_at, names_in}
+use Rattle.hierarchy.specs.Walks.{WalkOutcome, Reaches, NameLeads, clones, inner, cloned}
 use Rattle.hierarchy.specs.Walks as g
-use Rattle.hierarchy.specs.Listing.{Lists, Insides, Makes, MakesNone, is_inner, unit, none, cut, makes, makes_cut, passes}
+use Rattle.hierarchy.specs.Listing.{ListsUnits, Insides, MakesUnit, MakesNone, is_inner, unit, none, cut, makes, makes_cut, passes}
 use Rattle.hierarchy.specs.Listing as h
-use Rattle.hierarchy.specs.Tie.{IsOwner, IsOutline, of_main, of_unit, IsName, IsSetAt}
+use Rattle.hierarchy.specs.Tie.{IsOwner, IsOutline, of_main, of_unit, IsNameOfUnit, IsSetAt}
 use Rattle.hierarchy.proofs.Outcomes.{unit_of_reaches}
 use Rattle.unit_walks.specs.Ends.{AreHigher, AreEndless}
 use Rattle.unit_walks.specs.Forms.{may_be_unit, only_units, IsUnitName, IsFormOf, IsFormsFor, list_at}
 use Rattle.unit_walks.specs.Forms as f
 use Rattle.unit_walks.specs.Tables.{paths_of, IsTable, Means, EndsAt, EndsNowhere}
 use Rattle.unit_walks.specs.Walking.{IsRun, IsKnown}
-use Rattle.unit_walks.specs.Unfolding.{AreShallow, deep, many, Refuses, depth}
+use Rattle.unit_walks.specs.Unfolding.{AreShallow, deep, many, RefusesUnits, depth}
 use Rattle.unit_walks.specs.Unfolding as o
 use Rattle.unit_walks.specs.Growing.{IsMade, IsMadeBy, IsNodeOf, Tied, AllShallow, Grows, Over, OnLimit, HasGrown, HasGrownInside, HasPassed, HasPassedInside, IsUnfolded}
 use Rattle.unit_walks.specs.declared.forms.Forms.{Forms}
@@ -65,7 +65,7 @@ module _ (s : RootedModel) (old new : Table) (a x : ℕ) (r : Known) (u : UnitPa
   means : (q : Known) → r ≡ q → Means s (paths_of new) [] a u x q
   means q e = subst (λ r. Means s (paths_of new) [] a u x r) e (k.known u (k.extends.units a u p))
 
-  here : (o : Outcome) → NameLeads s [] u x (kind_at s u x) o → NameLeads s [] u n.name (Some n.kind) o
+  here : (o : WalkOutcome) → NameLeads s [] u x (kind_at s u x) o → NameLeads s [] u n.name (Some n.kind) o
   here o d = subst (λ m. NameLeads s [] u n.name m o) kind
       (subst (λ y. NameLeads s [] u y (kind_at s u y) o) (sym named) d)
 
@@ -195,8 +195,8 @@ front_pass {s = s} {before = before} w n g = record {
 
 front_makes : {s : RootedModel} {before paths more : List UnitPath} {u : UnitPath} {all ms : List NamedMember}
     {m : NamedMember} {old mid new : List Node} (v : UnitPath) → IsWider paths more
-    → Makes s u m v → (g : Grows s before paths (Front s u all (m ∷ ms)) old mid)
-    → Grows s (before ++ g.units) more (Lists s true v) mid new → Grows s before more (Front s u all ms) old new
+    → MakesUnit s u m v → (g : Grows s before paths (Front s u all (m ∷ ms)) old mid)
+    → Grows s (before ++ g.units) more (ListsUnits s true v) mid new → Grows s before more (Front s u all ms) old new
 front_makes {s = s} {before = before} {more = more} {u = u} {all = all} {old = old} v x k g h = record {
   units = g.units ++ h.units;
   are = λ w vs d. subst (λ ws. Insides s w u all ws) (sym (append_assoc g.units h.units vs))
@@ -250,7 +250,7 @@ insides_only s u (g ∷ gs) whole us d = go (λ w vs. insides_only s u gs w vs) 
 unit_grows : {s : RootedModel} {before paths : List UnitPath} {old new : List Node} (v : UnitPath) (d : Node)
     → length v < 64 → IsOutline s before v d.outline → Stands paths d.unit v
     → Grows s (before ++ v ∷ []) paths (Insides s true v (names_at s v)) (old ++ d ∷ []) new
-    → Grows s before paths (Lists s true v) old new
+    → Grows s before paths (ListsUnits s true v) old new
 unit_grows {s = s} {before = before} {paths = paths} {old = old} v d l o n g = record {
   units = v ∷ g.units;
   are = unit g.are;
@@ -286,32 +286,33 @@ more_length s before paths old mid us ds l e t =
     length-append before us ∙ ap (λ n. n + length us) l ∙ ap (λ n. length old + n) (along_length us ds t)
     ∙ sym (length-append old ds) ∙ ap length (sym e)
 
-clone_inside : (s : RootedModel) (u v : UnitPath) (x : ℕ) (r : Outcome) → Reaches v ≡ cloned s u x r
-    → (l : Level) × (v ≡ l ∷ u)
+clone_inside : (s : RootedModel) (u v : UnitPath) (x : ℕ) (r : WalkOutcome) → Reaches v ≡ cloned s u x r
+    → (l : UnitLevel) × (v ≡ l ∷ u)
 clone_inside s u v x g.Nothing e = cc
 clone_inside s u v x g.Loops e = cc
-clone_inside s u v x (Reaches t) e = go (has (bodies_of s u) (body_of s t)) refl
+clone_inside s u v x (Reaches t) e = go (has_number (bodies_of s u) (body_of s t)) refl
   where
-    go : (b : Bool) → has (bodies_of s u) (body_of s t) ≡ b → (l : Level) × (v ≡ l ∷ u)
+    go : (b : Bool) → has_number (bodies_of s u) (body_of s t) ≡ b → (l : UnitLevel) × (v ≡ l ∷ u)
     go true h = let k = rw h at e in absurd (cc k)
     go false h = let k = rw h at e in (record { name = x; body = body_of s t; set_at = set_at_of t }, unit_of_reaches k)
 
 inside_of : (s : RootedModel) (f : List Thing) (u v : UnitPath) (x : ℕ) (m : MemberKind) → is_inner m ≡ true
-    → NameLeads s f u x (Some m) (Reaches v) → (l : Level) × (v ≡ l ∷ u)
+    → NameLeads s f u x (Some m) (Reaches v) → (l : UnitLevel) × (v ≡ l ∷ u)
 inside_of s f u v x (Inner b a) o inner = (record { name = x; body = b; set_at = a }, refl)
 inside_of s f u v x (Clone p) o (clones {o = r} n d e) = clone_inside s u v x r e
 inside_of s f u v x (Alias p) o d = cc
 inside_of s f u v x _ o d = cc
 
-pub made_inside : (s : RootedModel) (u v : UnitPath) (m : NamedMember) → Makes s u m v → (l : Level) × (v ≡ l ∷ u)
+pub made_inside : (s : RootedModel) (u v : UnitPath) (m : NamedMember) → MakesUnit s u m v
+    → (l : UnitLevel) × (v ≡ l ∷ u)
 made_inside s u v m k = inside_of s [] u v m.name m.kind k.inner k.leads
 
-owner_inside : (all : List UnitPath) (u v : UnitPath) (l : Level) (id : UnitId) → v ≡ l ∷ u → Stands all id.n u
+owner_inside : (all : List UnitPath) (u v : UnitPath) (l : UnitLevel) (id : UnitId) → v ≡ l ∷ u → Stands all id.n u
     → IsOwner all v (Some id)
 owner_inside all u v l id e p = subst (λ v. IsOwner all v (Some id)) (sym e) (of_unit p)
 
 -- a unit inside another is one deeper
-pub made_depth : (s : RootedModel) (u v : UnitPath) (m : NamedMember) (room : ℕ) → Makes s u m v
+pub made_depth : (s : RootedModel) (u v : UnitPath) (m : NamedMember) (room : ℕ) → MakesUnit s u m v
     → length u + 1 + room ≡ 64 → length v + room ≡ 64
 made_depth s u v m room k d = let w = made_inside s u v m k in let e = ap length w.1 in omega arith
 
@@ -347,7 +348,7 @@ fronts_passed s first now next old mid u at gs i g o p d n w = record {
 pub fronts_grown : (s : RootedModel) (first now next last : Table) (old mid new : List Node) (u : UnitPath)
     (at : UnitId) (gs : List NamedMember) (i k : ℕ) (g : NamedMember) (o : Option ℕ) → Stands gs i g
     → (d : IsMadeBy s now next u g o) → o ≡ Some k
-    → ((v : UnitPath) → Stands (paths_of next) k v → Makes s u g v → HasGrown s v (Some at) next last mid new)
+    → ((v : UnitPath) → Stands (paths_of next) k v → MakesUnit s u g v → HasGrown s v (Some at) next last mid new)
     → Fronts s first now old mid u at.n gs i → Fronts s first last old new u at.n gs (i + 1)
 fronts_grown s first now next last old mid new u at gs i k g o p d n call w =
     let m = subst (λ o. IsMade s (paths_of next) u g o) n d.made in
@@ -395,7 +396,7 @@ if_limit (Err e) k h = k e h
 pub fronts_over : (s : RootedModel) (e : RuleFault) (first now next : Table) (old mid : List Node) (u : UnitPath)
     (at : UnitId) (i k : ℕ) (g : NamedMember) (o : Option ℕ) → Stands (only_units (names_at s u)) i g
     → (d : IsMadeBy s now next u g o) → o ≡ Some k
-    → ((v : UnitPath) → Stands (paths_of next) k v → Makes s u g v → HasPassed s v (Some at) mid e)
+    → ((v : UnitPath) → Stands (paths_of next) k v → MakesUnit s u g v → HasPassed s v (Some at) mid e)
     → Fronts s first now old mid u at.n (only_units (names_at s u)) i → HasPassedInside s u at.n old e
 fronts_over s e first now next old mid u at i k g o p d n call w =
     let m = subst (λ o. IsMade s (paths_of next) u g o) n d.made in
@@ -428,7 +429,7 @@ outline_of s t a u d n before k p e x b z o =
     let m = met_there s [] t k a u d p e in
     record {
       owner = o;
-      name = subst (λ x. IsName u x) (sym x) m.name;
+      name = subst (λ x. IsNameOfUnit u x) (sym x) m.name;
       body = ap (λ b. b.n) b ∙ sym m.body;
       set_at = subst (λ at. IsSetAt (set_at_of u) at) (sym z) m.set_at;
     }
@@ -505,7 +506,8 @@ pub depth_first : (s : RootedModel) (first : Table) → IsTable s [] first → (
     → Stands (paths_of first) 0 path → length path + 64 ≡ 64
 depth_first s first k path p = let h = ap length (stands_one (paths_of first) 0 path [] p k.main) in omega arith
 
-pub refused : (m : RootedModel) (e : RuleFault) (old : List Node) → old ≡ [] → HasPassed m [] None old e → Refuses m e
+pub refused : (m : RootedModel) (e : RuleFault) (old : List Node) → old ≡ [] → HasPassed m [] None old e
+    → RefusesUnits m e
 refused m (Limit c) old z w = let p = w [] (ap length (sym z)) tt of_main in o.limit (o.over p.are p.over)
 refused m (Rule r p) old z w = absurd w
 refused m Memory old z w = o.memory

@@ -4,8 +4,8 @@ use Rattle.std.proofs.lemmas.Option.{same_Some}
 use Rattle.ar_syntax.specs.declared.paths.Path.{Path}
 use Rattle.class_table.specs.Members.{MemberKind}
 use Rattle.hierarchy.specs.Models.{RootedModel}
-use Rattle.hierarchy.specs.Units.{UnitPath, Thing, start_of, body_of, bodies_of, has, is_among, kind_at, numbers}
-use Rattle.hierarchy.specs.Walks.{Outcome, Reaches, Loops, NameLeads, NamesLead, thing, cloned}
+use Rattle.hierarchy.specs.Units.{UnitPath, Thing, start_of, body_of, bodies_of, has_number, is_among, kind_at, numbers}
+use Rattle.hierarchy.specs.Walks.{WalkOutcome, Reaches, Loops, NameLeads, NamesLead, thing, cloned}
 use Rattle.hierarchy.specs.Walks as g
 use Rattle.unit_walks.specs.Ends.{NameEnds, NamesEnd, AreEndless, NeverEnds, Reached, IsStatement, clone, alias, clones, clones_none, embeds, no_unit, arrives, on, stops}
 use Rattle.unit_walks.proofs.EndsLead.{ends_same, runs_same, endless_more, higher_endless, among_first, among_more, runs_goes}
@@ -32,7 +32,7 @@ runs_rest {s = s} {xs = x ∷ xs} ys {o = o} (on n k w d r e) (on n' k' w' d' r'
     record { height = b.height; total = omega arith; run = b.run }
 runs_rest ys (on n k w d r e) (stops d') = absurd (cc (ends_same d d').1)
 
-pub goes_on : {s : RootedModel} {f : List Thing} {u : Option UnitPath} {v : UnitPath} {xs ys : List ℕ} {o : Outcome}
+pub goes_on : {s : RootedModel} {f : List Thing} {u : Option UnitPath} {v : UnitPath} {xs ys : List ℕ} {o : WalkOutcome}
     → NamesLead s f u xs (Reaches v) → NamesLead s f (Some v) ys o → NamesLead s f u (xs ++ ys) o
 goes_on g.arrives r = r
 goes_on (g.on w d r) q = g.on w d (goes_on r q)
@@ -163,13 +163,14 @@ cycle_doomed {s = s} {u = u} {x = x} w l = record {
       (λ more. leads_loop l (thing u x ∷ f) (cycle_never w l) more (among_first f (thing u x)) w);
 }
 
-cloned_loops : (s : RootedModel) (u t : UnitPath) (x : ℕ) → has (bodies_of s u) (body_of s t) ≡ true
+cloned_loops : (s : RootedModel) (u t : UnitPath) (x : ℕ) → has_number (bodies_of s u) (body_of s t) ≡ true
     → Loops ≡ cloned s u x (Reaches t)
 cloned_loops s u t x h = rw h refl
 
 -- a clone of a unit that has the body of a unit above it
 clone_never : {s : RootedModel} {u t : UnitPath} {x h : ℕ} {p : Path} {m : Option MemberKind} → IsStatement p true m
-    → NamesEnd s h (start_of p.start u) (numbers p.names.items) (Some t) → has (bodies_of s u) (body_of s t) ≡ true
+    → NamesEnd s h (start_of p.start u) (numbers p.names.items) (Some t)
+    → has_number (bodies_of s u) (body_of s t) ≡ true
     → (n : ℕ) (o : Option UnitPath) → NameEnds s n u x m o → ⊥
 clone_never clone r h n o (clones {t = t} q k) = let e = same_Some _ _ (runs_same r q).1 in cc
 clone_never clone r h n o (clones_none q) = cc (runs_same r q).1
@@ -178,11 +179,11 @@ clone_never clone r h n o (no_unit y) = cc
 clone_loops : {s : RootedModel} {f : List Thing} {u t : UnitPath} {x : ℕ} {p : Path} {m : Option MemberKind}
     → IsStatement p true m → is_among f (thing u x) ≡ false
     → NamesLead s (thing u x ∷ f) (start_of p.start u) (numbers p.names.items) (Reaches t)
-    → has (bodies_of s u) (body_of s t) ≡ true → NameLeads s f u x m Loops
+    → has_number (bodies_of s u) (body_of s t) ≡ true → NameLeads s f u x m Loops
 clone_loops {s = s} {u = u} {t = t} {x = x} clone n r h = g.clones n r (cloned_loops s u t x h)
 
 pub above_doomed : {s : RootedModel} {u t : UnitPath} {x : ℕ} → Reached s u x true t []
-    → has (bodies_of s u) (body_of s t) ≡ true → NeverEnds s u x
+    → has_number (bodies_of s u) (body_of s t) ≡ true → NeverEnds s u x
 above_doomed {s = s} {u = u} {t = t} {x = x} r h =
     record { never = never; loops = λ f a. go f a (is_among f (thing u x)) refl }
   where

@@ -15,12 +15,12 @@ use Rattle.ar_syntax.specs.declared.members.Setting.{Setting}
 use Rattle.ar_syntax.specs.declared.members.TypeForm.{TypeForm}
 use Rattle.ar_syntax.specs.declared.members.TypeForm.TheVariants as form
 use Rattle.class_table.specs.Declaring.{Declared, NamedType, DomainType, ClassType}
-use Rattle.class_table.specs.Members.{Site, MemberKind, Inner, Variable, NamedMember, named_at, names_of, owned_at, all_named, declared_kind, kind_of, class_body, type_named}
+use Rattle.class_table.specs.Members.{Site, MemberKind, Inner, Variable, NamedMember, named_at, names_of, owned_at, all_named, declared_kind, member_kind_of, class_body, type_named}
 use Rattle.class_table.specs.Rules.{l4}
 use Rattle.class_table.specs.declared.tables.Body.{Body}
 use Rattle.class_table.specs.Tables.{site_of}
 use Rattle.class_table.proofs.Taken.{map_next, item_stands}
-use Rattle.hierarchy.specs.Models.{RootedModel, IsKept, sites_kept}
+use Rattle.hierarchy.specs.Models.{RootedModel, KeepsTextRules, sites_kept}
 use Rattle.hierarchy.specs.Units.{names_in}
 use Rattle.unit_walks.specs.Classes.{ClassBodies, instance_in, AreClasses}
 use Rattle.unit_walks.specs.Forms.{may_be_unit, only_units, instances, IsUnitName, IsUnitList, same_pair, HasName, AreIndexed, AreOnce, IsFormsFor, inner}
@@ -57,7 +57,8 @@ declares_none d classes s (form.Named x) settings names k e =
     go (type_named d x.n) (sym (k.each x.n) ∙ ap (λ o. option_map (λ (b : BodyId). b.n) o) (sym e))
   where
     go : (t : Option NamedType) → option_and_then class_body t ≡ None
-        → only_units (all_named s (option_map (λ (t : NamedType). kind_of s (form.Named x) t settings) t) names) ≡ []
+        → only_units (all_named s (option_map (λ (t : NamedType). member_kind_of s (form.Named x) t settings) t) names)
+        ≡ []
     go None h = refl
     go (Some (DomainType b)) h = only_none s (Variable (form.Named x) settings) names refl
     go (Some (ClassType b)) h = none_some (sym h)
@@ -72,7 +73,7 @@ declares_instances d classes s (form.Named x) settings names b k e =
     go (type_named d x.n) (sym (k.each x.n) ∙ ap (λ o. option_map (λ (b : BodyId). b.n) o) (sym e))
   where
     go : (t : Option NamedType) → option_and_then class_body t ≡ Some b.n
-        → only_units (all_named s (option_map (λ (t : NamedType). kind_of s (form.Named x) t settings) t) names)
+        → only_units (all_named s (option_map (λ (t : NamedType). member_kind_of s (form.Named x) t settings) t) names)
         ≡ instances s b.n names
     go None h = none_some h
     go (Some (DomainType z)) h = none_some h
@@ -213,7 +214,7 @@ members_out m b j g p = go (slice_get m.members b) refl
     go (Some sites) e = (sites, e)
     go None e = absurd (stands_none j g (subst (λ o. Stands (named_at m.declared (unwrap_or o [])) j g) e p))
 
-never_before : (m : RootedModel) → IsKept m → (b i j : ℕ) (g h : NamedMember) → Stands (names_in m b) i g
+never_before : (m : RootedModel) → KeepsTextRules m → (b i j : ℕ) (g h : NamedMember) → Stands (names_in m b) i g
     → Stands (names_in m b) j h → g.name ≡ h.name → i < j → ⊥
 never_before m k b i j g h p q e l =
     let o = members_out m b i g p in
@@ -235,7 +236,7 @@ never_before m k b i j g h p q e l =
       place = refl;
     }))
 
-pub are_once : (m : RootedModel) → IsKept m → AreOnce m
+pub are_once : (m : RootedModel) → KeepsTextRules m → AreOnce m
 are_once m k = record { once = λ b i j g h p q e. go b i j g h p q e (cases_eq i j) }
   where
     order : (i j : ℕ) → (i ≡ j → ⊥) → (i < j) ⊎ (j < i)
@@ -253,8 +254,8 @@ are_once m k = record { once = λ b i j g h p q e. go b i j g h p q e (cases_eq 
       | inr l ↦ absurd (never_before m k b j i h g q p (sym e) l)
     ]
 
-pub forms_ready : (m : RootedModel) (f : Forms) (bodies : List Body) → IsKept m → map sites_kept bodies ≡ m.members
-    → Along (IsUnitList m.declared) f.lists.items (map sites_kept bodies)
+pub forms_ready : (m : RootedModel) (f : Forms) (bodies : List Body) → KeepsTextRules m → map sites_kept bodies
+    ≡ m.members → Along (IsUnitList m.declared) f.lists.items (map sites_kept bodies)
     → AreIndexed f.lists.items (length f.lists.items) 0 f.places → IsFormsFor m f
 forms_ready m f bodies k e a i = record {
   lists = subst (λ ss. Along (IsUnitList m.declared) f.lists.items ss) e a;

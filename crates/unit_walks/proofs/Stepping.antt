@@ -8,7 +8,7 @@ use Rattle.ar_syntax.specs.declared.paths.Path.{Path}
 use Rattle.class_table.specs.Members.{Site, MemberKind, Inner, Clone, Alias, Variable, Parameter, Kept, Event, Observer}
 use Rattle.class_table.specs.Tables.{site_of}
 use Rattle.hierarchy.specs.Models.{RootedModel}
-use Rattle.hierarchy.specs.Units.{UnitPath, Level, start_of, body_of, set_at_of, bodies_of, has, kind_at, numbers}
+use Rattle.hierarchy.specs.Units.{UnitPath, UnitLevel, start_of, body_of, set_at_of, bodies_of, has_number, kind_at, numbers}
 use Rattle.hierarchy.specs.Walks.{is_unitless}
 use Rattle.hierarchy.specs.Tie.{IsSetAt, none, some}
 use Rattle.unit_walks.specs.Ends.{NameEnds, NamesEnd, NeverEnds, Reached, IsStatement, clone, alias, inner, clones, clones_none, embeds, no_unit, absent, nowhere, arrives, on, stops}
@@ -111,7 +111,8 @@ alias_ends : {s : RootedModel} {u : UnitPath} {x n : ℕ} {p : Path} {m : Option
 alias_ends alias r = embeds r
 
 clone_ends : {s : RootedModel} {u t : UnitPath} {x n : ℕ} {p : Path} {m : Option MemberKind} → IsStatement p true m
-    → NamesEnd s n (start_of p.start u) (numbers p.names.items) (Some t) → has (bodies_of s u) (body_of s t) ≡ false
+    → NamesEnd s n (start_of p.start u) (numbers p.names.items) (Some t)
+    → has_number (bodies_of s u) (body_of s t) ≡ false
     → NameEnds s (suc n) u x m (Some (record { name = x; body = body_of s t; set_at = set_at_of t } ∷ u))
 clone_ends clone r h = clones r h
 
@@ -148,12 +149,12 @@ walking_met top t d e s below w = met_there s (below ++ top ∷ []) t w.table to
 pub arrived_above : (top : Frame) (old new : Table) (r : Step) (d : Met) → top.is_clone ≡ true → top.rest.now ≡ []
     → r ≡ Done → IsSet old new top.unit top.name.n Loops 0 → Some d ≡ slice_get old.units.items top.at
     → ((s : RootedModel) (frames : List Frame) (u : UnitPath) → IsTable s frames old → Stands (paths_of old) top.unit u
-    → true ≡ has (bodies_of s u) d.body.n) → IsStep top old new r
+    → true ≡ has_number (bodies_of s u) d.body.n) → IsStep top old new r
 arrived_above top old new r d a over e i f h s below w =
     let q = walking_met top old d f s below w in
     let z = h s (below ++ top ∷ []) w.from w.table w.frame.unit in
     answered Loops r w e i (above_doomed (reached_end a (none_to_go top.rest.now over) w.frame.reached)
-    (subst (λ b. has (bodies_of s w.from) b ≡ true) (sym q.body) (sym z)))
+    (subst (λ b. has_number (bodies_of s w.from) b ≡ true) (sym q.body) (sym z)))
 
 site_same : (a b c d : ℕ) → a ≡ b → c ≡ d
     → ◌≡◌ {A = Option Site} (Some (record { body = b; place = d })) (Some (record { body = a; place = c }))
@@ -166,7 +167,7 @@ set_at_same (Some site) None h = elim h [ ]
 set_at_same (Some site) (Some at) (some p q) = site_same at.0.n site.body at.1 site.place p q
 
 level_same : (x a b : ℕ) (o p : Option Site) → a ≡ b → o ≡ p
-    → ◌≡◌ {A = Level} (record { name = x; body = a; set_at = o }) (record { name = x; body = b; set_at = p })
+    → ◌≡◌ {A = UnitLevel} (record { name = x; body = a; set_at = o }) (record { name = x; body = b; set_at = p })
 level_same x a b o p e f = cc
 
 pub arrived_clone : (top : Frame) (old mid new : Table) (r : Step) (d c : Met) (n : ℕ) → top.is_clone ≡ true
@@ -174,14 +175,15 @@ pub arrived_clone : (top : Frame) (old mid new : Table) (r : Step) (d c : Met) (
     → c ≡ record { owner = Some top.unit; name = top.name; body = d.body; set_at = d.set_at } → IsGrown old mid c n
     → IsSet mid new top.unit top.name.n (ToUnit n) 0 → Some d ≡ slice_get old.units.items top.at
     → ((s : RootedModel) (frames : List Frame) (u : UnitPath) → IsTable s frames old → Stands (paths_of old) top.unit u
-    → false ≡ has (bodies_of s u) d.body.n) → IsStep top old new r
+    → false ≡ has_number (bodies_of s u) d.body.n) → IsStep top old new r
 unfolding walking_grown
 arrived_clone top old mid new r d c n a over e is g i f h s below w =
     let q = reached_end a (none_to_go top.rest.now over) w.frame.reached in
     let y = walking_met top old d f s below w in
     let z = h s (below ++ top ∷ []) w.from w.table w.frame.unit in
     let o : c.owner ≡ Some top.unit = ap (λ c. c.owner) is in
-    let named = clone_ends q.is (whole q) (subst (λ b. has (bodies_of s w.from) b ≡ false) (sym y.body) (sym z)) in
+    let named = clone_ends q.is (whole q)
+    (subst (λ b. has_number (bodies_of s w.from) b ≡ false) (sym y.body) (sym z)) in
     let lv = level_same top.name.n (body_of s w.here) d.body.n (set_at_of w.here) (option_map site_of d.set_at) y.body
     (set_at_same (set_at_of w.here) d.set_at y.set_at) ∙ ap level_of (sym is) in
     let ends = subst (λ l. NameEnds s (suc (q.height + 0)) w.from top.name.n (kind_at s w.from top.name.n)
@@ -352,7 +354,7 @@ looked_alias (l.is (l.alias {p = q} e)) = subst (λ z. IsStatement z false (Some
 pub entered_level : (a : ℕ) (name : NameId) (body : BodyId) (at : Option (BodyId × ℕ)) (d : Met)
     → d ≡ record { owner = Some a; name = name; body = body; set_at = at }
     → (d.owner ≡ Some a) × (d.name.n ≡ name.n)
-    × (◌≡◌ {A = Level} (level_of d) (record { name = name.n; body = body.n; set_at = option_map site_of at }))
+    × (◌≡◌ {A = UnitLevel} (level_of d) (record { name = name.n; body = body.n; set_at = option_map site_of at }))
 entered_level a name body at d e = (ap (λ d. d.owner) e, ap (λ d. d.name.n) e, ap level_of e)
 
 -- the next name is a unit that was not met yet
@@ -401,7 +403,7 @@ module _ (forms : Forms) (top : Frame) (old : Table) (d : Met) (y : ℕ)
       let h = looked_inner {s = s} {u = w.here} {x = y} (looked (Some (form.Inner id at)) g s below f w) in
       let lv : record { name = y; body = id.n; set_at = option_map site_of at } ≡ level_of c =
       ap (λ x. record { name = x; body = id.n; set_at = option_map site_of at }) (sym z) ∙ sym v.2 in
-      let P : ℕ → Level → Type 0 = λ x l. NameEnds s 0 w.here x (kind_at s w.here x) (Some (l ∷ w.here)) in
+      let P : ℕ → UnitLevel → Type 0 = λ x l. NameEnds s 0 w.here x (kind_at s w.here x) (Some (l ∷ w.here)) in
       next_entered s below top old new c n more w v.0 i
       (subst (λ x. P x (level_of c)) (sym z ∙ sym v.1) (subst (λ l. P y l) lv h))
 

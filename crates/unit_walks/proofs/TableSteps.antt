@@ -9,7 +9,7 @@ use Rattle.ar_base.proofs.Standing.{stands_left, stands_one, stands_within, stan
 use Rattle.ar_syntax.specs.declared.paths.PathStart.TheVariants.{Owner}
 use Rattle.class_table.specs.Tables.{site_of}
 use Rattle.hierarchy.specs.Models.{RootedModel}
-use Rattle.hierarchy.specs.Units.{UnitPath, Level, body_of, bodies_of, has, start_of}
+use Rattle.hierarchy.specs.Units.{UnitPath, UnitLevel, body_of, bodies_of, has_number, start_of}
 use Rattle.hierarchy.specs.Tie.{IsSetAt, none, some}
 use Rattle.unit_walks.specs.Forms.{same_pair}
 use Rattle.unit_walks.specs.Tables.{known_at, level_of, path_below, path_met, paths_from, paths_of, Above, StandsIf, HasFrame, EndsAt, Means, IsMet, IsTable, IsSet, IsGrown, Extends}
@@ -266,17 +266,17 @@ paths_keep (d ∷ ds) paths n u h =
     let more : UnitPath = path_met paths d.owner (level_of d) in
     paths_keep ds (paths ++ more ∷ []) n u (stands_left paths (more ∷ []) n u h)
 
-below_is : (paths : List UnitPath) (o : Option UnitPath) (k : ℕ) (x l : Level) (w : UnitPath) → slice_get paths k ≡ o
-    → path_below o x ≡ l ∷ w → k < length paths
+below_is : (paths : List UnitPath) (o : Option UnitPath) (k : ℕ) (x l : UnitLevel) (w : UnitPath) → slice_get paths k
+    ≡ o → path_below o x ≡ l ∷ w → k < length paths
 below_is paths None k x l w g e = cc
 below_is paths (Some u) k x l w g e = stands_within paths k u g
 
-met_before : (paths : List UnitPath) (d : Met) (k : ℕ) (l : Level) (w : UnitPath) → d.owner ≡ Some k
+met_before : (paths : List UnitPath) (d : Met) (k : ℕ) (l : UnitLevel) (w : UnitPath) → d.owner ≡ Some k
     → path_met paths d.owner (level_of d) ≡ l ∷ w → k < length paths
 met_before paths d k l w o e = below_is paths (slice_get paths k) k (level_of d) l w refl
     (sym (ap (λ (q : Option ℕ). path_met paths q (level_of d)) o) ∙ e)
 
-pub above_before : (ds : List Met) (paths : List UnitPath) (n i k : ℕ) (d : Met) (l : Level) (w : UnitPath)
+pub above_before : (ds : List Met) (paths : List UnitPath) (n i k : ℕ) (d : Met) (l : UnitLevel) (w : UnitPath)
     → i ≡ length paths + n → Stands ds n d → Stands (paths_from paths ds) i (l ∷ w) → d.owner ≡ Some k → k < i
 above_before [] paths n i k d l w e h p o = absurd (stands_none n d h)
 above_before (m ∷ ds) paths zero i k d l w e h p o =
@@ -297,18 +297,19 @@ above_before (m ∷ ds) paths (suc n) i k d l w e h p o =
 pub record IsUp (s : RootedModel) (paths : List UnitPath) (u : UnitPath) (at body : ℕ) : Type 0 where
   pub path : UnitPath
   pub stands : Stands paths at path
-  pub same : has (bodies_of s u) body ≡ has (bodies_of s path) body
+  pub same : has_number (bodies_of s u) body ≡ has_number (bodies_of s path) body
 
-has_here : (s : RootedModel) (w : UnitPath) (b : ℕ) → body_of s w ≡ b → has (bodies_of s w) b ≡ true
+has_here : (s : RootedModel) (w : UnitPath) (b : ℕ) → body_of s w ≡ b → has_number (bodies_of s w) b ≡ true
 has_here s [] b e = let q : (s.main == b) ≡ true = grind (arith, nat_tests) in rw q refl
 has_here s (l ∷ w) b e = let q : (l.body == b) ≡ true = grind (arith, nat_tests) in rw q refl
 
-has_not : (s : RootedModel) (w : UnitPath) (b : ℕ) → w ≡ [] → (body_of s w ≡ b → ⊥) → has (bodies_of s w) b ≡ false
+has_not : (s : RootedModel) (w : UnitPath) (b : ℕ) → w ≡ [] → (body_of s w ≡ b → ⊥)
+    → has_number (bodies_of s w) b ≡ false
 has_not s [] b i e = let q : (s.main == b) ≡ false = grind (arith, nat_tests) in rw q refl
 has_not s (l ∷ w) b i e = cc
 
-has_up : (s : RootedModel) (l : Level) (w : UnitPath) (b : ℕ) → (l.body ≡ b → ⊥)
-    → has (bodies_of s (l ∷ w)) b ≡ has (bodies_of s w) b
+has_up : (s : RootedModel) (l : UnitLevel) (w : UnitPath) (b : ℕ) → (l.body ≡ b → ⊥)
+    → has_number (bodies_of s (l ∷ w)) b ≡ has_number (bodies_of s w) b
 has_up s l w b e = let q : (l.body == b) ≡ false = grind (arith, nat_tests) in rw q refl
 
 module _ (s : RootedModel) (frames : List Frame) (t : Table) (k : IsTable s frames t) (u : UnitPath) (at body : ℕ)
@@ -317,10 +318,10 @@ module _ (s : RootedModel) (frames : List Frame) (t : Table) (k : IsTable s fram
   here : IsMet s (paths_of t) up.path d
   here = met_there s frames t k at up.path d up.stands e
 
-  pub up_found : d.body.n ≡ body → true ≡ has (bodies_of s u) body
+  pub up_found : d.body.n ≡ body → true ≡ has_number (bodies_of s u) body
   up_found z = sym (up.same ∙ has_here s up.path body (here.body ∙ z))
 
-  pub up_none : (d.body.n ≡ body → ⊥) → d.owner ≡ None → false ≡ has (bodies_of s u) body
+  pub up_none : (d.body.n ≡ body → ⊥) → d.owner ≡ None → false ≡ has_number (bodies_of s u) body
   up_none n o = sym (up.same ∙ has_not s up.path body
       (top up.path (subst (λ o. Above (paths_of t) up.path o) o here.owner)) (λ z. n (sym here.body ∙ z)))
     where
@@ -339,7 +340,7 @@ module _ (s : RootedModel) (frames : List Frame) (t : Table) (k : IsTable s fram
   pub up_on : (m : ℕ) → (d.body.n ≡ body → ⊥) → d.owner ≡ Some m → IsUp s (paths_of t) u m body
   up_on m n o = go up.path up.stands up.same here.body (subst (λ o. Above (paths_of t) up.path o) o here.owner)
     where
-      go : (w : UnitPath) → Stands (paths_of t) at w → has (bodies_of s u) body ≡ has (bodies_of s w) body
+      go : (w : UnitPath) → Stands (paths_of t) at w → has_number (bodies_of s u) body ≡ has_number (bodies_of s w) body
           → body_of s w ≡ d.body.n → Above (paths_of t) w (Some m) → IsUp s (paths_of t) u m body
       go [] p q r h = cc
       go (l ∷ w) p q r (j, z, h) = record {

@@ -4,7 +4,7 @@ use Rattle.std.specs.Prelude.{◌≡◌, ◌<◌, ◌+◌, ◌++◌, ℕ, suc, B
 use Rattle.ar_syntax.specs.declared.paths.Path.{Path}
 use Rattle.class_table.specs.Members.{Site, MemberKind, Inner, Clone, Alias}
 use Rattle.hierarchy.specs.Models.{RootedModel}
-use Rattle.hierarchy.specs.Units.{UnitPath, Thing, body_of, set_at_of, bodies_of, has, is_among, kind_at, start_of, numbers}
+use Rattle.hierarchy.specs.Units.{UnitPath, Thing, body_of, set_at_of, bodies_of, has_number, is_among, kind_at, start_of, numbers}
 use Rattle.hierarchy.specs.Walks.{NameLeads, Loops, thing, is_unitless}
 
 mutual
@@ -14,7 +14,7 @@ mutual
         → NameEnds m 0 u x (Some (Inner b a)) (Some (record { name = x; body = b; set_at = a } ∷ u))
     clones : {n : ℕ} {u t : UnitPath} {x : ℕ} {p : Path}
         → NamesEnd m n (start_of p.start u) (numbers p.names.items) (Some t)
-        → has (bodies_of m u) (body_of m t) ≡ false
+        → has_number (bodies_of m u) (body_of m t) ≡ false
         → NameEnds m (suc n) u x (Some (Clone p))
         (Some (record { name = x; body = body_of m t; set_at = set_at_of t } ∷ u))
     clones_none : {n : ℕ} {u : UnitPath} {x : ℕ} {p : Path}

@@ -9,7 +9,7 @@ use Rattle.ar_base.specs.declared.faults.RuleFault.TheVariants.{Rule, Limit, Mem
 use Rattle.class_table.specs.Members.{NamedMember}
 use Rattle.hierarchy.specs.Models.{RootedModel}
 use Rattle.hierarchy.specs.Units.{UnitPath, names_at}
-use Rattle.hierarchy.specs.Listing.{Lists, Insides, Makes, MakesNone, AreUnits}
+use Rattle.hierarchy.specs.Listing.{ListsUnits, Insides, MakesUnit, MakesNone, AreUnits}
 use Rattle.hierarchy.specs.Tie.{IsOwner, IsOutline}
 use Rattle.unit_walks.specs.Forms.{IsFormsFor}
 use Rattle.unit_walks.specs.Tables.{paths_of, IsTable}
@@ -22,7 +22,7 @@ use Rattle.unit_walks.specs.declared.growing.Unfolded.{Unfolded}
 -- what gives the name makes this unit in u, if it makes one
 abbrev pub IsMade : RootedModel → List UnitPath → UnitPath → NamedMember → Option ℕ → Type 0
 IsMade m paths u g None = MakesNone m u g
-IsMade m paths u g (Some k) = (v : UnitPath) × Stands paths k v × Makes m u g v
+IsMade m paths u g (Some k) = (v : UnitPath) × Stands paths k v × MakesUnit m u g v
 
 -- the same, where what was known stays known
 pub record IsMadeBy (m : RootedModel) (old new : Table) (u : UnitPath) (g : NamedMember) (o : Option ℕ) : Type 0 where
@@ -75,7 +75,7 @@ pub record HasGrown (m : RootedModel) (u : UnitPath) (owner : Option UnitId) (ol
     (nodes more : List Node) : Type 0 where
   pub run : IsRun m old new
   pub grows : (before : List UnitPath) → length before ≡ length nodes → IsOwner before u owner
-      → Grows m before (paths_of new) (Lists m true u) nodes more
+      → Grows m before (paths_of new) (ListsUnits m true u) nodes more
 
 -- what is in the unit u, whose number is at, was added
 pub record HasGrownInside (m : RootedModel) (u : UnitPath) (at : ℕ) (old new : Table) (nodes more : List Node) : Type
@@ -88,7 +88,7 @@ pub record HasGrownInside (m : RootedModel) (u : UnitPath) (at : ℕ) (old new :
 abbrev pub HasPassed : RootedModel → UnitPath → Option UnitId → List Node → RuleFault → Type 0
 HasPassed m u owner nodes e = OnLimit e
     ((before : List UnitPath) → length before ≡ length nodes → AllShallow before → IsOwner before u owner
-    → IsOver e before (Lists m false u))
+    → IsOver e before (ListsUnits m false u))
 
 -- a limit is passed inside the unit u, whose number is at
 abbrev pub HasPassedInside : RootedModel → UnitPath → ℕ → List Node → RuleFault → Type 0

@@ -4,8 +4,8 @@ use Rattle.std.specs.HashMap.{get}
 use Rattle.ar_base.specs.Lists.{Stands}
 use Rattle.class_table.specs.Tables.{site_of}
 use Rattle.hierarchy.specs.Models.{RootedModel}
-use Rattle.hierarchy.specs.Units.{UnitPath, Level, body_of, set_at_of, kind_at}
-use Rattle.hierarchy.specs.Tie.{IsName, IsSetAt}
+use Rattle.hierarchy.specs.Units.{UnitPath, UnitLevel, body_of, set_at_of, kind_at}
+use Rattle.hierarchy.specs.Tie.{IsNameOfUnit, IsSetAt}
 use Rattle.unit_walks.specs.Ends.{NameEnds, NeverEnds}
 use Rattle.unit_walks.specs.Forms.{same_pair}
 use Rattle.unit_walks.specs.declared.tables.Table.{Table}
@@ -19,16 +19,16 @@ abbrev pub known_at : Table → ℕ → ℕ → Option Known
 known_at t a x = get same_pair t.known (a, x)
 
 -- the level of a unit
-abbrev pub level_of : Met → Level
+abbrev pub level_of : Met → UnitLevel
 level_of d = record { name = d.name.n; body = d.body.n; set_at = option_map site_of d.set_at }
 
 -- The units of a table are a function of it: that of an entry is its level on the unit of its owner's number.
 
-abbrev pub path_below : Option UnitPath → Level → UnitPath
+abbrev pub path_below : Option UnitPath → UnitLevel → UnitPath
 path_below None l = []
 path_below (Some u) l = l ∷ u
 
-abbrev pub path_met : List UnitPath → Option ℕ → Level → UnitPath
+abbrev pub path_met : List UnitPath → Option ℕ → UnitLevel → UnitPath
 path_met paths None l = []
 path_met paths (Some n) l = path_below (slice_get paths n) l
 
@@ -78,7 +78,7 @@ Means m paths frames a u x Following = HasFrame frames a x
 
 -- the entry is that of the unit
 pub record IsMet (m : RootedModel) (paths : List UnitPath) (u : UnitPath) (d : Met) : Type 0 where
-  pub name : IsName u d.name
+  pub name : IsNameOfUnit u d.name
   pub body : body_of m u ≡ d.body.n
   pub set_at : IsSetAt (set_at_of u) d.set_at
   pub owner : Above paths u d.owner

@@ -33,6 +33,6 @@ pub data Unfolds (m : RootedModel) : Result Unfolded RuleFault → Type 0 where
       → Unfolds m (Err (Limit count))
 
 -- the units pass this limit, or memory was refused
-pub data Refuses (m : RootedModel) : RuleFault → Type 0 where
-  limit : {count : Count} → Unfolds m (Err (Limit count)) → Refuses m (Limit count)
-  memory : Refuses m Memory
+pub data RefusesUnits (m : RootedModel) : RuleFault → Type 0 where
+  limit : {count : Count} → Unfolds m (Err (Limit count)) → RefusesUnits m (Limit count)
+  memory : RefusesUnits m Memory

@@ -8,7 +8,7 @@ ghost use Rattle.hierarchy.specs.Units.{UnitPath, body_of, kind_at};
 ghost use Rattle.hierarchy.specs.Listing.{is_inner};
 ghost use Rattle.unit_walks.specs.Forms.{IsFormsFor, IsUnitName};
 ghost use Rattle.unit_walks.specs.Tables.{paths_of, IsTable};
-ghost use Rattle.unit_walks.specs.Unfolding.{Refuses};
+ghost use Rattle.unit_walks.specs.Unfolding.{RefusesUnits};
 ghost use Rattle.unit_walks.specs.Growing.{IsMadeBy, HasGrown, HasGrownInside, HasPassed, HasPassedInside, IsUnfolded};
 ghost use Rattle.unit_walks.specs.declared.growing.Node.{Node as NodeOf};
 
@@ -185,7 +185,7 @@ fn outlines_of(alloc: Global, nodes: &[Node]) -> Result<Vec<Outline>, Memory>
 pub fn units(alloc: Global, classes: &Classes) -> Result<Unfolded<'_>, RuleFault>
     ensures ok { (m : RootedModel) → IsKeptTable m classes.now
         → IfOk result (λ r. (units : List UnitPath) × IsUnfolded m units r) }
-    ensures limit { (m : RootedModel) → IsKeptTable m classes.now → IfErr result (Refuses m) }
+    ensures limit { (m : RootedModel) → IsKeptTable m classes.now → IfErr result (RefusesUnits m) }
     ensures few { IfOk result (λ r. (length r.outlines.items ≤ 16384)
         × (length r.nodes.items ≤ 16384)) }
 {

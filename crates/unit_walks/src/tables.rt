@@ -2,7 +2,7 @@
 
 ghost use Rattle.std.specs.Prelude.{◌≡◌, ◌<◌, List, [], IfOk, OnOk, slice_get};
 ghost use Rattle.hierarchy.specs.Models.{RootedModel};
-ghost use Rattle.hierarchy.specs.Units.{UnitPath, bodies_of, has, start_of};
+ghost use Rattle.hierarchy.specs.Units.{UnitPath, bodies_of, has_number, start_of};
 ghost use Rattle.ar_base.specs.Lists.{Stands};
 ghost use Rattle.unit_walks.specs.declared.tables.Frame.{Frame as Walk};
 ghost use Rattle.unit_walks.specs.Tables.{known_at, paths_of, StandsIf, IsTable, IsSet, IsGrown};
@@ -138,7 +138,7 @@ impl Table {
     /// Whether the unit or one above it has the body. A unit stands behind the one above it, so that the way up ends.
     pub(crate) fn has_body(&self, unit: u32, body: BodyId) -> bool
         ensures { (m : RootedModel) (frames : List Walk) (u : UnitPath) → IsTable m frames self.now
-            → Stands (paths_of self.now) unit u → result ≡ has (bodies_of m u) body.n }
+            → Stands (paths_of self.now) unit u → result ≡ has_number (bodies_of m u) body.n }
     {
         let mut at = unit;
         for _level in 0..self.units.len() {

@@ -7,11 +7,11 @@ use Rattle.domains.specs.declared.Value.{Value}
 use Rattle.typed_expr.specs.Yields.{Yields}
 use Rattle.typed_expr.specs.declared.expr.Expr.{Expr, out-Expr}
 use Rattle.ar_meaning.specs.Systems as s
-use Rattle.ar_meaning.specs.Facts.{HasValue, Passes}
+use Rattle.ar_meaning.specs.Facts.{HasValue, PassesConditions}
 use Rattle.ar_meaning.specs.Numbered.{Acts, Means_way, leaf, joint}
 use Rattle.ar_meaning.specs.Ways.{Effects, acts}
 use Rattle.ar_base.specs.Numbers.{VarId, WayId}
-use Rattle.gts_core.specs.View.{net_of, bodies_of, body_of, of_body, assign_of, numbered}
+use Rattle.gts_core.specs.View.{net_of, way_bodies, body_of_way, of_body, assign_of, numbered}
 use Rattle.gts_core.specs.Sound.{IsSound, kind_of_domain}
 use Rattle.gts_core.specs.declared.system.Assign.{Assign}
 use Rattle.gts_core.specs.declared.system.Way.{Way}
@@ -148,14 +148,14 @@ taken_there t ways (a ∷ ids) (suc k) id w x v st sw g =
     (taken_there t ways ids k id w x v st sw g)
 
 -- what a local way does
-local_effect : (p : GtsParts) (K : ℕ → Value → Type 0) (n : ℕ) (u : s.Way ℕ) → Means_way (bodies_of p) n u
+local_effect : (p : GtsParts) (K : ℕ → Value → Type 0) (n : ℕ) (u : s.Way ℕ) → Means_way (way_bodies p) n u
     → (way : Way) (guard : Expr VarId) (action : Vec Assign Global) → Stands p.ways.items n way
     → way.body ≡ body.Local guard action
-    → (a : Assign) → IsOneOf action.items a → (v : Value) → Passes K (assign_of a).conditions
+    → (a : Assign) → IsOneOf action.items a → (v : Value) → PassesConditions K (assign_of a).conditions
     → Yields K (out-Expr ℕ (assign_of a).value) v → Effects K u a.target.n v
 local_effect p K n (s.Leaf d) (leaf j) way guard action st e a one v pa y =
-    let there : Stands (bodies_of p) n (body_of way) = stands_map body_of p.ways.items n way st in
-    let is : body_of way ≡ Acts (record { guard = numbered guard; action = map assign_of action.items }) =
+    let there : Stands (way_bodies p) n (body_of_way way) = stands_map body_of_way p.ways.items n way st in
+    let is : body_of_way way ≡ Acts (record { guard = numbered guard; action = map assign_of action.items }) =
     ap of_body e in
     let same : d ≡ record { guard = numbered guard; action = map assign_of action.items } = cc in
     let acts_here : d.action ≡ map assign_of action.items = ap (λ (z : s.Transition ℕ). z.action) same in
@@ -165,11 +165,11 @@ local_effect p K n (s.Leaf d) (leaf j) way guard action st e a one v pa y =
           (stands_map assign_of action.items one.place a one.stands);
     }) pa y
 local_effect p K n (s.Joint bs) (joint j m) way guard action st e a one v pa y =
-    let there : Stands (bodies_of p) n (body_of way) = stands_map body_of p.ways.items n way st in
-    let is : body_of way ≡ Acts (record { guard = numbered guard; action = map assign_of action.items }) = ap of_body e in cc
+    let there : Stands (way_bodies p) n (body_of_way way) = stands_map body_of_way p.ways.items n way st in
+    let is : body_of_way way ≡ Acts (record { guard = numbered guard; action = map assign_of action.items }) = ap of_body e in cc
 
 module _ (p : GtsParts) (sound : IsSound p) (t : List Value) (total : IsTotal p t) (flags : List Bool)
-    (right : AreFlags p t flags) (top : ℕ) (w : s.Way ℕ) (m : Means_way (bodies_of p) top w)
+    (right : AreFlags p t flags) (top : ℕ) (w : s.Way ℕ) (m : Means_way (way_bodies p) top w)
     (ids : List WayId) (takers : AreTakers p flags top ids) where
   -- an effect of the way that is fired
   pub given_effect : (x : ℕ) (v : Value) → Gives (taken_effects t p.ways.items ids) x v
@@ -187,9 +187,9 @@ module _ (p : GtsParts) (sound : IsSound p) (t : List Value) (total : IsTotal p 
           let r = reached_from t action.items x v g in
           let a = r.assign in
           let typed = sound.actions n way guard action st e a r.is_one in
-          let passes : Passes (HasValue (net_of p) t) (assign_of a).conditions =
+          let passes : PassesConditions (HasValue (net_of p) t) (assign_of a).conditions =
           answer_true (list_all (is_met t) a.when.items)
-          (Passes (HasValue (net_of p) t) (assign_of a).conditions) r.met
+          (PassesConditions (HasValue (net_of p) t) (assign_of a).conditions) r.met
           (passes_answer p t total a.when.items typed.conditions) in
           let yields : Yields (HasValue (net_of p) t) (out-Expr ℕ (assign_of a).value) v =
           subst (λ (z : Value). Yields (HasValue (net_of p) t) (out-Expr ℕ (assign_of a).value) z) r.value
@@ -208,7 +208,7 @@ module _ (p : GtsParts) (sound : IsSound p) (t : List Value) (total : IsTotal p 
       let typed = sound.actions r.number r.way r.guard r.action r.stands r.is_local r.assign r.is_one in
       let met : list_all (is_met t) r.assign.when.items ≡ true =
       is_true (list_all (is_met t) r.assign.when.items)
-      (Passes (HasValue (net_of p) t) (assign_of r.assign).conditions)
+      (PassesConditions (HasValue (net_of p) t) (assign_of r.assign).conditions)
       (passes_answer p t total r.assign.when.items typed.conditions) r.passes in
       let value : value_in t r.assign.value ≡ v =
       sym (yielded_value p t total r.assign.value (kind_of_domain typed.variable.domain) typed.value v

@@ -13,7 +13,7 @@ use Rattle.ar_meaning.specs.Numbered.{Acts, Joins, Means_way, leaf, joint, Mean_
 use Rattle.ar_meaning.specs.Ways.{Can, guard_holds, all_musts, some_may, Musts_can, Some_can, has_must}
 use Rattle.ar_meaning.specs.Ways as w
 use Rattle.ar_base.specs.Numbers.{WayId}
-use Rattle.gts_core.specs.View.{numbered, net_of, bodies_of, body_of, of_body, part_of, assign_of}
+use Rattle.gts_core.specs.View.{numbered, net_of, way_bodies, body_of_way, of_body, part_of, assign_of}
 use Rattle.gts_core.specs.Sound.{IsSound}
 use Rattle.gts_core.specs.declared.system.Way.{Way}
 use Rattle.gts_core.specs.declared.system.WayBody.{WayBody}
@@ -29,7 +29,7 @@ use Rattle.gts_core.proofs.Reading.{met_answer}
 module _ (p : GtsParts) (K : ℕ → Value → Type 0) (flags : List Bool) where
   -- the flags of these parts are right
   abbrev pub AreRight : List (Bool × WayId) → Type 0
-  AreRight ps = (q : Bool × WayId) → IsOneOf ps q → (u : s.Way ℕ) → Means_way (bodies_of p) q.1.n u
+  AreRight ps = (q : Bool × WayId) → IsOneOf ps q → (u : s.Way ℕ) → Means_way (way_bodies p) q.1.n u
       → IsAnswer (flag_at flags q.1.n) (Can K u)
 
   must_first : {u : s.Way ℕ} {bs : s.Branches (s.Transition ℕ)} → Musts_can K (s.Branch true u bs) → Can K u
@@ -50,7 +50,7 @@ module _ (p : GtsParts) (K : ℕ → Value → Type 0) (flags : List Bool) where
   no_some h = elim h [ ]
 
   pub musts_answer : (ps : List (Bool × WayId)) (bs : s.Branches (s.Transition ℕ))
-      → Mean_parts (bodies_of p) (map part_of ps) bs → AreRight ps → IsAnswer (musts_by flags ps) (Musts_can K bs)
+      → Mean_parts (way_bodies p) (map part_of ps) bs → AreRight ps → IsAnswer (musts_by flags ps) (Musts_can K bs)
   musts_answer [] s.Empty no_part right = w.no_part
   musts_answer [] (s.Branch must u bs) m right = elim m [ ]
   musts_answer ((false, id) ∷ ps) s.Empty m right = elim m [ ]
@@ -65,7 +65,7 @@ module _ (p : GtsParts) (K : ℕ → Value → Type 0) (flags : List Bool) where
       (musts_answer ps bs ms (λ q h. right q (one_rest (false, id) ps q h)))
 
   pub some_answer : (ps : List (Bool × WayId)) (bs : s.Branches (s.Transition ℕ))
-      → Mean_parts (bodies_of p) (map part_of ps) bs → AreRight ps → IsAnswer (some_by flags ps) (Some_can K bs)
+      → Mean_parts (way_bodies p) (map part_of ps) bs → AreRight ps → IsAnswer (some_by flags ps) (Some_can K bs)
   some_answer [] s.Empty no_part right = no_some
   some_answer [] (s.Branch must u bs) m right = elim m [ ]
   some_answer (q ∷ ps) s.Empty m right = elim m [ ]
@@ -75,7 +75,7 @@ module _ (p : GtsParts) (K : ℕ → Value → Type 0) (flags : List Bool) where
       (right q (one_first q ps) u m) (some_answer ps bs ms (λ r h. right r (one_rest q ps r h)))
 
   pub has_must_same : (ps : List (Bool × WayId)) (bs : s.Branches (s.Transition ℕ))
-      → Mean_parts (bodies_of p) (map part_of ps) bs → has_must_in ps ≡ has_must bs
+      → Mean_parts (way_bodies p) (map part_of ps) bs → has_must_in ps ≡ has_must bs
   has_must_same [] s.Empty no_part = refl
   has_must_same [] (s.Branch must u bs) m = elim m [ ]
   has_must_same ((false, id) ∷ ps) s.Empty m = elim m [ ]
@@ -100,20 +100,20 @@ module _ (p : GtsParts) (K : ℕ → Value → Type 0) (flags : List Bool) where
       opened (some_may j h) = h
 
   -- a synchronised way
-  pub sync_answer : (ps : List (Bool × WayId)) (n : ℕ) (u : s.Way ℕ) → Stands (bodies_of p) n (Joins (map part_of ps))
-      → Means_way (bodies_of p) n u → AreRight ps
+  pub sync_answer : (ps : List (Bool × WayId)) (n : ℕ) (u : s.Way ℕ) → Stands (way_bodies p) n (Joins (map part_of ps))
+      → Means_way (way_bodies p) n u → AreRight ps
       → IsAnswer (cond (has_must_in ps) (musts_by flags ps) (some_by flags ps)) (Can K u)
   sync_answer ps n (s.Leaf d) st (leaf k) right = cc
   sync_answer ps n (s.Joint bs) st (joint {parts = qs} k m) right =
       let same : qs ≡ map part_of ps = cc in
-      let ms : Mean_parts (bodies_of p) (map part_of ps) bs =
-      subst (λ (z : List (Bool × ℕ)). Mean_parts (bodies_of p) z bs) same m in
+      let ms : Mean_parts (way_bodies p) (map part_of ps) bs =
+      subst (λ (z : List (Bool × ℕ)). Mean_parts (way_bodies p) z bs) same m in
       joint_answer (has_must_in ps) (musts_by flags ps) (some_by flags ps) bs (has_must_same ps bs ms)
       (musts_answer ps bs ms right) (some_answer ps bs ms right)
 
   -- a local way
-  pub leaf_answer : (d : s.Transition ℕ) (b : Bool) (n : ℕ) (u : s.Way ℕ) → Stands (bodies_of p) n (Acts d)
-      → Means_way (bodies_of p) n u → IsAnswer b (Yields K (out-Expr ℕ d.guard) (Truth true)) → IsAnswer b (Can K u)
+  pub leaf_answer : (d : s.Transition ℕ) (b : Bool) (n : ℕ) (u : s.Way ℕ) → Stands (way_bodies p) n (Acts d)
+      → Means_way (way_bodies p) n u → IsAnswer b (Yields K (out-Expr ℕ d.guard) (Truth true)) → IsAnswer b (Can K u)
   leaf_answer d b n (s.Leaf e) st (leaf k) h =
       let same : d ≡ e = cc in
       turned_answer b (Yields K (out-Expr ℕ e.guard) (Truth true)) (Can K (s.Leaf e)) guard_holds opened
@@ -125,16 +125,17 @@ module _ (p : GtsParts) (K : ℕ → Value → Type 0) (flags : List Bool) where
 
 -- a way of the system
 pub can_answer : (p : GtsParts) → IsSound p → (t : List Value) → IsTotal p t
-    → (flags : List Bool) (n : ℕ) (way : Way) (u : s.Way ℕ) → Stands p.ways.items n way → Means_way (bodies_of p) n u
+    → (flags : List Bool) (n : ℕ) (way : Way) (u : s.Way ℕ) → Stands p.ways.items n way → Means_way (way_bodies p) n u
     → AreRight p (HasValue (net_of p) t) flags (parts_of way.body)
     → IsAnswer (can_by t flags way.body) (Can (HasValue (net_of p) t) u)
-can_answer p sound t total flags n way u st m right = go way.body refl right (stands_map body_of p.ways.items n way st)
+can_answer p sound t total flags n way u st m right = go way.body refl right
+    (stands_map body_of_way p.ways.items n way st)
   where
     K : ℕ → Value → Type 0
     K = HasValue (net_of p) t
 
     go : (b : WayBody) → way.body ≡ b → AreRight p (HasValue (net_of p) t) flags (parts_of b)
-        → Stands (bodies_of p) n (of_body b) → IsAnswer (can_by t flags b) (Can (HasValue (net_of p) t) u)
+        → Stands (way_bodies p) n (of_body b) → IsAnswer (can_by t flags b) (Can (HasValue (net_of p) t) u)
     go (body.Local guard action) e r k =
         leaf_answer p (HasValue (net_of p) t) flags
         (record { guard = numbered guard; action = map assign_of action.items }) (is_met t (guard, true)) n u k m

@@ -6,36 +6,36 @@ use Rattle.std.proofs.Math.Nat.{le-max_left, le-max_right, le_trans}
 use Rattle.ar_meaning.specs.Systems as s
 use Rattle.ar_meaning.specs.Numbered.{Body, Acts, Joins, Means_way, leaf, joint, Mean_parts, part, height, branches_height}
 use Rattle.ar_base.specs.Numbers.{WayId}
-use Rattle.gts_core.specs.View.{IsWayAt, bodies_of, body_of, part_of}
+use Rattle.gts_core.specs.View.{IsWayAt, way_bodies, body_of_way, part_of}
 use Rattle.gts_core.specs.declared.system.Way.{Way}
 use Rattle.gts_core.specs.declared.system.GtsParts.{GtsParts}
 
 -- the ways of these parts, no more than so many joints high
 pub record HaveTrees (p : GtsParts) (parts : List (Bool × WayId)) (left : ℕ) : Type 0 where
   pub branches : s.Branches (s.Transition ℕ)
-  pub means : Mean_parts (bodies_of p) (map part_of parts) branches
+  pub means : Mean_parts (way_bodies p) (map part_of parts) branches
   pub low : branches_height branches ≤ left
 
 -- the parts of a joint are lower than it
 pub parts_lower : (p : GtsParts) (n left : ℕ) (w : s.Way ℕ) (x : Way) (parts : List (Bool × WayId)) → IsWayAt p n w
     → height w ≤ left → Stands p.ways.items n x
-    → body_of x ≡ Joins (map part_of parts) → (0 < left) × HaveTrees p parts (left - 1)
+    → body_of_way x ≡ Joins (map part_of parts) → (0 < left) × HaveTrees p parts (left - 1)
 parts_lower p n left w x parts means low st is =
-    go w means low (subst (λ (b : Body (s.Transition ℕ)). Stands (bodies_of p) n b) is
-    (stands_map body_of p.ways.items n x st))
+    go w means low (subst (λ (b : Body (s.Transition ℕ)). Stands (way_bodies p) n b) is
+    (stands_map body_of_way p.ways.items n x st))
   where
-    go : (w : s.Way ℕ) → Means_way (bodies_of p) n w → height w ≤ left
-        → Stands (bodies_of p) n (Joins (map part_of parts)) → (0 < left) × HaveTrees p parts (left - 1)
-    go (s.Leaf l) (leaf e) low t = let both : Acts l ≡ Joins (map part_of parts) = stands_one (bodies_of p) n (Acts l) (Joins (map part_of parts)) e t in absurd (cc)
+    go : (w : s.Way ℕ) → Means_way (way_bodies p) n w → height w ≤ left
+        → Stands (way_bodies p) n (Joins (map part_of parts)) → (0 < left) × HaveTrees p parts (left - 1)
+    go (s.Leaf l) (leaf e) low t = let both : Acts l ≡ Joins (map part_of parts) = stands_one (way_bodies p) n (Acts l) (Joins (map part_of parts)) e t in absurd (cc)
     go (s.Joint bs) (joint {parts = ps} e m) low t =
         let both : Joins ps ≡ Joins (map part_of parts) =
-        stands_one (bodies_of p) n (Joins ps) (Joins (map part_of parts)) e t in
+        stands_one (way_bodies p) n (Joins ps) (Joins (map part_of parts)) e t in
         let same : ps ≡ map part_of parts = cc in
         let small : suc (branches_height bs) ≤ left = low in (
           omega (arith, small),
           record {
             branches = bs;
-            means = subst (λ (z : List (Bool × ℕ)). Mean_parts (bodies_of p) z bs) same m;
+            means = subst (λ (z : List (Bool × ℕ)). Mean_parts (way_bodies p) z bs) same m;
             low = omega (arith, small);
           },
         )
@@ -46,7 +46,7 @@ HasTree p n left = (w : s.Way ℕ) × IsWayAt p n w × (height w ≤ left)
 
 -- each part is no higher than all of them
 pub part_low : (p : GtsParts) (parts : List (Bool × WayId)) (bs : s.Branches (s.Transition ℕ)) (left k : ℕ)
-    (q : Bool × WayId) → Mean_parts (bodies_of p) (map part_of parts) bs
+    (q : Bool × WayId) → Mean_parts (way_bodies p) (map part_of parts) bs
     → branches_height bs ≤ left → Stands parts k q → HasTree p q.1.n left
 part_low p [] bs left k q means low st = absurd (stands_none k q st)
 part_low p (r ∷ parts) s.Empty left k q means low st = elim means [ ]

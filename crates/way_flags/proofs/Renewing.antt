@@ -10,7 +10,7 @@ use Rattle.ar_meaning.specs.Found.{IsAnswer}
 use Rattle.ar_meaning.specs.Numbered.{Means_way, leaf, joint}
 use Rattle.ar_meaning.specs.Ways.{Can}
 use Rattle.ar_base.specs.Numbers.{WayId}
-use Rattle.gts_core.specs.View.{net_of, bodies_of, body_of, IsWayAt}
+use Rattle.gts_core.specs.View.{net_of, way_bodies, body_of_way, IsWayAt}
 use Rattle.gts_core.specs.Sound.{IsSound}
 use Rattle.gts_core.specs.declared.system.Way.{Way}
 use Rattle.gts_core.specs.declared.system.GtsParts.{GtsParts}
@@ -26,9 +26,10 @@ pub record AreSetTo (p : GtsParts) (order : List WayId) (t : List Value) (i : �
       → IsAnswer (flag_at flags id.n) (Can (HasValue (net_of p) t) u)
 
 -- a way that a number stands for stands in the list
-pub means_way : (p : GtsParts) (n : ℕ) (u : s.Way ℕ) → Means_way (bodies_of p) n u → n < length p.ways.items
-means_way p n u (leaf st) = let r = stands_map_back body_of p.ways.items n _ st in stands_within p.ways.items n r.0 r.1
-means_way p n u (joint st m) = let r = stands_map_back body_of p.ways.items n _ st in stands_within p.ways.items n r.0 r.1
+pub means_way : (p : GtsParts) (n : ℕ) (u : s.Way ℕ) → Means_way (way_bodies p) n u → n < length p.ways.items
+means_way p n u (leaf st) = let r = stands_map_back body_of_way p.ways.items n _ st in stands_within p.ways.items n r.0
+    r.1
+means_way p n u (joint st m) = let r = stands_map_back body_of_way p.ways.items n _ st in stands_within p.ways.items n r.0 r.1
 
 module _ (p : GtsParts) (sound : IsSound p) (order : List WayId) (is : IsOrder p order) (t : List Value)
     (total : IsTotal p t) where
@@ -40,25 +41,26 @@ module _ (p : GtsParts) (sound : IsSound p) (order : List WayId) (is : IsOrder p
     flag = λ k a below s u m. go k a below s u m (cases_eq a.n id.n);
   }
     where
-      right : (q : Bool × WayId) → IsOneOf (parts_of way.body) q → (u : s.Way ℕ) → Means_way (bodies_of p) q.1.n u
+      right : (q : Bool × WayId) → IsOneOf (parts_of way.body) q → (u : s.Way ℕ) → Means_way (way_bodies p) q.1.n u
           → IsAnswer (flag_at flags q.1.n) (Can (HasValue (net_of p) t) u)
       right q one u m =
           let place = is.all q.1.n (means_way p q.1.n u m) in
           let below : place.0 < i = is.after place.0 i id place.1 q
           at (record { way = way; stands = st; is_part = one }) place.2 place.3 in
           subst (λ (z : ℕ). IsAnswer (flag_at flags z) (Can (HasValue (net_of p) t) u)) place.3
-          (before.flag place.0 place.1 below place.2 u (subst (λ (z : ℕ). Means_way (bodies_of p) z u) (sym place.3) m))
+          (before.flag place.0 place.1 below place.2 u
+          (subst (λ (z : ℕ). Means_way (way_bodies p) z u) (sym place.3) m))
 
-      here : (u : s.Way ℕ) → Means_way (bodies_of p) id.n u → IsAnswer b (Can (HasValue (net_of p) t) u)
+      here : (u : s.Way ℕ) → Means_way (way_bodies p) id.n u → IsAnswer b (Can (HasValue (net_of p) t) u)
       here u m = subst (λ (z : Bool). IsAnswer z (Can (HasValue (net_of p) t) u)) (sym e)
           (can_answer p sound t total flags id.n way u st m right)
 
-      go : (k : ℕ) (a : WayId) → k < i + 1 → Stands order k a → (u : s.Way ℕ) → Means_way (bodies_of p) a.n u
+      go : (k : ℕ) (a : WayId) → k < i + 1 → Stands order k a → (u : s.Way ℕ) → Means_way (way_bodies p) a.n u
           → (a.n ≡ id.n) ⊎ (a.n ≡ id.n → ⊥) → IsAnswer (flag_at (set flags id.n b) a.n) (Can (HasValue (net_of p) t) u)
       go k a below s u m (inl j) =
           let set_here : flag_at (set flags id.n b) a.n ≡ b = ap (flag_at (set flags id.n b)) j ∙ flag_same flags id.n b (let h = stands_within p.ways.items id.n way st in omega (arith, h, before.long)) in
           subst (λ (z : Bool). IsAnswer z (Can (HasValue (net_of p) t) u)) (sym set_here)
-          (here u (subst (λ (z : ℕ). Means_way (bodies_of p) z u) j m))
+          (here u (subst (λ (z : ℕ). Means_way (way_bodies p) z u) j m))
       go k a below s u m (inr n) =
           let other : flag_at (set flags id.n b) a.n ≡ flag_at flags a.n = flag_other flags id.n a.n b n in
           let less : k < i = omega (arith, not_last k a s n) in
@@ -74,5 +76,5 @@ module _ (p : GtsParts) (sound : IsSound p) (order : List WayId) (is : IsOrder p
     flag = λ n u m.
         let place = is.all n (means_way p n u m) in
         subst (λ (z : ℕ). IsAnswer (flag_at flags z) (Can (HasValue (net_of p) t) u)) place.3
-        (all.flag place.0 place.1 (let b = stands_within order place.0 place.1 place.2 in omega (arith, b)) place.2 u (subst (λ (z : ℕ). Means_way (bodies_of p) z u) (sym place.3) m));
+        (all.flag place.0 place.1 (let b = stands_within order place.0 place.1 place.2 in omega (arith, b)) place.2 u (subst (λ (z : ℕ). Means_way (way_bodies p) z u) (sym place.3) m));
   }

@@ -12,7 +12,7 @@ use Rattle.ar_meaning.specs.Numbered.{Means_way}
 use Rattle.ar_meaning.specs.Steps.{Clashes, LeavesDomain}
 use Rattle.ar_meaning.specs.Steps as steps
 use Rattle.ar_meaning.specs.Ways.{Can, Effects}
-use Rattle.gts_core.specs.View.{net_of, bodies_of, variable_of}
+use Rattle.gts_core.specs.View.{net_of, way_bodies, variable_of}
 use Rattle.gts_core.specs.Sound.{IsSound}
 use Rattle.gts_core.specs.declared.system.GtsParts.{GtsParts}
 use Rattle.gts_core.specs.Readings.{IsTotal}
@@ -66,7 +66,7 @@ module _ (p : GtsParts) (sound : IsSound p) (t : List Value) (total : IsTotal p 
     (right : AreFlags p t flags) (top : ℕ) (can : flag_at flags top ≡ true)
     (ids : List WayId) (takers : AreTakers p flags top ids) (all sorted : List Effect)
     (is : all ≡ taken_effects t p.ways.items ids) (perm : IsPermutation all sorted) (w : s.Way ℕ)
-    (m : Means_way (bodies_of p) top w) where
+    (m : Means_way (way_bodies p) top w) where
   can_fire : Can (HasValue (net_of p) t) w
   can_fire = answer_true (flag_at flags top) (Can (HasValue (net_of p) t) w) can (right.flag top w m)
 

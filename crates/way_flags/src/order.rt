@@ -6,7 +6,7 @@ ghost use Rattle.ar_meaning.specs.Numbered.{height, branches_height, Mean_parts}
 ghost use Rattle.ar_base.specs.Lists.{Stands};
 ghost use Rattle.gts_core.specs.Sound.{IsSound};
 ghost use Rattle.gts_core.specs.declared.system.Way.{Way as Ways};
-ghost use Rattle.gts_core.specs.View.{IsWayAt, bodies_of, part_of};
+ghost use Rattle.gts_core.specs.View.{IsWayAt, way_bodies, part_of};
 ghost use Rattle.way_flags.specs.Ways.{IsOrder, IsPlacing, are_set, are_placed, flag_at, Keeps};
 
 use crate::flags::{is_set, unset};
@@ -91,7 +91,7 @@ fn place_parts(
     placing: &mut Placing,
 ) -> Result<(), Memory>
     requires deep { (bs : Branches (Transition ℕ))
-        × Mean_parts (bodies_of parts.now) (map part_of ways.now) bs × (branches_height bs ≤ left) }
+        × Mean_parts (way_bodies parts.now) (map part_of ways.now) bs × (branches_height bs ≤ left) }
     requires order { IsPlacing parts.now placing.old.order.items placing.old.placed.items }
     ensures order { OnOk result (IsPlacing parts.now placing.new.order.items
         placing.new.placed.items) }

@@ -16,7 +16,8 @@ use Rattle.typed_expr.specs.declared.expr.Expr.TheOpen as form
 use Rattle.typed_expr.specs.declared.expr.Expr.TheViews.{Not, All, Any, Compare, Sum, Product, Least, Greatest, Count, Choose, outs-Not, outs-All, outs-Any, outs-Compare, outs-Sum, outs-Product, outs-Least, outs-Greatest, outs-Count, outs-Choose}
 use Rattle.typed_expr.proofs.Opened.{opened-constant}
 use Rattle.written_forms.specs.Operands.{RawLevel, level_of}
-use Rattle.written_forms.specs.Translating.{relation_of, leaf_level, StandsFor, BecomesBy, All_become_by, Parts_become_by, Cases_become_by, Becomes}
+use Rattle.written_forms.specs.Translating.{leaf_level, StandsFor, BecomesBy, All_become_by, Parts_become_by, Cases_become_by, Becomes}
+use Rattle.written_forms.specs.Relations.{relation_of}
 use Rattle.written_forms.specs.Translating as t
 use Rattle.written_forms.specs.declared.naming.Leaf.{Leaf}
 

@@ -6,14 +6,14 @@ use Rattle.ar_base.proofs.Standing.{stands_map, stands_map_back, one_here, one_n
 use Rattle.class_table.specs.Earliest.{IsEarliest, nowhere, IsEarlierOf}
 use Rattle.class_table.proofs.FirstPlaces.{earliest_both, earliest_same}
 use Rattle.class_table.proofs.Looping.{AtItem}
-use Rattle.written_forms.specs.Operands.{Operand}
+use Rattle.written_forms.specs.Operands.{OperandOfKind}
 use Rattle.written_forms.specs.Wrong.{Among}
 
-module _ (P : Operand → Place → Type 0) where
+module _ (P : OperandOfKind → Place → Type 0) where
   pub none_among : IsEarliest (Among P []) None
   none_among = nowhere (λ p a. one_none a.operand a.is_operand)
 
-  pub one_among : (o : Operand) (f : Option Place) → IsEarliest (P o) f → IsEarliest (Among P (o ∷ [])) f
+  pub one_among : (o : OperandOfKind) (f : Option Place) → IsEarliest (P o) f → IsEarliest (Among P (o ∷ [])) f
   one_among o f h = earliest_same f to from h
     where
       to : (p : Place) → P o p → Among P (o ∷ []) p
@@ -21,12 +21,12 @@ module _ (P : Operand → Place → Type 0) where
 
       from : (p : Place) → Among P (o ∷ []) p → P o p
       from p a = elim (one_cases o [] a.operand a.is_operand) [
-        | inl e ↦ subst (λ (z : Operand). P z p) (sym e) a.has
+        | inl e ↦ subst (λ (z : OperandOfKind). P z p) (sym e) a.has
         | inr n ↦ absurd (one_none a.operand n)
       ]
 
-  pub both_among : (xs ys : List Operand) (f g r : Option Place) → IsEarliest (Among P xs) f → IsEarliest (Among P ys) g
-      → IsEarlierOf f g r
+  pub both_among : (xs ys : List OperandOfKind) (f g r : Option Place) → IsEarliest (Among P xs) f → IsEarliest (Among P
+      ys) g → IsEarlierOf f g r
       → IsEarliest (Among P (xs ++ ys)) r
   both_among xs ys f g r h k e = earliest_same r to from (earliest_both f g r h k e)
     where
@@ -41,12 +41,12 @@ module _ (P : Operand → Place → Type 0) where
       ]
 
   -- two operands
-  pub two_among : (o q : Operand) (f g r : Option Place) → IsEarliest (P o) f → IsEarliest (P q) g → IsEarlierOf f g r
-      → IsEarliest (Among P (o ∷ q ∷ [])) r
+  pub two_among : (o q : OperandOfKind) (f g r : Option Place) → IsEarliest (P o) f → IsEarliest (P q) g → IsEarlierOf f
+      g r → IsEarliest (Among P (o ∷ q ∷ [])) r
   two_among o q f g r h k e = both_among (o ∷ []) (q ∷ []) f g r (one_among o f h) (one_among q g k) e
 
   -- operands by the items of a list, one for each
-  module _ {A : Type 0} (f : A → Operand) (xs : List A) where
+  module _ {A : Type 0} (f : A → OperandOfKind) (xs : List A) where
     pub mapped_to : (k : ℕ) (a : A) (p : Place) → Stands xs k a → P (f a) p → Among P (map f xs) p
     mapped_to k a p s h = record {
       operand = f a;
@@ -56,11 +56,18 @@ module _ (P : Operand → Place → Type 0) where
 
     pub mapped_back : (p : Place) → Among P (map f xs) p → (k : ℕ) × AtItem xs (λ (k : ℕ) (a : A). P (f a)) k p
     mapped_back p a =
-        let b = stands_map_back f xs a.is_operand.place a.operand a.is_operand.stands in
-        (a.is_operand.place, record { item = b.0; stands = b.1; has = subst (λ (z : Operand). P z p) (sym b.2) a.has })
+        let b = stands_map_back f xs a.is_operand.place a.operand a.is_operand.stands in (
+          a.is_operand.place,
+          record {
+            item = b.0;
+            stands = b.1;
+            has =
+                subst (λ (z : OperandOfKind). P z p) (sym b.2) a.has;
+          },
+        )
 
   -- operands by the items of a list, two for each
-  module _ {A : Type 0} (f g : A → Operand) (xs : List A) where
+  module _ {A : Type 0} (f g : A → OperandOfKind) (xs : List A) where
     pub paired_to : (k : ℕ) (a : A) (p : Place) → Stands xs k a → P (f a) p ⊎ P (g a) p
         → Among P (map f xs ++ map g xs) p
     paired_to k a p s (inl h) =

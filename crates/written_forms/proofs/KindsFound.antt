@@ -7,7 +7,7 @@ use Rattle.typed_expr.specs.declared.expr.ValueKind.{ValueKind}
 use Rattle.written_forms.specs.Operands.{RawLevel, level_of, first_branch}
 use Rattle.written_forms.specs.Forms.{own_kind, HasForm, IsFormOf, IsFirstKind}
 use Rattle.written_forms.specs.Forms as form
-use Rattle.written_forms.specs.Wrong.{Names}
+use Rattle.written_forms.specs.Wrong.{NamesKind}
 
 -- an expression has one kind, where each path has
 module _ (names : Path → ValueKind → Type 0) (one : (p : Path) (j k : ValueKind) → names p j → names p k → j ≡ k) where
@@ -21,8 +21,8 @@ module _ (names : Path → ValueKind → Type 0) (one : (p : Path) (j k : ValueK
   one_form (form.choice h) (form.choice g) = one_form h g
 
 -- a table gives a path one kind
-pub one_named : (kinds : Path → Option ValueKind) (p : Path) (j k : ValueKind) → Names kinds p j → Names kinds p k
-    → j ≡ k
+pub one_named : (kinds : Path → Option ValueKind) (p : Path) (j k : ValueKind) → NamesKind kinds p j → NamesKind kinds p
+    k → j ≡ k
 one_named kinds p j k h g = cc
 
 module _ (names : Path → ValueKind → Type 0) where
@@ -80,14 +80,15 @@ module _ (names : Path → ValueKind → Type 0) where
       choice_only cases other k (subst (λ (z : RawLevel). HasForm names z k) i h)
 
 module _ (kinds : Path → Option ValueKind) where
-  path_only : (p : Path) (k : ValueKind) → HasForm (Names kinds) (raw.Path p) k → kinds p ≡ Some k
+  path_only : (p : Path) (k : ValueKind) → HasForm (NamesKind kinds) (raw.Path p) k → kinds p ≡ Some k
   path_only p k (form.own e) = cc
   path_only p k (form.path h) = h
 
-  path_found : (p : Path) (found : Option ValueKind) → found ≡ kinds p → IsFormOf (Names kinds) (raw.Path p) found
+  path_found : (p : Path) (found : Option ValueKind) → found ≡ kinds p → IsFormOf (NamesKind kinds) (raw.Path p) found
   path_found p None e = λ k h. let i = path_only p k h in cc
   path_found p (Some k) e = form.path (sym e)
 
   pub path_answer : (e : RawExpr) (p : Path) (found : Option ValueKind) → level_of e ≡ raw.Path p → found ≡ kinds p
-      → IsFormOf (Names kinds) (level_of e) found
-  path_answer e p found i h = subst (λ (z : RawLevel). IsFormOf (Names kinds) z found) (sym i) (path_found p found h)
+      → IsFormOf (NamesKind kinds) (level_of e) found
+  path_answer e p found i h = subst (λ (z : RawLevel). IsFormOf (NamesKind kinds) z found) (sym i)
+      (path_found p found h)

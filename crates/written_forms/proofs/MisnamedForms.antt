@@ -11,14 +11,14 @@ use Rattle.class_table.specs.Earliest.{IsEarliest, nowhere, there, IsEarlierOf}
 use Rattle.class_table.proofs.FirstPlaces.{earliest_same}
 use Rattle.ar_syntax.specs.declared.expressions.RawRelation.{RawRelation}
 use Rattle.typed_expr.specs.declared.expr.ValueKind.TheVariants.{Whole}
-use Rattle.written_forms.specs.Operands.{RawLevel, level_of, AnyKind, OfKind, Like, Operand, wanting, is_equality, sides_by, operands_of, PathIn}
+use Rattle.written_forms.specs.Operands.{RawLevel, level_of, AnyKind, OfKind, Like, OperandOfKind, wanting, is_equality, sides_by, operands_of, PathIn}
 use Rattle.written_forms.specs.Operands as in_form
 use Rattle.written_forms.specs.Wrong.{IsMisnamed, Among, MisnamedOperand}
 use Rattle.written_forms.proofs.Gathering.{two_among}
 
 -- a path in a form that is no path stands in an operand
 in_operand : (l : RawLevel) (q : Path) → PathIn q l → ((p : Path) → l ≡ raw.Path p → ⊥)
-    → (o : Operand) × IsOneOf (operands_of l) o × PathIn q (level_of o.written)
+    → (o : OperandOfKind) × IsOneOf (operands_of l) o × PathIn q (level_of o.written)
 in_operand l q in_form.itself n = absurd (n q refl)
 in_operand l q (in_form.inside o i h) n = (o, i, h)
 

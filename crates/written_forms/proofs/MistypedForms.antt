@@ -10,9 +10,9 @@ use Rattle.typed_expr.specs.declared.expr.ValueKind.{ValueKind}
 use Rattle.typed_expr.specs.declared.expr.ValueKind.TheVariants.{Whole}
 use Rattle.class_table.specs.Earliest.{IsEarliest, nowhere, there, IsEarlierOf, no_first, no_second}
 use Rattle.class_table.proofs.FirstPlaces.{earliest_both, earliest_same}
-use Rattle.written_forms.specs.Operands.{RawLevel, level_of, Demand, AnyKind, OfKind, Like, Operand, wanting, tests, branches, first_branch, sides_by, choices, operands_of}
+use Rattle.written_forms.specs.Operands.{RawLevel, level_of, Demand, AnyKind, OfKind, Like, OperandOfKind, wanting, tests, branches, first_branch, sides_by, choice_operands, operands_of}
 use Rattle.written_forms.specs.Forms.{HasForm, IsFormOf}
-use Rattle.written_forms.specs.Wrong.{Names, IsWanted, this, that_of, IsMistyped, demanding, AreTwo, two, AreWanted, IsWrongItself, Among, MistypedOperand}
+use Rattle.written_forms.specs.Wrong.{NamesKind, IsWantedKind, this, that_of, IsMistyped, demanding, AreTwoKinds, two, AreWanted, IsWrongItself, Among, MistypedOperand}
 use Rattle.written_forms.specs.Wrong as wrong
 use Rattle.written_forms.proofs.Gathering.{none_among, one_among, both_among, two_among}
 use Rattle.written_forms.proofs.KindsFound.{one_form, one_named, first_of_choice}
@@ -22,73 +22,75 @@ only_first None = no_first
 only_first (Some p) = no_second
 
 module _ (kinds : Path → Option ValueKind) where
-  one_of : {l : RawLevel} {j k : ValueKind} → HasForm (Names kinds) l j → HasForm (Names kinds) l k → j ≡ k
-  one_of h g = one_form (Names kinds) (one_named kinds) h g
+  one_of : {l : RawLevel} {j k : ValueKind} → HasForm (NamesKind kinds) l j → HasForm (NamesKind kinds) l k → j ≡ k
+  one_of h g = one_form (NamesKind kinds) (one_named kinds) h g
 
   -- The expression itself
 
-  no_any : {k : ValueKind} → IsWanted (Names kinds) AnyKind k → ⊥
+  no_any : {k : ValueKind} → IsWantedKind (NamesKind kinds) AnyKind k → ⊥
   no_any w = elim w [ ]
 
-  of_kind : {j k : ValueKind} → IsWanted (Names kinds) (OfKind j) k → j ≡ k
+  of_kind : {j k : ValueKind} → IsWantedKind (NamesKind kinds) (OfKind j) k → j ≡ k
   of_kind this = refl
 
-  wanted_is : (want : Option ValueKind) (k : ValueKind) → IsWanted (Names kinds) (demanding want) k → want ≡ Some k
+  wanted_is : (want : Option ValueKind) (k : ValueKind) → IsWantedKind (NamesKind kinds) (demanding want) k
+      → want ≡ Some k
   wanted_is None k w = absurd (no_any w)
   wanted_is (Some j) k w = ap (λ (z : ValueKind). Some z) (of_kind w)
 
-  place_of : (d : Demand) (e : RawExpr) (p : Place) → IsWrongItself (Names kinds) d e p → p ≡ e.at
+  place_of : (d : Demand) (e : RawExpr) (p : Place) → IsWrongItself (NamesKind kinds) d e p → p ≡ e.at
   place_of d e p (wrong.another k want h w n i) = i
   place_of d e p (wrong.real h i) = i
 
   pub wrong_real : (d : Demand) (e : RawExpr) → level_of e ≡ raw.Real
-      → IsEarliest (IsWrongItself (Names kinds) d e) (Some e.at)
+      → IsEarliest (IsWrongItself (NamesKind kinds) d e) (Some e.at)
   wrong_real d e i = there (wrong.real i refl) (λ p b w. not_before p e.at b (place_of d e p w))
 
-  two_wrong : (e : RawExpr) (found want : Option ValueKind) → IsFormOf (Names kinds) (level_of e) found
-      → AreTwo found want → IsWrongItself (Names kinds) (demanding want) e e.at
+  two_wrong : (e : RawExpr) (found want : Option ValueKind) → IsFormOf (NamesKind kinds) (level_of e) found
+      → AreTwoKinds found want → IsWrongItself (NamesKind kinds) (demanding want) e e.at
   two_wrong e found want h (two {j = j} {k = k} n) = wrong.another j k h this n refl
 
-  pub wrong_kind : (e : RawExpr) (found want : Option ValueKind) → IsFormOf (Names kinds) (level_of e) found
-      → AreTwo found want
-      → IsEarliest (IsWrongItself (Names kinds) (demanding want) e) (Some e.at)
+  pub wrong_kind : (e : RawExpr) (found want : Option ValueKind) → IsFormOf (NamesKind kinds) (level_of e) found
+      → AreTwoKinds found want
+      → IsEarliest (IsWrongItself (NamesKind kinds) (demanding want) e) (Some e.at)
   wrong_kind e found want h t = there (two_wrong e found want h t)
       (λ p b w. not_before p e.at b (place_of (demanding want) e p w))
 
   pub right_kind : (e : RawExpr) (found want : Option ValueKind) → (level_of e ≡ raw.Real → ⊥)
-      → IsFormOf (Names kinds) (level_of e) found → (AreTwo found want → ⊥)
-      → IsEarliest (IsWrongItself (Names kinds) (demanding want) e) None
+      → IsFormOf (NamesKind kinds) (level_of e) found → (AreTwoKinds found want → ⊥)
+      → IsEarliest (IsWrongItself (NamesKind kinds) (demanding want) e) None
   right_kind e found want r h n = nowhere none
     where
-      differs : (found : Option ValueKind) (k j : ValueKind) → IsFormOf (Names kinds) (level_of e) found
-          → HasForm (Names kinds) (level_of e) k → (k ≡ j → ⊥) → AreTwo found (Some j)
+      differs : (found : Option ValueKind) (k j : ValueKind) → IsFormOf (NamesKind kinds) (level_of e) found
+          → HasForm (NamesKind kinds) (level_of e) k → (k ≡ j → ⊥) → AreTwoKinds found (Some j)
       differs None k j h g d = absurd (h k g)
       differs (Some i) k j h g d = two (λ q. d (one_of g h ∙ q))
 
-      none : (p : Place) → IsWrongItself (Names kinds) (demanding want) e p → ⊥
-      none p (wrong.another k j g w d i) = n (subst (AreTwo found) (sym (wanted_is want j w)) (differs found k j h g d))
+      none : (p : Place) → IsWrongItself (NamesKind kinds) (demanding want) e p → ⊥
+      none p (wrong.another k j g w d i) =
+          n (subst (AreTwoKinds found) (sym (wanted_is want j w)) (differs found k j h g d))
       none p (wrong.real i j) = r i
 
   -- The expression with its operands
 
   pub wrong_both : (d : Demand) (e : RawExpr) (l : RawLevel) (f g r : Option Place) → level_of e ≡ l
-      → IsEarliest (IsWrongItself (Names kinds) d e) f
-      → IsEarliest (Among (MistypedOperand (Names kinds)) (operands_of l)) g → IsEarlierOf f g r
-      → IsEarliest (IsMistyped (Names kinds) d e) r
+      → IsEarliest (IsWrongItself (NamesKind kinds) d e) f
+      → IsEarliest (Among (MistypedOperand (NamesKind kinds)) (operands_of l)) g → IsEarlierOf f g r
+      → IsEarliest (IsMistyped (NamesKind kinds) d e) r
   wrong_both d e l f g r i h k o = earliest_same r to from (earliest_both f g r h k o)
     where
-      here : (p : Place) → p ≡ e.at → IsMistyped (Names kinds) d e e.at → IsMistyped (Names kinds) d e p
-      here p q m = subst (λ (z : Place). IsMistyped (Names kinds) d e z) (sym q) m
+      here : (p : Place) → p ≡ e.at → IsMistyped (NamesKind kinds) d e e.at → IsMistyped (NamesKind kinds) d e p
+      here p q m = subst (λ (z : Place). IsMistyped (NamesKind kinds) d e z) (sym q) m
 
-      to : (p : Place) → IsWrongItself (Names kinds) d e p ⊎ Among (MistypedOperand (Names kinds)) (operands_of l) p
-          → IsMistyped (Names kinds) d e p
+      to : (p : Place) → IsWrongItself (NamesKind kinds) d e p ⊎ Among (MistypedOperand (NamesKind kinds)) (operands_of
+          l) p → IsMistyped (NamesKind kinds) d e p
       to p (inl (wrong.another k want h w n q)) = here p q (wrong.itself k want h w n)
       to p (inl (wrong.real h q)) = here p q (wrong.real h)
       to p (inr a) = wrong.inside a.operand
           (subst (λ (z : RawLevel). IsOneOf (operands_of z) a.operand) (sym i) a.is_operand) a.has
 
-      from : (p : Place) → IsMistyped (Names kinds) d e p
-          → IsWrongItself (Names kinds) d e p ⊎ Among (MistypedOperand (Names kinds)) (operands_of l) p
+      from : (p : Place) → IsMistyped (NamesKind kinds) d e p
+          → IsWrongItself (NamesKind kinds) d e p ⊎ Among (MistypedOperand (NamesKind kinds)) (operands_of l) p
       from p (wrong.itself k want h w n) = inl (wrong.another k want h w n refl)
       from p (wrong.real h) = inl (wrong.real h refl)
       from p (wrong.inside o q h) =
@@ -96,69 +98,72 @@ module _ (kinds : Path → Option ValueKind) where
 
   -- a form without operands
   pub wrong_leaf : (d : Demand) (e : RawExpr) (l : RawLevel) (f : Option Place) → level_of e ≡ l → operands_of l ≡ []
-      → IsEarliest (IsWrongItself (Names kinds) d e) f
-      → IsEarliest (IsMistyped (Names kinds) d e) f
+      → IsEarliest (IsWrongItself (NamesKind kinds) d e) f
+      → IsEarliest (IsMistyped (NamesKind kinds) d e) f
   wrong_leaf d e l f i n h =
       wrong_both d e l f None f i h
-      (subst (λ (os : List Operand). IsEarliest (Among (MistypedOperand (Names kinds)) os) None) (sym n)
-      (none_among (MistypedOperand (Names kinds)))) (only_first f)
+      (subst (λ (os : List OperandOfKind). IsEarliest (Among (MistypedOperand (NamesKind kinds)) os) None) (sym n)
+      (none_among (MistypedOperand (NamesKind kinds)))) (only_first f)
 
   -- Operands
 
   -- an operand of which the kind of another expression is wanted, by that kind
   pub wrong_like : (first e : RawExpr) (found : Option ValueKind) (f : Option Place)
-      → IsFormOf (Names kinds) (level_of first) found → IsEarliest (IsMistyped (Names kinds) (demanding found) e) f
-      → IsEarliest (IsMistyped (Names kinds) (Like first) e) f
+      → IsFormOf (NamesKind kinds) (level_of first) found → IsEarliest
+      (IsMistyped (NamesKind kinds) (demanding found) e) f
+      → IsEarliest (IsMistyped (NamesKind kinds) (Like first) e) f
   wrong_like first e found f h = earliest_same f (to found h) (from found h)
     where
-      to : (found : Option ValueKind) → IsFormOf (Names kinds) (level_of first) found → (p : Place)
-          → IsMistyped (Names kinds) (demanding found) e p → IsMistyped (Names kinds) (Like first) e p
+      to : (found : Option ValueKind) → IsFormOf (NamesKind kinds) (level_of first) found → (p : Place)
+          → IsMistyped (NamesKind kinds) (demanding found) e p → IsMistyped (NamesKind kinds) (Like first) e p
       to None h p (wrong.itself k want g w n) = absurd (no_any w)
       to (Some j) h p (wrong.itself k want g w n) =
-          wrong.itself k want g (that_of (subst (λ (z : ValueKind). HasForm (Names kinds) (level_of first) z)
+          wrong.itself k want g (that_of (subst (λ (z : ValueKind). HasForm (NamesKind kinds) (level_of first) z)
           (of_kind w) h)) n
       to found h p (wrong.real i) = wrong.real i
       to found h p (wrong.inside o i m) = wrong.inside o i m
 
-      that : {k : ValueKind} → IsWanted (Names kinds) (Like first) k → HasForm (Names kinds) (level_of first) k
+      that : {k : ValueKind} → IsWantedKind (NamesKind kinds) (Like first) k
+          → HasForm (NamesKind kinds) (level_of first) k
       that (that_of g) = g
 
-      from : (found : Option ValueKind) → IsFormOf (Names kinds) (level_of first) found → (p : Place)
-          → IsMistyped (Names kinds) (Like first) e p → IsMistyped (Names kinds) (demanding found) e p
+      from : (found : Option ValueKind) → IsFormOf (NamesKind kinds) (level_of first) found → (p : Place)
+          → IsMistyped (NamesKind kinds) (Like first) e p → IsMistyped (NamesKind kinds) (demanding found) e p
       from None h p (wrong.itself k want g w n) = absurd (h want (that w))
       from (Some j) h p (wrong.itself k want g w n) =
-          wrong.itself k want g (subst (λ (z : ValueKind). IsWanted (Names kinds) (OfKind j) z) (one_of h (that w))
+          wrong.itself k want g
+          (subst (λ (z : ValueKind). IsWantedKind (NamesKind kinds) (OfKind j) z) (one_of h (that w))
           this) n
       from found h p (wrong.real i) = wrong.real i
       from found h p (wrong.inside o i m) = wrong.inside o i m
 
   -- the sides of a comparison
   pub wrong_sides : (equal : Bool) (a b : RawExpr) (want : Option ValueKind × Option ValueKind) (f g r : Option Place)
-      → AreWanted (Names kinds) equal (level_of a) want
-      → IsEarliest (IsMistyped (Names kinds) (demanding want.0) a) f
-      → IsEarliest (IsMistyped (Names kinds) (demanding want.1) b) g → IsEarlierOf f g r
-      → IsEarliest (Among (MistypedOperand (Names kinds)) (sides_by equal a b)) r
+      → AreWanted (NamesKind kinds) equal (level_of a) want
+      → IsEarliest (IsMistyped (NamesKind kinds) (demanding want.0) a) f
+      → IsEarliest (IsMistyped (NamesKind kinds) (demanding want.1) b) g → IsEarlierOf f g r
+      → IsEarliest (Among (MistypedOperand (NamesKind kinds)) (sides_by equal a b)) r
   wrong_sides true a b want f g r w h k o =
-      two_among (MistypedOperand (Names kinds)) (wanting AnyKind a) (wanting (Like a) b) f g r
-      (subst (λ (z : Option ValueKind). IsEarliest (IsMistyped (Names kinds) (demanding z) a) f) w.0 h)
+      two_among (MistypedOperand (NamesKind kinds)) (wanting AnyKind a) (wanting (Like a) b) f g r
+      (subst (λ (z : Option ValueKind). IsEarliest (IsMistyped (NamesKind kinds) (demanding z) a) f) w.0 h)
       (wrong_like a b want.1 g w.1 k) o
   wrong_sides false a b want f g r w h k o =
-      two_among (MistypedOperand (Names kinds)) (wanting (OfKind Whole) a) (wanting (OfKind Whole) b) f g r
-      (subst (λ (z : Option ValueKind). IsEarliest (IsMistyped (Names kinds) (demanding z) a) f) w.0 h)
-      (subst (λ (z : Option ValueKind). IsEarliest (IsMistyped (Names kinds) (demanding z) b) g) w.1 k) o
+      two_among (MistypedOperand (NamesKind kinds)) (wanting (OfKind Whole) a) (wanting (OfKind Whole) b) f g r
+      (subst (λ (z : Option ValueKind). IsEarliest (IsMistyped (NamesKind kinds) (demanding z) a) f) w.0 h)
+      (subst (λ (z : Option ValueKind). IsEarliest (IsMistyped (NamesKind kinds) (demanding z) b) g) w.1 k) o
 
   -- the operands of a choice
   pub wrong_choices : (e : RawExpr) (cases : Vec (RawExpr × RawExpr) Global) (other : Box RawExpr Global)
       (found : Option ValueKind) (f g r : Option Place)
-      → level_of e ≡ raw.Choose cases other → IsFormOf (Names kinds) (level_of e) found
-      → ((first : RawExpr) → IsFormOf (Names kinds) (level_of first) found
-      → IsEarliest (Among (MistypedOperand (Names kinds)) (tests cases.items ++ branches first cases.items)) f)
-      → IsEarliest (IsMistyped (Names kinds) (demanding found) other.value) g → IsEarlierOf f g r
-      → IsEarliest (Among (MistypedOperand (Names kinds)) (choices cases.items other.value)) r
+      → level_of e ≡ raw.Choose cases other → IsFormOf (NamesKind kinds) (level_of e) found
+      → ((first : RawExpr) → IsFormOf (NamesKind kinds) (level_of first) found
+      → IsEarliest (Among (MistypedOperand (NamesKind kinds)) (tests cases.items ++ branches first cases.items)) f)
+      → IsEarliest (IsMistyped (NamesKind kinds) (demanding found) other.value) g → IsEarlierOf f g r
+      → IsEarliest (Among (MistypedOperand (NamesKind kinds)) (choice_operands cases.items other.value)) r
   wrong_choices e cases other found f g r i k h m o =
       let first = first_branch cases.items other.value in
-      let kind = first_of_choice (Names kinds) e cases other found i k in
-      both_among (MistypedOperand (Names kinds)) (tests cases.items ++ branches first cases.items)
+      let kind = first_of_choice (NamesKind kinds) e cases other found i k in
+      both_among (MistypedOperand (NamesKind kinds)) (tests cases.items ++ branches first cases.items)
       (wanting (Like first) other.value ∷ []) f g r (h first kind)
-      (one_among (MistypedOperand (Names kinds)) (wanting (Like first) other.value) g
+      (one_among (MistypedOperand (NamesKind kinds)) (wanting (Like first) other.value) g
       (wrong_like first other.value found g kind m)) o

@@ -4,7 +4,7 @@ use Rattle.ar_base.specs.Lists.{IsOneOf}
 use Rattle.ar_base.proofs.Standing.{stands_map, one_here, one_first, one_rest, one_left, one_right}
 use Rattle.ar_syntax.specs.declared.expressions.RawExpr.{RawExpr}
 use Rattle.typed_expr.specs.declared.expr.ValueKind.TheVariants.{Truth, Whole}
-use Rattle.written_forms.specs.Operands.{AnyKind, OfKind, Like, Operand, wanting, tests, branches, first_branch, sides_by, choices}
+use Rattle.written_forms.specs.Operands.{AnyKind, OfKind, Like, OperandOfKind, wanting, tests, branches, first_branch, sides_by, choice_operands}
 
 pub mapped_one : {A B : Type 0} (f : A → B) (xs : List A) (a : A) → IsOneOf xs a → IsOneOf (map f xs) (f a)
 mapped_one f xs a i = one_here (map f xs) i.place (f a) (stands_map f xs i.place a i.stands)
@@ -30,12 +30,12 @@ module _ (cases : List (RawExpr × RawExpr)) (other first : RawExpr) where
       (wanting (Like first) other) (one_first (wanting (Like first) other) [])
 
 pub first_one : (cases : List (RawExpr × RawExpr)) (other : RawExpr)
-    → IsOneOf (choices cases other) (wanting (Like (first_branch cases other)) (first_branch cases other))
+    → IsOneOf (choice_operands cases other) (wanting (Like (first_branch cases other)) (first_branch cases other))
 first_one [] other = other_one [] other other
 first_one (c ∷ cases) other = branch_one (c ∷ cases) other c.1 c.0 c.1 (one_first c cases)
 
 -- the sides of a comparison, each with what is wanted of it
-pub left_side : (equal : Bool) (a b : RawExpr) → (o : Operand) × IsOneOf (sides_by equal a b) o × (o.written ≡ a)
+pub left_side : (equal : Bool) (a b : RawExpr) → (o : OperandOfKind) × IsOneOf (sides_by equal a b) o × (o.written ≡ a)
 left_side true a b = (wanting AnyKind a, one_first (wanting AnyKind a) (wanting (Like a) b ∷ []), refl)
 left_side false a b = (
   wanting (OfKind Whole) a,
@@ -43,7 +43,7 @@ left_side false a b = (
   refl,
 )
 
-pub right_side : (equal : Bool) (a b : RawExpr) → (o : Operand) × IsOneOf (sides_by equal a b) o × (o.written ≡ b)
+pub right_side : (equal : Bool) (a b : RawExpr) → (o : OperandOfKind) × IsOneOf (sides_by equal a b) o × (o.written ≡ b)
 right_side true a b = (
   wanting (Like a) b,
   one_rest (wanting AnyKind a) (wanting (Like a) b ∷ []) (wanting (Like a) b)

@@ -15,14 +15,15 @@ use Rattle.typed_expr.specs.declared.expr.Expr.{Expr, out-Expr}
 use Rattle.typed_expr.specs.declared.expr.Expr.TheOpen as form
 use Rattle.typed_expr.specs.declared.expr.ValueKind.{ValueKind}
 use Rattle.typed_expr.specs.declared.expr.ValueKind.TheVariants.{Truth, Whole, Symbol}
-use Rattle.written_forms.specs.Operands.{RawLevel, level_of, AnyKind, OfKind, Like, Operand, wanting, each_wanting, first_branch, is_equality, sides_by, operands_of, PathIn}
+use Rattle.written_forms.specs.Operands.{RawLevel, level_of, AnyKind, OfKind, Like, OperandOfKind, wanting, each_wanting, first_branch, is_equality, sides_by, operands_of, PathIn}
 use Rattle.written_forms.specs.Operands as in_form
 use Rattle.written_forms.specs.Forms.{own_kind, HasForm}
 use Rattle.written_forms.specs.Forms as of_form
 use Rattle.written_forms.specs.Full.{HasOperands, IsFull, full}
-use Rattle.written_forms.specs.Wrong.{Names, IsNamed, IsWanted, this, that_of, IsMisnamed, IsMistyped}
+use Rattle.written_forms.specs.Wrong.{NamesKind, IsNamedPath, IsWantedKind, this, that_of, IsMisnamed, IsMistyped}
 use Rattle.written_forms.specs.Wrong as wrong
-use Rattle.written_forms.specs.Translating.{relation_of, Becomes, All_become, Parts_become, Cases_become}
+use Rattle.written_forms.specs.Translating.{Becomes, All_become, Parts_become, Cases_become}
+use Rattle.written_forms.specs.Relations.{relation_of}
 use Rattle.written_forms.specs.Translating as t
 use Rattle.written_forms.proofs.KindsFound.{one_form, one_named}
 use Rattle.written_forms.proofs.OperandLists.{mapped_one, test_one, branch_one, other_one, first_one}
@@ -47,18 +48,19 @@ one_way false = inr refl
 -- no operand has a wrong kind, the form is no real, each path names something, and no list is empty
 record Right (kinds : Path → Option ValueKind) (l : RawLevel) : Type 0 where
   is_full : IsFull l
-  named : (p : Path) → PathIn p l → IsNamed kinds p
-  right : (o : Operand) → IsOneOf (operands_of l) o → (at : Place) → IsMistyped (Names kinds) o.demand o.written at → ⊥
+  named : (p : Path) → PathIn p l → IsNamedPath kinds p
+  right : (o : OperandOfKind) → IsOneOf (operands_of l) o → (at : Place)
+      → IsMistyped (NamesKind kinds) o.demand o.written at → ⊥
   no_real : l ≡ raw.Real → ⊥
 
 operands_full : {l : RawLevel} → IsFull l → HasOperands l
 operands_full (full h f) = h
 
-operand_full : {l : RawLevel} → IsFull l → (o : Operand) → IsOneOf (operands_of l) o → IsFull (level_of o.written)
+operand_full : {l : RawLevel} → IsFull l → (o : OperandOfKind) → IsOneOf (operands_of l) o → IsFull (level_of o.written)
 operand_full (full h f) o i = f o i
 
 module _ (kinds : Path → Option ValueKind) where
-  operand_right : {l : RawLevel} → Right kinds l → (o : Operand) → IsOneOf (operands_of l) o
+  operand_right : {l : RawLevel} → Right kinds l → (o : OperandOfKind) → IsOneOf (operands_of l) o
       → Right kinds (level_of o.written)
   operand_right g o i = record {
     is_full = operand_full g.is_full o i;
@@ -68,8 +70,8 @@ module _ (kinds : Path → Option ValueKind) where
   }
 
   -- the expression has a kind by its form
-  some_form : (l : RawLevel) → IsFull l → ((p : Path) → PathIn p l → IsNamed kinds p)
-      → (j : ValueKind) × HasForm (Names kinds) l j
+  some_form : (l : RawLevel) → IsFull l → ((p : Path) → PathIn p l → IsNamedPath kinds p)
+      → (j : ValueKind) × HasForm (NamesKind kinds) l j
   some_form (raw.Truth b) (full h f) named = (Truth, of_form.own refl)
   some_form (raw.Whole n) (full h f) named = (Whole, of_form.own refl)
   some_form raw.Real (full h f) named = (Whole, of_form.own refl)
@@ -92,34 +94,34 @@ module _ (kinds : Path → Option ValueKind) where
       (j.0, of_form.choice j.1)
 
   -- an operand has the kind that is wanted of it
-  wanted_form : {l : RawLevel} → Right kinds l → (o : Operand) → IsOneOf (operands_of l) o → (want : ValueKind)
-      → IsWanted (Names kinds) o.demand want
-      → HasForm (Names kinds) (level_of o.written) want
+  wanted_form : {l : RawLevel} → Right kinds l → (o : OperandOfKind) → IsOneOf (operands_of l) o → (want : ValueKind)
+      → IsWantedKind (NamesKind kinds) o.demand want
+      → HasForm (NamesKind kinds) (level_of o.written) want
   wanted_form g o i want w =
       let r = operand_right g o i in
       let f = some_form (level_of o.written) r.is_full r.named in
       elim (same_kind f.0 want) [
-        | inl e ↦ subst (λ (z : ValueKind). HasForm (Names kinds) (level_of o.written) z) e f.1
+        | inl e ↦ subst (λ (z : ValueKind). HasForm (NamesKind kinds) (level_of o.written) z) e f.1
         | inr n ↦ absurd (g.right o i o.written.at (wrong.itself f.0 want f.1 w n))
       ]
 
   choice_kind : (cases : Vec (RawExpr × RawExpr) Global) (other : Box RawExpr Global) (k : ValueKind)
-      → HasForm (Names kinds) (raw.Choose cases other) k
-      → HasForm (Names kinds) (level_of (first_branch cases.items other.value)) k
+      → HasForm (NamesKind kinds) (raw.Choose cases other) k
+      → HasForm (NamesKind kinds) (level_of (first_branch cases.items other.value)) k
   choice_kind cases other k (of_form.own e) = cc
   choice_kind cases other k (of_form.choice h) = h
 
   -- the operands of a form, of which one kind is wanted
   each_right : (l : RawLevel) → Right kinds l → (k : ValueKind) (rs : List RawExpr)
-      → ((o : Operand) → IsOneOf (each_wanting (OfKind k) rs) o → IsOneOf (operands_of l) o)
-      → (r : RawExpr) → IsOneOf rs r → Right kinds (level_of r) × HasForm (Names kinds) (level_of r) k
+      → ((o : OperandOfKind) → IsOneOf (each_wanting (OfKind k) rs) o → IsOneOf (operands_of l) o)
+      → (r : RawExpr) → IsOneOf rs r → Right kinds (level_of r) × HasForm (NamesKind kinds) (level_of r) k
   each_right l g k rs are r i =
       let o = wanting (OfKind k) r in
       let j = are o (mapped_one (wanting (OfKind k)) rs r i) in
       (operand_right g o j, wanted_form g o j k this)
 
-  own_is : (l : RawLevel) (j k : ValueKind) → own_kind l ≡ Some j → HasForm (Names kinds) l k → j ≡ k
-  own_is l j k e f = one_form (Names kinds) (one_named kinds) (of_form.own e) f
+  own_is : (l : RawLevel) (j k : ValueKind) → own_kind l ≡ Some j → HasForm (NamesKind kinds) l k → j ≡ k
+  own_is l j k e f = one_form (NamesKind kinds) (one_named kinds) (of_form.own e) f
 
 equal_compares : (r : RawRelation) → is_equality r ≡ true → (k : ValueKind) → Compares (relation_of r) k
 equal_compares written.Equal e k = kind.equal
@@ -153,16 +155,16 @@ module _ {V : Type 0} (names : Path → Level V → Type 0) (kinds : Path → Op
   cases_length t.no_case = refl
   cases_length (t.case_and d e ds) = let e = cases_length ds in omega (arith, e)
 
-  path_kind : (p : Path) (k : ValueKind) → HasForm (Names kinds) (raw.Path p) k → kinds p ≡ Some k
+  path_kind : (p : Path) (k : ValueKind) → HasForm (NamesKind kinds) (raw.Path p) k → kinds p ≡ Some k
   path_kind p k (of_form.own e) = cc
   path_kind p k (of_form.path h) = h
 
   -- a comparison, where its sides are of their kinds
   sides_typed : (r : RawRelation) (a b : Box RawExpr Global) (c e : Box (Expr V) Global)
       → Right kinds (raw.Compare r a b)
-      → (Right kinds (level_of a.value) → (k : ValueKind) → HasForm (Names kinds) (level_of a.value) k
+      → (Right kinds (level_of a.value) → (k : ValueKind) → HasForm (NamesKind kinds) (level_of a.value) k
       → HasKind sorts (out-Expr V c.value) k)
-      → (Right kinds (level_of b.value) → (k : ValueKind) → HasForm (Names kinds) (level_of b.value) k
+      → (Right kinds (level_of b.value) → (k : ValueKind) → HasForm (NamesKind kinds) (level_of b.value) k
       → HasKind sorts (out-Expr V e.value) k)
       → HasKind sorts (form.Compare (relation_of r) c e) Truth
   sides_typed r a b c e g d h = by (one_way (is_equality r))
@@ -189,7 +191,7 @@ module _ {V : Type 0} (names : Path → Level V → Type 0) (kinds : Path → Op
 
   mutual
     typed : {l : RawLevel} {y : Level V} → Becomes names l y → Right kinds l → (k : ValueKind)
-        → HasForm (Names kinds) l k → HasKind sorts y k
+        → HasForm (NamesKind kinds) l k → HasKind sorts y k
     typed (t.truth {b = b}) g k f = subst (HasKind sorts _) (own_is kinds (raw.Truth b) Truth k refl f) kind.constant
     typed (t.whole {n = n}) g k f = subst (HasKind sorts _) (own_is kinds (raw.Whole n) Whole k refl f) kind.constant
     typed t.real g k f = absurd (g.no_real refl)
@@ -258,7 +260,7 @@ module _ {V : Type 0} (names : Path → Level V → Type 0) (kinds : Path → Op
         (typed d (operand_right kinds g o i) k (wanted_form kinds g o i k (that_of first_kind)))
 
     each_typed : {rs : List RawExpr} {es : List (Expr V)} → All_become names rs es → (k : ValueKind)
-        → ((r : RawExpr) → IsOneOf rs r → Right kinds (level_of r) × HasForm (Names kinds) (level_of r) k)
+        → ((r : RawExpr) → IsOneOf rs r → Right kinds (level_of r) × HasForm (NamesKind kinds) (level_of r) k)
         → Each sorts es k
     each_typed t.none k h = kind.none
     each_typed (t.one_and {r = r} {rs = rs} d ds) k h =
@@ -267,7 +269,7 @@ module _ {V : Type 0} (names : Path → Level V → Type 0) (kinds : Path → Op
 
     parts_typed : {rs : List (Bool × RawExpr)} {es : List (Bool × Expr V)} → Parts_become names rs es
         → ((plus : Bool) (r : RawExpr) → IsOneOf rs (plus, r)
-        → Right kinds (level_of r) × HasForm (Names kinds) (level_of r) Whole) → Each_part sorts es
+        → Right kinds (level_of r) × HasForm (NamesKind kinds) (level_of r) Whole) → Each_part sorts es
     parts_typed t.no_part h = kind.no_part
     parts_typed (t.part {plus = plus} {r = r} {rs = rs} d ds) h =
         let a = h plus r (one_first (plus, r) rs) in
@@ -276,8 +278,8 @@ module _ {V : Type 0} (names : Path → Level V → Type 0) (kinds : Path → Op
     cases_typed : {rs : List (RawExpr × RawExpr)} {es : List (Expr V × Expr V)} → Cases_become names rs es
         → (k : ValueKind)
         → ((q r : RawExpr) → IsOneOf rs (q, r)
-        → (Right kinds (level_of q) × HasForm (Names kinds) (level_of q) Truth)
-        × (Right kinds (level_of r) × HasForm (Names kinds) (level_of r) k))
+        → (Right kinds (level_of q) × HasForm (NamesKind kinds) (level_of q) Truth)
+        × (Right kinds (level_of r) × HasForm (NamesKind kinds) (level_of r) k))
         → Each_case sorts es k
     cases_typed t.no_case k h = kind.no_case
     cases_typed (t.case_and {q = q} {r = r} {rs = rs} d e ds) k h =
@@ -291,17 +293,17 @@ pub typed_whole : {V : Type 0} (names : Path → Level V → Type 0) (kinds : Pa
     (sorts : V → ValueKind)
     → ((p : Path) (l : Level V) (k : ValueKind) → names p l → kinds p ≡ Some k → HasKind sorts l k)
     → (r : RawExpr) (y : Level V) (k : ValueKind) → IsFull (level_of r)
-    → ((at : Place) → IsMisnamed (IsNamed kinds) (level_of r) at → ⊥)
-    → ((at : Place) → IsMistyped (Names kinds) (OfKind k) r at → ⊥) → Becomes names (level_of r) y
+    → ((at : Place) → IsMisnamed (IsNamedPath kinds) (level_of r) at → ⊥)
+    → ((at : Place) → IsMistyped (NamesKind kinds) (OfKind k) r at → ⊥) → Becomes names (level_of r) y
     → HasKind sorts y k
 typed_whole names kinds sorts compatible r y k f n w b =
     typed names kinds sorts compatible b g k (wanted (some_form kinds (level_of r) f named))
   where
-    told : (p : Path) (found : Option ValueKind) → kinds p ≡ found → PathIn p (level_of r) → IsNamed kinds p
+    told : (p : Path) (found : Option ValueKind) → kinds p ≡ found → PathIn p (level_of r) → IsNamedPath kinds p
     told p (Some j) e i = (j, e)
     told p None e i = absurd (n p.at (record { path = p; is_in = i; not = λ h. let d = h.1 in cc; place = refl }))
 
-    named : (p : Path) → PathIn p (level_of r) → IsNamed kinds p
+    named : (p : Path) → PathIn p (level_of r) → IsNamedPath kinds p
     named p i = told p (kinds p) refl i
 
     g : Right kinds (level_of r)
@@ -312,8 +314,8 @@ typed_whole names kinds sorts compatible r y k f n w b =
       no_real = λ e. w r.at (wrong.real e);
     }
 
-    wanted : (j : ValueKind) × HasForm (Names kinds) (level_of r) j → HasForm (Names kinds) (level_of r) k
+    wanted : (j : ValueKind) × HasForm (NamesKind kinds) (level_of r) j → HasForm (NamesKind kinds) (level_of r) k
     wanted (j, h) = elim (same_kind j k) [
-      | inl e ↦ subst (λ (z : ValueKind). HasForm (Names kinds) (level_of r) z) e h
+      | inl e ↦ subst (λ (z : ValueKind). HasForm (NamesKind kinds) (level_of r) z) e h
       | inr d ↦ absurd (w r.at (wrong.itself j k h this d))
     ]

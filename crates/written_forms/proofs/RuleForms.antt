@@ -12,7 +12,7 @@ use Rattle.typed_expr.specs.declared.expr.ValueKind.TheVariants.{Truth}
 use Rattle.class_table.specs.Earliest.{IsEarliest, nowhere, there, IsEarlierOf}
 use Rattle.class_table.proofs.FirstPlaces.{earliest_both, earliest_same}
 use Rattle.written_forms.specs.Operands.{level_of, OfKind}
-use Rattle.written_forms.specs.Wrong.{Names, IsMisnamed, IsMistyped, AreTwo, two}
+use Rattle.written_forms.specs.Wrong.{NamesKind, IsMisnamed, IsMistyped, AreTwoKinds, two}
 use Rattle.written_forms.specs.Parts.{InstrForm}
 use Rattle.written_forms.specs.Breaches.{Targets, IsTarget, IsSort, IsNoTargetAt, IsSortAt, AreOtherKinds, other, MisnamesItself, MistypesItself, MisplacedInAction, MisplacedInAssertion}
 use Rattle.written_forms.specs.Breaches as breach
@@ -135,78 +135,81 @@ module _ (may : Path → Type 0) (targets : Targets) where
 
 module _ (kinds : Path → Option ValueKind) where
   pub assign_untyped : (i : Instr) (p : Path) (e : RawExpr) → out-Instr i ≡ instr.Assign p e → kinds p ≡ None
-      → IsEarliest (MistypesItself (Names kinds) (out-Instr i)) None
-  assign_untyped i p e q n = never (MistypesItself (Names kinds)) i (instr.Assign p e) q none
+      → IsEarliest (MistypesItself (NamesKind kinds) (out-Instr i)) None
+  assign_untyped i p e q n = never (MistypesItself (NamesKind kinds)) i (instr.Assign p e) q none
     where
-      none : (at : Place) → MistypesItself (Names kinds) (instr.Assign p e) at → ⊥
+      none : (at : Place) → MistypesItself (NamesKind kinds) (instr.Assign p e) at → ⊥
       none at (breach.value k h m) = cc
 
   pub assign_mistyped : (i : Instr) (p : Path) (e : RawExpr) (k : ValueKind) (f : Option Place)
       → out-Instr i ≡ instr.Assign p e → kinds p ≡ Some k
-      → IsEarliest (IsMistyped (Names kinds) (OfKind k) e) f → IsEarliest (MistypesItself (Names kinds) (out-Instr i)) f
-  assign_mistyped i p e k f q n h = by_form (MistypesItself (Names kinds)) i (instr.Assign p e) f q
+      → IsEarliest (IsMistyped (NamesKind kinds) (OfKind k) e) f
+      → IsEarliest (MistypesItself (NamesKind kinds) (out-Instr i)) f
+  assign_mistyped i p e k f q n h = by_form (MistypesItself (NamesKind kinds)) i (instr.Assign p e) f q
       (earliest_same f (λ at m. breach.value k n m) from h)
     where
       same : (j : ValueKind) → kinds p ≡ Some j → j ≡ k
       same j d = cc
 
-      from : (at : Place) → MistypesItself (Names kinds) (instr.Assign p e) at → IsMistyped (Names kinds) (OfKind k) e
-          at
-      from at (breach.value j d m) = subst (λ (z : ValueKind). IsMistyped (Names kinds) (OfKind z) e at) (same j d) m
+      from : (at : Place) → MistypesItself (NamesKind kinds) (instr.Assign p e) at → IsMistyped (NamesKind kinds)
+          (OfKind k) e at
+      from at (breach.value j d m) = subst (λ (z : ValueKind). IsMistyped (NamesKind kinds) (OfKind z) e at) (same j d)
+          m
 
   pub tie_mistyped : (i : Instr) (p q : Path) (f : Option Place) → out-Instr i ≡ instr.Tie p q
-      → IsEarliest (AreOtherKinds (Names kinds) p q) f
-      → IsEarliest (MistypesItself (Names kinds) (out-Instr i)) f
-  tie_mistyped i p q f e h = by_form (MistypesItself (Names kinds)) i (instr.Tie p q) f e (earliest_same f to from h)
+      → IsEarliest (AreOtherKinds (NamesKind kinds) p q) f
+      → IsEarliest (MistypesItself (NamesKind kinds) (out-Instr i)) f
+  tie_mistyped i p q f e h = by_form (MistypesItself (NamesKind kinds)) i (instr.Tie p q) f e
+      (earliest_same f to from h)
     where
-      to : (at : Place) → AreOtherKinds (Names kinds) p q at → MistypesItself (Names kinds) (instr.Tie p q) at
+      to : (at : Place) → AreOtherKinds (NamesKind kinds) p q at → MistypesItself (NamesKind kinds) (instr.Tie p q) at
       to at (other j k a b n) = breach.tied j k a b n
 
-      from : (at : Place) → MistypesItself (Names kinds) (instr.Tie p q) at → AreOtherKinds (Names kinds) p q at
+      from : (at : Place) → MistypesItself (NamesKind kinds) (instr.Tie p q) at → AreOtherKinds (NamesKind kinds) p q at
       from at (breach.tied j k a b n) = other j k a b n
 
   pub if_mistyped : (i : Instr) (e : RawExpr) (a : Box Instr Global) (b : Option (Box Instr Global)) (f : Option Place)
       → out-Instr i ≡ instr.If e a b
-      → IsEarliest (IsMistyped (Names kinds) (OfKind Truth) e) f
-      → IsEarliest (MistypesItself (Names kinds) (out-Instr i)) f
-  if_mistyped i e a b f q h = by_form (MistypesItself (Names kinds)) i (instr.If e a b) f q
+      → IsEarliest (IsMistyped (NamesKind kinds) (OfKind Truth) e) f
+      → IsEarliest (MistypesItself (NamesKind kinds) (out-Instr i)) f
+  if_mistyped i e a b f q h = by_form (MistypesItself (NamesKind kinds)) i (instr.If e a b) f q
       (earliest_same f (λ at m. breach.test m) from h)
     where
-      from : (at : Place) → MistypesItself (Names kinds) (instr.If e a b) at → IsMistyped (Names kinds) (OfKind Truth) e
-          at
+      from : (at : Place) → MistypesItself (NamesKind kinds) (instr.If e a b) at → IsMistyped (NamesKind kinds) (OfKind
+          Truth) e at
       from at (breach.test m) = m
 
-  pub skip_typed : (at : Place) → MistypesItself (Names kinds) instr.Skip at → ⊥
+  pub skip_typed : (at : Place) → MistypesItself (NamesKind kinds) instr.Skip at → ⊥
   skip_typed at h = elim h [ ]
 
-  pub all_typed : (is : Vec Instr Global) (at : Place) → MistypesItself (Names kinds) (instr.All is) at → ⊥
+  pub all_typed : (is : Vec Instr Global) (at : Place) → MistypesItself (NamesKind kinds) (instr.All is) at → ⊥
   all_typed is at h = elim h [ ]
 
   -- the kinds of two paths
   kinds_differ : (p q : Path) (j k : ValueKind) → kinds p ≡ Some j → kinds q ≡ Some k → (k ≡ j → ⊥)
-      → AreTwo (kinds q) (kinds p)
-  kinds_differ p q j k a b n = subst (λ (z : Option ValueKind). AreTwo z (kinds p)) (sym b)
-      (subst (λ (z : Option ValueKind). AreTwo (Some k) z) (sym a) (two n))
+      → AreTwoKinds (kinds q) (kinds p)
+  kinds_differ p q j k a b n = subst (λ (z : Option ValueKind). AreTwoKinds z (kinds p)) (sym b)
+      (subst (λ (z : Option ValueKind). AreTwoKinds (Some k) z) (sym a) (two n))
 
-  differ_kinds : (p q : Path) (x y : Option ValueKind) → x ≡ kinds q → y ≡ kinds p → AreTwo x y
-      → AreOtherKinds (Names kinds) p q q.at
+  differ_kinds : (p q : Path) (x y : Option ValueKind) → x ≡ kinds q → y ≡ kinds p → AreTwoKinds x y
+      → AreOtherKinds (NamesKind kinds) p q q.at
   differ_kinds p q x y a b (two {j = j} {k = k} n) = other k j (sym b) (sym a) n
 
-  pub kinds_other : (p q : Path) (x y : Option ValueKind) → x ≡ kinds q → y ≡ kinds p → AreTwo x y
-      → IsEarliest (AreOtherKinds (Names kinds) p q) (Some q.at)
-  kinds_other p q x y a b t = one_place (AreOtherKinds (Names kinds) p q) q.at (differ_kinds p q x y a b t) only
+  pub kinds_other : (p q : Path) (x y : Option ValueKind) → x ≡ kinds q → y ≡ kinds p → AreTwoKinds x y
+      → IsEarliest (AreOtherKinds (NamesKind kinds) p q) (Some q.at)
+  kinds_other p q x y a b t = one_place (AreOtherKinds (NamesKind kinds) p q) q.at (differ_kinds p q x y a b t) only
     where
-      only : (at : Place) → AreOtherKinds (Names kinds) p q at → at ≡ q.at
+      only : (at : Place) → AreOtherKinds (NamesKind kinds) p q at → at ≡ q.at
       only at (other j k c d n) = refl
 
-  pub kinds_same : (p q : Path) (x y : Option ValueKind) → x ≡ kinds q → y ≡ kinds p → (AreTwo x y → ⊥)
-      → IsEarliest (AreOtherKinds (Names kinds) p q) None
+  pub kinds_same : (p q : Path) (x y : Option ValueKind) → x ≡ kinds q → y ≡ kinds p → (AreTwoKinds x y → ⊥)
+      → IsEarliest (AreOtherKinds (NamesKind kinds) p q) None
   kinds_same p q x y a b n = nowhere none
     where
-      none : (at : Place) → AreOtherKinds (Names kinds) p q at → ⊥
+      none : (at : Place) → AreOtherKinds (NamesKind kinds) p q at → ⊥
       none at (other j k c d m) =
-          n (subst (λ (z : Option ValueKind). AreTwo z y) (sym a)
-          (subst (λ (z : Option ValueKind). AreTwo (kinds q) z) (sym b) (kinds_differ p q j k c d m)))
+          n (subst (λ (z : Option ValueKind). AreTwoKinds z y) (sym a)
+          (subst (λ (z : Option ValueKind). AreTwoKinds (kinds q) z) (sym b) (kinds_differ p q j k c d m)))
 
 -- Targets
 

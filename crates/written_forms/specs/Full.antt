@@ -2,7 +2,7 @@
 use Rattle.std.specs.Prelude.{◌<◌, length}
 use Rattle.ar_base.specs.Lists.{IsOneOf}
 use Rattle.ar_syntax.specs.declared.expressions.RawForm.TheOpen as raw
-use Rattle.written_forms.specs.Operands.{RawLevel, level_of, Operand, operands_of}
+use Rattle.written_forms.specs.Operands.{RawLevel, level_of, OperandOfKind, operands_of}
 
 -- the form's own list of operands is not empty
 abbrev pub HasOperands : RawLevel → Type 0
@@ -24,5 +24,5 @@ HasOperands (raw.Choose cases other) = 0 < length cases.items
 
 -- no list of operands in the expression is empty
 pub data IsFull : RawLevel → Type 0 where
-  full : {l : RawLevel} → HasOperands l → ((o : Operand) → IsOneOf (operands_of l) o → IsFull (level_of o.written))
-      → IsFull l
+  full : {l : RawLevel} → HasOperands l → ((o : OperandOfKind) → IsOneOf (operands_of l) o → IsFull (level_of
+      o.written)) → IsFull l

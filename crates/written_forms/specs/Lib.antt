@@ -5,4 +5,5 @@ pub mod Full
 pub mod Operands
 pub mod Parts
 pub mod Translating
+pub mod Relations
 pub mod Wrong

@@ -29,28 +29,28 @@ pub data Demand : Type 0 where
   Like : RawExpr → Demand
 
 -- an operand with the kind that is wanted of it
-pub record Operand : Type 0 where
+pub record OperandOfKind : Type 0 where
   pub demand : Demand
   pub written : RawExpr
 
 -- this is wanted of the expression
-abbrev pub wanting : Demand → RawExpr → Operand
+abbrev pub wanting : Demand → RawExpr → OperandOfKind
 wanting d e = record { demand = d; written = e }
 
 -- the same is wanted of each
-abbrev pub each_wanting : Demand → List RawExpr → List Operand
+abbrev pub each_wanting : Demand → List RawExpr → List OperandOfKind
 each_wanting d es = map (wanting d) es
 
 -- the terms of a sum are whole numbers
-abbrev pub terms : List (Bool × RawExpr) → List Operand
+abbrev pub terms : List (Bool × RawExpr) → List OperandOfKind
 terms parts = map (λ (p : Bool × RawExpr). wanting (OfKind Whole) p.1) parts
 
 -- the tests of a choice are truth values
-abbrev pub tests : List (RawExpr × RawExpr) → List Operand
+abbrev pub tests : List (RawExpr × RawExpr) → List OperandOfKind
 tests cases = map (λ (c : RawExpr × RawExpr). wanting (OfKind Truth) c.0) cases
 
 -- the values of its cases have the kind of this one
-abbrev pub branches : RawExpr → List (RawExpr × RawExpr) → List Operand
+abbrev pub branches : RawExpr → List (RawExpr × RawExpr) → List OperandOfKind
 branches first cases = map (λ (c : RawExpr × RawExpr). wanting (Like first) c.1) cases
 
 -- the first branch of a choice: the value of its first case
@@ -68,20 +68,20 @@ is_equality More = false
 is_equality AtLeast = false
 
 -- the operands of a comparison: of one kind where it tests for equality, and whole numbers where it compares by order
-abbrev pub sides_by : Bool → RawExpr → RawExpr → List Operand
+abbrev pub sides_by : Bool → RawExpr → RawExpr → List OperandOfKind
 sides_by true a b = wanting AnyKind a ∷ wanting (Like a) b ∷ []
 sides_by false a b = wanting (OfKind Whole) a ∷ wanting (OfKind Whole) b ∷ []
 
-abbrev pub sides : RawRelation → RawExpr → RawExpr → List Operand
+abbrev pub sides : RawRelation → RawExpr → RawExpr → List OperandOfKind
 sides r a b = sides_by (is_equality r) a b
 
 -- the operands of a choice: its tests, and its branches, which have the kind of the first one
-abbrev pub choices : List (RawExpr × RawExpr) → RawExpr → List Operand
-choices cases other =
+abbrev pub choice_operands : List (RawExpr × RawExpr) → RawExpr → List OperandOfKind
+choice_operands cases other =
     tests cases ++ branches (first_branch cases other) cases ++ wanting (Like (first_branch cases other)) other ∷ []
 
 -- the operands of a form
-abbrev pub operands_of : RawLevel → List Operand
+abbrev pub operands_of : RawLevel → List OperandOfKind
 operands_of (raw.Truth b) = []
 operands_of (raw.Whole n) = []
 operands_of raw.Real = []
@@ -96,9 +96,9 @@ operands_of (raw.Product es) = each_wanting (OfKind Whole) es.items
 operands_of (raw.Least es) = each_wanting (OfKind Whole) es.items
 operands_of (raw.Greatest es) = each_wanting (OfKind Whole) es.items
 operands_of (raw.Count es) = each_wanting (OfKind Truth) es.items
-operands_of (raw.Choose cases other) = choices cases.items other.value
+operands_of (raw.Choose cases other) = choice_operands cases.items other.value
 
 -- the path stands in the expression
 pub data PathIn (p : Path) : RawLevel → Type 0 where
   itself : PathIn p (raw.Path p)
-  inside : {l : RawLevel} (o : Operand) → IsOneOf (operands_of l) o → PathIn p (level_of o.written) → PathIn p l
+  inside : {l : RawLevel} (o : OperandOfKind) → IsOneOf (operands_of l) o → PathIn p (level_of o.written) → PathIn p l

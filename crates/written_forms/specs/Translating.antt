@@ -5,26 +5,15 @@ use Rattle.ar_base.specs.Numbers.{VarId}
 use Rattle.ar_syntax.specs.declared.expressions.RawExpr.{RawExpr}
 use Rattle.ar_syntax.specs.declared.expressions.RawForm.TheOpen as raw
 use Rattle.ar_syntax.specs.declared.expressions.RawRelation.{RawRelation}
-use Rattle.ar_syntax.specs.declared.expressions.RawRelation.TheVariants as written
 use Rattle.ar_syntax.specs.declared.paths.Path.{Path}
 use Rattle.domains.specs.declared.Value.TheVariants.{Truth, Whole}
 use Rattle.typed_expr.specs.Yields.{Level}
-use Rattle.typed_expr.specs.declared.expr.Relation.{Relation}
-use Rattle.typed_expr.specs.declared.expr.Relation.TheVariants as relation
 use Rattle.typed_expr.specs.declared.expr.Expr.{Expr, out-Expr}
 use Rattle.typed_expr.specs.declared.expr.Expr.TheOpen.{Constant, Variable, Not, All, Any, Compare, Sum, Product, Least, Greatest, Count, Choose}
 use Rattle.written_forms.specs.Operands.{RawLevel, level_of}
 use Rattle.written_forms.specs.declared.naming.Leaf.{Leaf}
 use Rattle.written_forms.specs.declared.naming.Leaf.TheVariants as leaf
-
--- the relation that is written so
-abbrev pub relation_of : RawRelation → Relation
-relation_of written.Equal = relation.Equal
-relation_of written.Differs = relation.Differs
-relation_of written.Less = relation.Less
-relation_of written.AtMost = relation.AtMost
-relation_of written.More = relation.More
-relation_of written.AtLeast = relation.AtLeast
+use Rattle.written_forms.specs.Relations.{relation_of}
 
 mutual
   -- the expression becomes this one, form by form, where its paths become these; `- A` is the sum of A alone, taken

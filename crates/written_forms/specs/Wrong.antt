@@ -6,7 +6,7 @@ use Rattle.ar_syntax.specs.declared.expressions.RawExpr.{RawExpr}
 use Rattle.ar_syntax.specs.declared.expressions.RawForm.TheOpen as raw
 use Rattle.ar_syntax.specs.declared.paths.Path.{Path}
 use Rattle.typed_expr.specs.declared.expr.ValueKind.{ValueKind}
-use Rattle.written_forms.specs.Operands.{RawLevel, level_of, Demand, AnyKind, OfKind, Like, Operand, operands_of, PathIn}
+use Rattle.written_forms.specs.Operands.{RawLevel, level_of, Demand, AnyKind, OfKind, Like, OperandOfKind, operands_of, PathIn}
 use Rattle.typed_expr.specs.declared.expr.ValueKind.TheVariants.{Whole}
 use Rattle.written_forms.specs.Forms.{HasForm, IsFormOf}
 
@@ -22,27 +22,27 @@ pub record IsMisnamed (may : Path → Type 0) (l : RawLevel) (at : Place) : Type
 -- Kinds
 
 -- the kind that is wanted
-pub data IsWanted (names : Path → ValueKind → Type 0) : Demand → ValueKind → Type 0 where
-  this : {k : ValueKind} → IsWanted names (OfKind k) k
-  that_of : {e : RawExpr} {k : ValueKind} → HasForm names (level_of e) k → IsWanted names (Like e) k
+pub data IsWantedKind (names : Path → ValueKind → Type 0) : Demand → ValueKind → Type 0 where
+  this : {k : ValueKind} → IsWantedKind names (OfKind k) k
+  that_of : {e : RawExpr} {k : ValueKind} → HasForm names (level_of e) k → IsWantedKind names (Like e) k
 
 -- the expression, of which this is wanted, has another kind, or it is a real, or one in it has a wrong kind; that one
 -- stands here
 pub data IsMistyped (names : Path → ValueKind → Type 0) : Demand → RawExpr → Place → Type 0 where
-  itself : {d : Demand} {e : RawExpr} (k want : ValueKind) → HasForm names (level_of e) k → IsWanted names d want
+  itself : {d : Demand} {e : RawExpr} (k want : ValueKind) → HasForm names (level_of e) k → IsWantedKind names d want
       → (k ≡ want → ⊥)
       → IsMistyped names d e e.at
   real : {d : Demand} {e : RawExpr} → level_of e ≡ raw.Real → IsMistyped names d e e.at
-  inside : {d : Demand} {e : RawExpr} {at : Place} (o : Operand) → IsOneOf (operands_of (level_of e)) o
+  inside : {d : Demand} {e : RawExpr} {at : Place} (o : OperandOfKind) → IsOneOf (operands_of (level_of e)) o
       → IsMistyped names o.demand o.written at → IsMistyped names d e at
 
 -- the kinds that a table gives to paths, as a relation
-abbrev pub Names : (Path → Option ValueKind) → Path → ValueKind → Type 0
-Names kinds p k = kinds p ≡ Some k
+abbrev pub NamesKind : (Path → Option ValueKind) → Path → ValueKind → Type 0
+NamesKind kinds p k = kinds p ≡ Some k
 
 -- the table gives the path a kind
-abbrev pub IsNamed : (Path → Option ValueKind) → Path → Type 0
-IsNamed kinds p = (k : ValueKind) × Names kinds p k
+abbrev pub IsNamedPath : (Path → Option ValueKind) → Path → Type 0
+IsNamedPath kinds p = (k : ValueKind) × NamesKind kinds p k
 
 -- what is wanted, as far as a kind is told
 abbrev pub demanding : Option ValueKind → Demand
@@ -50,8 +50,8 @@ demanding None = AnyKind
 demanding (Some k) = OfKind k
 
 -- both kinds are told, and they differ
-pub data AreTwo : Option ValueKind → Option ValueKind → Type 0 where
-  two : {j k : ValueKind} → (j ≡ k → ⊥) → AreTwo (Some j) (Some k)
+pub data AreTwoKinds : Option ValueKind → Option ValueKind → Type 0 where
+  two : {j k : ValueKind} → (j ≡ k → ⊥) → AreTwoKinds (Some j) (Some k)
 
 -- the kinds that are wanted of the sides of a comparison: any and then that of the first side, or whole numbers
 abbrev pub AreWanted : (Path → ValueKind → Type 0) → Bool → RawLevel → Option ValueKind × Option ValueKind → Type 0
@@ -60,22 +60,22 @@ AreWanted names false a kinds = (kinds.0 ≡ Some Whole) × (kinds.1 ≡ Some Wh
 
 -- the expression itself has another kind than is wanted of it, or it is a real
 pub data IsWrongItself (names : Path → ValueKind → Type 0) (d : Demand) (e : RawExpr) (at : Place) : Type 0 where
-  another : (k want : ValueKind) → HasForm names (level_of e) k → IsWanted names d want → (k ≡ want → ⊥) → at ≡ e.at
+  another : (k want : ValueKind) → HasForm names (level_of e) k → IsWantedKind names d want → (k ≡ want → ⊥) → at ≡ e.at
       → IsWrongItself names d e at
   real : level_of e ≡ raw.Real → at ≡ e.at → IsWrongItself names d e at
 
 -- Operands
 
 -- one of the operands has P at the place
-pub record Among (P : Operand → Place → Type 0) (os : List Operand) (at : Place) : Type 0 where
-  pub operand : Operand
+pub record Among (P : OperandOfKind → Place → Type 0) (os : List OperandOfKind) (at : Place) : Type 0 where
+  pub operand : OperandOfKind
   pub is_operand : IsOneOf os operand
   pub has : P operand at
 
 -- the operand has a path that names nothing that it may name
-abbrev pub MisnamedOperand : (Path → Type 0) → Operand → Place → Type 0
+abbrev pub MisnamedOperand : (Path → Type 0) → OperandOfKind → Place → Type 0
 MisnamedOperand may o at = IsMisnamed may (level_of o.written) at
 
 -- the operand has a wrong kind
-abbrev pub MistypedOperand : (Path → ValueKind → Type 0) → Operand → Place → Type 0
+abbrev pub MistypedOperand : (Path → ValueKind → Type 0) → OperandOfKind → Place → Type 0
 MistypedOperand names o at = IsMistyped names o.demand o.written at

@@ -1,7 +1,7 @@
 //! The rules as they are tested in an instruction and in those that stand in it.
 
 ghost use Rattle.std.specs.Prelude.{true, false};
-ghost use Rattle.written_forms.specs.Wrong.{IsNamed, Names};
+ghost use Rattle.written_forms.specs.Wrong.{IsNamedPath, NamesKind};
 ghost use Rattle.written_forms.specs.Breaches.{IsSort, IsTarget, MisnamesItself, MistypesItself, MisplacedInAction, MisplacedInAssertion};
 
 use crate::parts::Rule;
@@ -20,7 +20,7 @@ pub struct NameRule<'a, T> {
 impl<'a, T: Targets> Rule for NameRule<'a, T> {
     ghost is_sound = { λ s. T.is_sound s.targets.now };
 
-    ghost breaks = { λ s. MisnamesItself (IsNamed (T.kind_at s.targets.now)) (IsTarget
+    ghost breaks = { λ s. MisnamesItself (IsNamedPath (T.kind_at s.targets.now)) (IsTarget
         (T.target_at s.targets.now)) };
 
     fn broken(&self, instr: &Instr) -> Option<Place> {
@@ -37,7 +37,7 @@ pub struct KindRule<'a, T> {
 impl<'a, T: Targets> Rule for KindRule<'a, T> {
     ghost is_sound = { λ s. T.is_sound s.targets.now };
 
-    ghost breaks = { λ s. MistypesItself (Names (T.kind_at s.targets.now)) };
+    ghost breaks = { λ s. MistypesItself (NamesKind (T.kind_at s.targets.now)) };
 
     fn broken(&self, instr: &Instr) -> Option<Place> {
         mistyped_itself(instr, self.targets)

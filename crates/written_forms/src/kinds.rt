@@ -3,7 +3,7 @@
 ghost use Rattle.std.specs.Prelude.{◌≡◌};
 ghost use Rattle.written_forms.specs.Operands.{level_of};
 ghost use Rattle.written_forms.specs.Forms.{IsFormOf, IsFirstKind};
-ghost use Rattle.written_forms.specs.Wrong.{Names};
+ghost use Rattle.written_forms.specs.Wrong.{NamesKind};
 
 use crate::naming::Naming;
 use ar_syntax::{RawExpr, RawForm};
@@ -15,7 +15,7 @@ use typed_expr::ValueKind;
 #[cycle(form_kind)]
 pub fn form_kind<N: Naming>(expr: &RawExpr, naming: &N) -> Option<ValueKind>
     requires { N.is_sound naming.now }
-    ensures { IsFormOf (Names (N.kind_at naming.now)) (level_of expr.now) result }
+    ensures { IsFormOf (NamesKind (N.kind_at naming.now)) (level_of expr.now) result }
 {
     match &expr.form {
         RawForm::Path(path) => naming.kind(path),
@@ -43,7 +43,7 @@ pub fn form_kind<N: Naming>(expr: &RawExpr, naming: &N) -> Option<ValueKind>
 #[cycle(form_kind)]
 fn first_kind<N: Naming>(cases: &[(RawExpr, RawExpr)], naming: &N) -> Option<Option<ValueKind>>
     requires { N.is_sound naming.now }
-    ensures { IsFirstKind (Names (N.kind_at naming.now)) cases.now result }
+    ensures { IsFirstKind (NamesKind (N.kind_at naming.now)) cases.now result }
 {
     match cases {
         [] => None,

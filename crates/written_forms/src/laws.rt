@@ -11,15 +11,15 @@ ghost use Rattle.typed_expr.specs.declared.expr.ValueKind.{ValueKind};
 ghost use Rattle.written_forms.specs.Operands.{RawLevel, level_of, OfKind};
 ghost use Rattle.written_forms.specs.Forms.{HasForm};
 ghost use Rattle.written_forms.specs.Full.{IsFull};
-ghost use Rattle.written_forms.specs.Wrong.{Names, IsNamed, IsMisnamed, IsMistyped};
+ghost use Rattle.written_forms.specs.Wrong.{NamesKind, IsNamedPath, IsMisnamed, IsMistyped};
 ghost use Rattle.written_forms.specs.Translating.{leaf_level, BecomesBy};
 ghost use Rattle.written_forms.specs.declared.naming.Leaf.{Leaf};
 
 /// An expression has at most one kind by its form.
 pub fn one_kind()
     ensures { (kinds : Path → Option ValueKind) (e : RawLevel) (j k : ValueKind)
-        → HasForm (Names kinds) e j
-        → HasForm (Names kinds) e k → j ≡ k }
+        → HasForm (NamesKind kinds) e j
+        → HasForm (NamesKind kinds) e k → j ≡ k }
 {}
 
 /// An expression without empty lists of operands, in which each path names something and nothing
@@ -29,7 +29,7 @@ pub fn right_expressions()
     ensures { (kinds : Path → Option ValueKind) (leaves : Path → Leaf) (sorts : VarId → ValueKind)
         → ((p : Path) (k : ValueKind) → kinds p ≡ Some k → HasKind sorts (leaf_level (leaves p)) k)
         → (e : RawExpr) (f : Expr VarId) (k : ValueKind) → IsFull (level_of e)
-        → ((at : Place) → IsMisnamed (IsNamed kinds) (level_of e) at → ⊥)
-        → ((at : Place) → IsMistyped (Names kinds) (OfKind k) e at → ⊥) → BecomesBy leaves e f
+        → ((at : Place) → IsMisnamed (IsNamedPath kinds) (level_of e) at → ⊥)
+        → ((at : Place) → IsMistyped (NamesKind kinds) (OfKind k) e at → ⊥) → BecomesBy leaves e f
         → HasKind sorts (out-Expr VarId f) k }
 {}

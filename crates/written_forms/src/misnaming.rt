@@ -5,7 +5,7 @@ ghost use Rattle.ar_syntax.specs.declared.expressions.RawExpr.{RawExpr};
 ghost use Rattle.ar_syntax.specs.declared.expressions.RawForm.TheOpen.{Path as PathForm};
 ghost use Rattle.class_table.specs.Earliest.{IsEarliest};
 ghost use Rattle.written_forms.specs.Operands.{level_of, Demand, each_wanting, terms, tests, branches};
-ghost use Rattle.written_forms.specs.Wrong.{IsMisnamed, IsNamed, Among, MisnamedOperand};
+ghost use Rattle.written_forms.specs.Wrong.{IsMisnamed, IsNamedPath, Among, MisnamedOperand};
 
 use crate::naming::Naming;
 use crate::places::earlier;
@@ -17,7 +17,7 @@ use ar_syntax::{Path, RawExpr, RawForm};
 #[cycle(misnamed)]
 pub fn first_misnamed<N: Naming>(expr: &RawExpr, naming: &N) -> Option<Place>
     requires { N.is_sound naming.now }
-    ensures { IsEarliest (IsMisnamed (IsNamed (N.kind_at naming.now)) (level_of expr.now)) result }
+    ensures { IsEarliest (IsMisnamed (IsNamedPath (N.kind_at naming.now)) (level_of expr.now)) result }
 {
     match &expr.form {
         RawForm::Truth(_) => None,
@@ -43,7 +43,7 @@ pub fn first_misnamed<N: Naming>(expr: &RawExpr, naming: &N) -> Option<Place>
 // The place of the path, where it names nothing that it may name.
 fn unnamed<N: Naming>(path: &Path, naming: &N) -> Option<Place>
     requires { N.is_sound naming.now }
-    ensures { IsEarliest (IsMisnamed (IsNamed (N.kind_at naming.now)) (PathForm path.now)) result }
+    ensures { IsEarliest (IsMisnamed (IsNamedPath (N.kind_at naming.now)) (PathForm path.now)) result }
 {
     match naming.kind(path) {
         Some(_) => None,
@@ -56,7 +56,7 @@ fn unnamed<N: Naming>(path: &Path, naming: &N) -> Option<Place>
 fn misnamed_in<N: Naming>(es: &[RawExpr], naming: &N) -> Option<Place>
     requires { N.is_sound naming.now }
     ensures { (d : Demand)
-        → IsEarliest (Among (MisnamedOperand (IsNamed (N.kind_at naming.now)))
+        → IsEarliest (Among (MisnamedOperand (IsNamedPath (N.kind_at naming.now)))
         (each_wanting d es.now)) result }
 {
     let mut found = None;
@@ -70,7 +70,7 @@ fn misnamed_in<N: Naming>(es: &[RawExpr], naming: &N) -> Option<Place>
 #[cycle(misnamed)]
 fn misnamed_terms<N: Naming>(parts: &[(bool, RawExpr)], naming: &N) -> Option<Place>
     requires { N.is_sound naming.now }
-    ensures { IsEarliest (Among (MisnamedOperand (IsNamed (N.kind_at naming.now)))
+    ensures { IsEarliest (Among (MisnamedOperand (IsNamedPath (N.kind_at naming.now)))
         (terms parts.now)) result }
 {
     let mut found = None;
@@ -85,7 +85,7 @@ fn misnamed_terms<N: Naming>(parts: &[(bool, RawExpr)], naming: &N) -> Option<Pl
 fn misnamed_cases<N: Naming>(cases: &[(RawExpr, RawExpr)], naming: &N) -> Option<Place>
     requires { N.is_sound naming.now }
     ensures { (first : RawExpr)
-        → IsEarliest (Among (MisnamedOperand (IsNamed (N.kind_at naming.now)))
+        → IsEarliest (Among (MisnamedOperand (IsNamedPath (N.kind_at naming.now)))
         (tests cases.now ++ branches first cases.now)) result }
 {
     let mut found = None;

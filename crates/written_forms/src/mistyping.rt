@@ -6,7 +6,7 @@ ghost use Rattle.ar_syntax.specs.declared.expressions.RawForm.TheOpen.{Real as R
 ghost use Rattle.class_table.specs.Earliest.{IsEarliest};
 ghost use Rattle.written_forms.specs.Forms.{IsFormOf};
 ghost use Rattle.written_forms.specs.Operands.{level_of, OfKind, each_wanting, terms, tests, branches, is_equality};
-ghost use Rattle.written_forms.specs.Wrong.{IsMistyped, Names, Among, MistypedOperand, demanding, AreTwo, AreWanted, IsWrongItself};
+ghost use Rattle.written_forms.specs.Wrong.{IsMistyped, NamesKind, Among, MistypedOperand, demanding, AreTwoKinds, AreWanted, IsWrongItself};
 
 use crate::kinds::form_kind;
 use crate::naming::Naming;
@@ -27,7 +27,7 @@ pub fn first_mistyped<N: Naming>(
     naming: &N,
 ) -> Option<Place>
     requires { N.is_sound naming.now }
-    ensures { IsEarliest (IsMistyped (Names (N.kind_at naming.now))
+    ensures { IsEarliest (IsMistyped (NamesKind (N.kind_at naming.now))
         (demanding want) expr.now) result }
 {
     let itself = wrong_itself(expr, want, naming);
@@ -61,7 +61,7 @@ pub fn first_mistyped<N: Naming>(
 // The place of the expression, where its own kind is wrong or it is a real.
 fn wrong_itself<N: Naming>(expr: &RawExpr, want: Option<ValueKind>, naming: &N) -> Option<Place>
     requires { N.is_sound naming.now }
-    ensures { IsEarliest (IsWrongItself (Names (N.kind_at naming.now))
+    ensures { IsEarliest (IsWrongItself (NamesKind (N.kind_at naming.now))
         (demanding want) expr.now) result }
 {
     if is_real(expr) {
@@ -78,7 +78,7 @@ fn wrong_itself<N: Naming>(expr: &RawExpr, want: Option<ValueKind>, naming: &N) 
 #[cycle(mistyped)]
 fn wrong_in<N: Naming>(es: &[RawExpr], kind: ValueKind, naming: &N) -> Option<Place>
     requires { N.is_sound naming.now }
-    ensures { IsEarliest (Among (MistypedOperand (Names (N.kind_at naming.now))) (each_wanting
+    ensures { IsEarliest (Among (MistypedOperand (NamesKind (N.kind_at naming.now))) (each_wanting
         (OfKind kind) es.now)) result }
 {
     let mut found = None;
@@ -92,7 +92,7 @@ fn wrong_in<N: Naming>(es: &[RawExpr], kind: ValueKind, naming: &N) -> Option<Pl
 #[cycle(mistyped)]
 fn wrong_terms<N: Naming>(parts: &[(bool, RawExpr)], naming: &N) -> Option<Place>
     requires { N.is_sound naming.now }
-    ensures { IsEarliest (Among (MistypedOperand (Names (N.kind_at naming.now)))
+    ensures { IsEarliest (Among (MistypedOperand (NamesKind (N.kind_at naming.now)))
         (terms parts.now)) result }
 {
     let mut found = None;
@@ -111,8 +111,8 @@ fn wrong_cases<N: Naming>(
     naming: &N,
 ) -> Option<Place>
     requires { N.is_sound naming.now }
-    ensures { (first : RawExpr) → IsFormOf (Names (N.kind_at naming.now)) (level_of first) kind
-        → IsEarliest (Among (MistypedOperand (Names (N.kind_at naming.now)))
+    ensures { (first : RawExpr) → IsFormOf (NamesKind (N.kind_at naming.now)) (level_of first) kind
+        → IsEarliest (Among (MistypedOperand (NamesKind (N.kind_at naming.now)))
         (tests cases.now ++ branches first cases.now)) result }
 {
     let mut found = None;
@@ -141,7 +141,7 @@ fn wanted_sides<N: Naming>(
     naming: &N,
 ) -> (Option<ValueKind>, Option<ValueKind>)
     requires { N.is_sound naming.now }
-    ensures { AreWanted (Names (N.kind_at naming.now)) (is_equality relation)
+    ensures { AreWanted (NamesKind (N.kind_at naming.now)) (is_equality relation)
         (level_of a.now) result }
 {
     match relation {
@@ -152,7 +152,7 @@ fn wanted_sides<N: Naming>(
 
 /// Whether both kinds are told and they differ. Takes no memory.
 pub fn differ(kind: Option<ValueKind>, want: Option<ValueKind>) -> bool
-    ensures { IsTrue result ↔ AreTwo kind want }
+    ensures { IsTrue result ↔ AreTwoKinds kind want }
 {
     match (kind, want) {
         (Some(one), Some(other)) => !is_same(one, other),

@@ -4,7 +4,7 @@ ghost use Rattle.std.specs.Prelude.{◌≡◌, Bool, true, false, Option};
 ghost use Rattle.ar_syntax.specs.declared.instructions.Instr.{out-Instr};
 ghost use Rattle.ar_syntax.specs.declared.paths.Path.{Path};
 ghost use Rattle.class_table.specs.Earliest.{IsEarliest};
-ghost use Rattle.written_forms.specs.Wrong.{IsNamed, Names};
+ghost use Rattle.written_forms.specs.Wrong.{IsNamedPath, NamesKind};
 ghost use Rattle.written_forms.specs.Breaches.{IsSort, IsTarget, IsNoTargetAt, AreOtherKinds, IsSortAt, MisnamesItself, MistypesItself, MisplacedInAction, MisplacedInAssertion};
 
 use crate::{Naming, differ, earlier, first_misnamed, first_mistyped};
@@ -29,7 +29,7 @@ pub trait Targets: Naming {
 /// expression, or a path that is assigned or tied and names no variable. Takes no memory.
 pub fn misnamed_itself<T: Targets>(instr: &Instr, targets: &T) -> Option<Place>
     requires { T.is_sound targets.now }
-    ensures { IsEarliest (MisnamesItself (IsNamed (T.kind_at targets.now)) (IsTarget
+    ensures { IsEarliest (MisnamesItself (IsNamedPath (T.kind_at targets.now)) (IsTarget
         (T.target_at targets.now)) (out-Instr instr.now)) result }
 {
     match instr {
@@ -59,7 +59,7 @@ fn no_variable<T: Targets>(path: &Path, targets: &T) -> Option<Place>
 /// one. Takes no memory.
 pub fn mistyped_itself<T: Targets>(instr: &Instr, targets: &T) -> Option<Place>
     requires { T.is_sound targets.now }
-    ensures { IsEarliest (MistypesItself (Names (T.kind_at targets.now))
+    ensures { IsEarliest (MistypesItself (NamesKind (T.kind_at targets.now))
         (out-Instr instr.now)) result }
 {
     match instr {
@@ -77,7 +77,7 @@ pub fn mistyped_itself<T: Targets>(instr: &Instr, targets: &T) -> Option<Place>
 // The place of the right path, where its kind is not that of the left one.
 fn other_kind<T: Targets>(left: &Path, right: &Path, targets: &T) -> Option<Place>
     requires { T.is_sound targets.now }
-    ensures { IsEarliest (AreOtherKinds (Names (T.kind_at targets.now)) left.now right.now) result }
+    ensures { IsEarliest (AreOtherKinds (NamesKind (T.kind_at targets.now)) left.now right.now) result }
 {
     if differ(targets.kind(right), targets.kind(left)) {
         Some(right.at)

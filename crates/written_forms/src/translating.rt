@@ -5,7 +5,8 @@ ghost use Rattle.ar_base.specs.Numbers.{VarId};
 ghost use Rattle.domains.specs.declared.Value.TheVariants.{Whole as WholeValue};
 ghost use Rattle.typed_expr.specs.declared.expr.Expr.{out-Expr};
 ghost use Rattle.typed_expr.specs.declared.expr.Expr.TheOpen.{Constant as ConstantForm};
-ghost use Rattle.written_forms.specs.Translating.{relation_of, leaf_level, BecomesBy, All_become_by, Parts_become_by, Cases_become_by};
+ghost use Rattle.written_forms.specs.Translating.{leaf_level, BecomesBy, All_become_by, Parts_become_by, Cases_become_by};
+ghost use Rattle.written_forms.specs.Relations.{relation_of};
 
 use crate::naming::{Leaf, Leaves};
 use ar_base::{Memory, VarId};

@@ -4,7 +4,7 @@ use Rattle.std.specs.List.{AllByRecursion, list_any}
 use Rattle.std.proofs.lemmas.Bool.{cases_lt}
 use Rattle.ar_base.proofs.Sets.{ascends_rest}
 use Rattle.zdd_families.specs.Families.{Family, holds, node, IsAbove, minimal}
-use Rattle.zdd_families.specs.Sections.{section, IsCounted, IsPart, IsLeast, upper, lower, IsHalf, IsSetBelow}
+use Rattle.zdd_families.specs.Sections.{section, IsCounted, IsPartOfBoth, IsFirstEvent, upper, lower, IsHalf, IsSetBelow}
 use Rattle.zdd_families.specs.Sections.IsHalf.{of_minimal, of_halves}
 use Rattle.zdd_families.proofs.Ascending.{ascends_nil, ascends_cons, ascends_head}
 use Rattle.zdd_families.proofs.Laws.{IsAbove_set, IsAbove-node, above_less, eqb-refl, eqb-above, filter-node, filter-none, filter-all, every, each_of, holds_here, holds-above, minimal-nil}
@@ -44,7 +44,7 @@ module _ (v : ℕ) (f0 f1 : Family) (a0 : IsAbove v f0) (a1 : IsAbove v f1) wher
   not_nil_minimal : (g h : Family) → IsCounted (minimal g) h → g ≢ []
   not_nil_minimal g h k = λ e. counted_nil (minimal g) h (ap minimal e ∙ minimal-nil) k
 
-  not_nil_least : (w : ℕ) (g : Family) → IsLeast w g → g ≢ []
+  not_nil_least : (w : ℕ) (g : Family) → IsFirstEvent w g → g ≢ []
   not_nil_least w g l = λ e. true≢false (sym l.0 ∙ ap (list_any (holds w)) e)
 
   pub half_lower : (h : Family) → IsHalf f0 h → IsHalf (node v f0 f1) h
@@ -55,8 +55,8 @@ module _ (v : ℕ) (f0 f1 : Family) (a0 : IsAbove v f0) (a1 : IsAbove v f1) wher
   half_lower h (of_halves i p w u l k) =
       let d = deep v i p f0 (section i p f0) a0 u refl (not_nil_least w (section i p f0) l) in
       let e = d.is ∙ sym (section-without v d.at d.taken f0 f1 d.after d.above) in
-      of_halves d.at d.taken w d.under (subst (IsLeast w) e l)
-      (subst (λ x. IsPart (minimal (upper w x)) (minimal (lower w x)) h) e k)
+      of_halves d.at d.taken w d.under (subst (IsFirstEvent w) e l)
+      (subst (λ x. IsPartOfBoth (minimal (upper w x)) (minimal (lower w x)) h) e k)
 
   pub half_upper : (h : Family) → IsHalf f1 h → IsHalf (node v f0 f1) h
   half_upper h (of_minimal i p u k) =
@@ -67,7 +67,7 @@ module _ (v : ℕ) (f0 f1 : Family) (a0 : IsAbove v f0) (a1 : IsAbove v f1) wher
       let d = deep v i p f1 (section i p f1) a1 u refl (not_nil_least w (section i p f1) l) in
       let e = d.is ∙ sym (section-with v d.at d.taken f0 f1 d.after a0) in
       of_halves d.at (v ∷ d.taken) w (ascends_cons v d.taken d.above d.under.0, (d.after, d.under.1))
-      (subst (IsLeast w) e l) (subst (λ x. IsPart (minimal (upper w x)) (minimal (lower w x)) h) e k)
+      (subst (IsFirstEvent w) e l) (subst (λ x. IsPartOfBoth (minimal (upper w x)) (minimal (lower w x)) h) e k)
 
   pub half_whole : (h : Family) → IsCounted (minimal (node v f0 f1)) h → IsHalf (node v f0 f1) h
   half_whole h k = of_minimal 0 [] (ascends_nil, tt)
@@ -86,20 +86,20 @@ module _ (v : ℕ) (f0 f1 : Family) (a0 : IsAbove v f0) (a1 : IsAbove v f1) wher
       (filter-none (λ s. not (holds v (v ∷ s))) f1
       (every (λ s. not (holds v (v ∷ s)) ≡ false) (λ s. ap not (holds_here v s)) f1))
 
-  least_is : f1 ≢ [] → IsLeast v (node v f0 f1)
+  least_is : f1 ≢ [] → IsFirstEvent v (node v f0 f1)
   least_is n = (some f1 n, λ x h. let w = witness (holds x) (node v f0 f1) h in holds_bound v x w.set (member_of (AtLeast v) (node v f0 f1) w.set (at_least_node v f0 f1 a0 a1) w.in_family) w.passes)
     where
       some : (f1 : Family) → f1 ≢ [] → list_any (holds v) (node v f0 f1) ≡ true
       some [] n = absurd (n refl)
       some (s ∷ f1) n = ap (λ b. b || list_any (holds v) (node v f0 f1)) (holds_here v s)
 
-  pub half_parts : f1 ≢ [] → (h : Family) → IsPart (minimal f1) (minimal f0) h → IsHalf (node v f0 f1) h
+  pub half_parts : f1 ≢ [] → (h : Family) → IsPartOfBoth (minimal f1) (minimal f0) h → IsHalf (node v f0 f1) h
   half_parts n h k =
       let e = sym (section-whole (node v f0 f1)) in
-      of_halves 0 [] v (ascends_nil, tt) (subst (IsLeast v) e (least_is n))
-      (subst (λ x. IsPart (minimal (upper v x)) (minimal (lower v x)) h) e
-      (subst (λ x. IsPart (minimal x) (minimal (lower v (node v f0 f1))) h) (sym upper_is_hi)
-      (subst (λ x. IsPart (minimal f1) (minimal x) h) (sym lower_is_lo) k)))
+      of_halves 0 [] v (ascends_nil, tt) (subst (IsFirstEvent v) e (least_is n))
+      (subst (λ x. IsPartOfBoth (minimal (upper v x)) (minimal (lower v x)) h) e
+      (subst (λ x. IsPartOfBoth (minimal x) (minimal (lower v (node v f0 f1))) h) (sym upper_is_hi)
+      (subst (λ x. IsPartOfBoth (minimal f1) (minimal x) h) (sym lower_is_lo) k)))
 
   at_least_all : (i : ℕ) → i ≤ v → AllByRecursion (AtLeast i) (node v f0 f1)
   at_least_all i l = each_of (AtLeast v) (AtLeast i) lower_bound (node v f0 f1) (at_least_node v f0 f1 a0 a1)

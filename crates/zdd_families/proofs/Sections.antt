@@ -5,7 +5,7 @@ use Rattle.std.proofs.lemmas.Bool.Decides.{nat_tests}
 use Rattle.ar_base.specs.Sets.{Ascends}
 use Rattle.std.proofs.lemmas.List.Elements.{All-weaker}
 use Rattle.zdd_families.specs.Families.{Family, same, holds, node, IsAbove, without}
-use Rattle.zdd_families.specs.Sections.{below, section, IsSetBelow, IsCounted, IsPart, IsMoreThan}
+use Rattle.zdd_families.specs.Sections.{below, section, IsSetBelow, IsCounted, IsPartOfBoth, IsMoreThan}
 use Rattle.zdd_families.proofs.Ascending.{ascends_nil, ascends_cons}
 use Rattle.zdd_families.proofs.Laws.{IsAbove_set, filter-node, filter_alike, filter-none, filter-all, every, each_of, same-with, same-above, same-under}
 
@@ -213,7 +213,7 @@ pub record DeepPart (v : ℕ) (f g h : Family) : Type 0 where
   pub among : AllByRecursion (λ x. holds x taken ≡ true) fewer
   pub counted : IsCounted (without (section at taken f) (section at fewer g)) h
 
-pub deep_part : (v : ℕ) (f g h : Family) → IsAbove v f → IsAbove v g → IsPart f g h → DeepPart v f g h
+pub deep_part : (v : ℕ) (f g h : Family) → IsAbove v f → IsAbove v g → IsPartOfBoth f g h → DeepPart v f g h
 deep_part v f g h a b c = ⊎_elim (λ l. low c.taken c.fewer c.among c.counted l) high split
   where
     split : (c.at ≤ v) ⊎ (v < c.at)
@@ -274,7 +274,7 @@ still_among v p (x ∷ q) a = (
 
 module _ (v : ℕ) (f0 f1 g0 g1 h : Family) (af0 : IsAbove v f0) (af1 : IsAbove v f1) (ag0 : IsAbove v g0)
     (ag1 : IsAbove v g1) where
-  pub IsPart-00 : IsPart f0 g0 h → IsPart (node v f0 f1) (node v g0 g1) h
+  pub IsPart-00 : IsPartOfBoth f0 g0 h → IsPartOfBoth (node v f0 f1) (node v g0 g1) h
   IsPart-00 c =
       let d = deep_part v f0 g0 h af0 ag0 c in
       record {
@@ -289,7 +289,7 @@ module _ (v : ℕ) (f0 f1 g0 g1 h : Family) (af0 : IsAbove v f0) (af1 : IsAbove 
             (sym (section-without v d.at d.fewer g0 g1 d.after d.fewer_above))) d.counted;
       }
 
-  pub IsPart-10 : IsPart f1 g0 h → IsPart (node v f0 f1) (node v g0 g1) h
+  pub IsPart-10 : IsPartOfBoth f1 g0 h → IsPartOfBoth (node v f0 f1) (node v g0 g1) h
   IsPart-10 c =
       let d = deep_part v f1 g0 h af1 ag0 c in
       record {
@@ -304,7 +304,7 @@ module _ (v : ℕ) (f0 f1 g0 g1 h : Family) (af0 : IsAbove v f0) (af1 : IsAbove 
             (sym (section-without v d.at d.fewer g0 g1 d.after d.fewer_above))) d.counted;
       }
 
-  pub IsPart-11 : IsPart f1 g1 h → IsPart (node v f0 f1) (node v g0 g1) h
+  pub IsPart-11 : IsPartOfBoth f1 g1 h → IsPartOfBoth (node v f0 f1) (node v g0 g1) h
   IsPart-11 c =
       let d = deep_part v f1 g1 h af1 ag1 c in
       record {
@@ -320,7 +320,7 @@ module _ (v : ℕ) (f0 f1 g0 g1 h : Family) (af0 : IsAbove v f0) (af1 : IsAbove 
       }
 
 -- what the whole result counts is a part
-pub IsPart-whole : (f g h : Family) → IsCounted (without f g) h → IsPart f g h
+pub IsPart-whole : (f g h : Family) → IsCounted (without f g) h → IsPartOfBoth f g h
 IsPart-whole f g h c = record {
   at = 0;
   taken = [];

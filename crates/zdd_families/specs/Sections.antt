@@ -32,7 +32,7 @@ IsMade made h = (h ≡ made) × (h ≢ []) × (h ≢ [] ∷ [])
 
 -- h is a part of f and g: at some event, for some set of events below it and some subset of that, a counted section of
 -- the sets of f's section at the set that contain no set of g's section at the subset
-pub record IsPart (f g h : Family) : Type 0 where
+pub record IsPartOfBoth (f g h : Family) : Type 0 where
   pub at : ℕ
   pub taken : List ℕ
   pub fewer : List ℕ
@@ -42,8 +42,8 @@ pub record IsPart (f g h : Family) : Type 0 where
   pub counted : IsCounted (without (section at taken f) (section at fewer g)) h
 
 -- v is the least event in the sets of h
-abbrev pub IsLeast : ℕ → Family → Type 0
-IsLeast v h = (list_any (holds v) h ≡ true) × ((x : ℕ) → list_any (holds x) h ≡ true → v ≤ x)
+abbrev pub IsFirstEvent : ℕ → Family → Type 0
+IsFirstEvent v h = (list_any (holds v) h ≡ true) × ((x : ℕ) → list_any (holds x) h ≡ true → v ≤ x)
 
 -- the sets of h with v, with v taken off
 abbrev pub upper : ℕ → Family → Family
@@ -58,8 +58,8 @@ lower v h = filter (λ s. not (holds v s)) h
 -- of the section, a part of the minimal sets of its upper half and the minimal sets of its lower half
 pub data IsHalf (f : Family) : Family → Type 0 where
   of_minimal : (i : ℕ) (p : List ℕ) {h : Family} → IsSetBelow i p → IsCounted (minimal (section i p f)) h → IsHalf f h
-  of_halves : (i : ℕ) (p : List ℕ) (v : ℕ) {h : Family} → IsSetBelow i p → IsLeast v (section i p f)
-      → IsPart (minimal (upper v (section i p f))) (minimal (lower v (section i p f))) h → IsHalf f h
+  of_halves : (i : ℕ) (p : List ℕ) (v : ℕ) {h : Family} → IsSetBelow i p → IsFirstEvent v (section i p f)
+      → IsPartOfBoth (minimal (upper v (section i p f))) (minimal (lower v (section i p f))) h → IsHalf f h
 
 -- P holds of more than n families: n + 1 different ones are listed
 pub record IsMoreThan (n : ℕ) (P : Family → Type 0) : Type 0 where

@@ -3,7 +3,7 @@ use Rattle.std.proofs.Common.{◌≡◌, ℕ, zero, suc, ◌<◌, List, Result, 
 use Rattle.std.specs.List.{AllByRecursion}
 use Rattle.ar_base.specs.Sets.{Ascends}
 use Rattle.zdd_families.specs.Families.{Family, node, minimal, without}
-use Rattle.zdd_families.specs.Sections.{IsCounted, IsPart, IsHalf}
+use Rattle.zdd_families.specs.Sections.{IsCounted, IsPartOfBoth, IsHalf}
 use Rattle.zdd_families.proofs.Laws.{minimal-nil, minimal-unit, IsAbove-minimal, IsAbove-without}
 use Rattle.zdd_families.proofs.Minimal.{minimal-node}
 use Rattle.zdd_families.proofs.Halves.{half_lower, half_upper, half_whole, half_parts}
@@ -68,12 +68,12 @@ module _ (s0 : Stored) (f v lo hi : ℕ) (i : IsNode s0.families f v lo hi) (f_i
 
     -- the upper half: the minimal sets of the upper half that contain none of the lower half
     pub minimal_upper : (s3 : Stored) (r : Result NodeId NodeFault)
-        → Draws (IsPart (family s2 up.n) (family s2 low.n)) (without (family s2 up.n) (family s2 low.n)) s2 s3 r
+        → Draws (IsPartOfBoth (family s2 up.n) (family s2 low.n)) (without (family s2 up.n) (family s2 low.n)) s2 s3 r
         → Draws Q (without Above Lower) s1 s3 r
     minimal_upper s3 r d =
         let low_is = kept Q s1 s2 low.n du.grows dl.ok.0 ∙ dl.ok.1 in
-        let e = subst (λ x. Draws (IsPart x Lower) (without x Lower) s2 s3 r) du.ok.1
-        (subst (λ y. Draws (IsPart (family s2 up.n) y) (without (family s2 up.n) y) s2 s3 r) low_is d) in
+        let e = subst (λ x. Draws (IsPartOfBoth x Lower) (without x Lower) s2 s3 r) du.ok.1
+        (subst (λ y. Draws (IsPartOfBoth (family s2 up.n) y) (without (family s2 up.n) y) s2 s3 r) low_is d) in
         Draws-after Q (without Above Lower) s1 s2 s3 r du.grows
-        (Draws-weaker (IsPart Above Lower) Q (without Above Lower) s2 s3 r
+        (Draws-weaker (IsPartOfBoth Above Lower) Q (without Above Lower) s2 s3 r
         (λ h x. to_f h (half_parts v (fam lo) (fam hi) i.lo_above i.hi_above i.hi_some h x)) e)

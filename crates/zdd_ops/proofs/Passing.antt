@@ -1,7 +1,7 @@
 -- What is left of a family where sets of no account are dropped.
 use Rattle.std.proofs.Common.{◌≡◌, ℕ, zero, suc, ◌+◌, ◌<◌, List, [], length, Result, refl, sym, ap, ap₂, ◌∙◌, subst, arith}
 use Rattle.zdd_families.specs.Families.{Family, node, IsAbove, meet, minus, without}
-use Rattle.zdd_families.specs.Sections.{IsPart, IsCounted}
+use Rattle.zdd_families.specs.Sections.{IsPartOfBoth, IsCounted}
 use Rattle.zdd_families.proofs.Laws.{meet-node, minus-node, without-node, nil-meet, meet-nil, nil-minus, nil-without}
 use Rattle.zdd_families.proofs.Sections.{IsPart-00}
 use Rattle.zdd_nodes.specs.Nodes.{NodeId, Stored, family, at, IsNode, Draws}
@@ -37,19 +37,19 @@ lower_meet f g r (half v lo hi a b c rest) =
     lower_meet f g (node v lo hi) rest ∙ meet-node v lo hi f [] b a ∙ ap (node v (meet lo f)) (meet-nil hi)
 
 -- a part of f and what is left of g is one of f and g
-pub part_lower : (f g r h : Family) → IsLower f g r → IsPart f r h → IsPart f g h
+pub part_lower : (f g r h : Family) → IsLower f g r → IsPartOfBoth f r h → IsPartOfBoth f g h
 part_lower f g r h whole p = p
 part_lower f g r h (half v lo hi a b c rest) p =
     part_lower f g (node v lo hi) h rest (IsPart-00 v f [] lo hi h a tt b c p)
 
 -- the sets without those of what is left
 pub without_passed : (s t : Stored) (f g r : ℕ) (result : Result NodeId NodeFault) → IsPassed s.families f g r
-    → Draws (IsPart (family s f) (family s r)) (without (family s f) (family s r)) s t result
-    → Draws (IsPart (family s f) (family s g)) (without (family s f) (family s g)) s t result
+    → Draws (IsPartOfBoth (family s f) (family s r)) (without (family s f) (family s r)) s t result
+    → Draws (IsPartOfBoth (family s f) (family s g)) (without (family s f) (family s g)) s t result
 without_passed s t f g r result p d =
-    subst (λ m. Draws (IsPart (family s f) (family s g)) m s t result)
+    subst (λ m. Draws (IsPartOfBoth (family s f) (family s g)) m s t result)
     (sym (without_lower (family s f) (family s g) (family s r) p.lower))
-    (Draws-weaker (IsPart (family s f) (family s r)) (IsPart (family s f) (family s g))
+    (Draws-weaker (IsPartOfBoth (family s f) (family s r)) (IsPartOfBoth (family s f) (family s g))
     (without (family s f) (family s r)) s t result
     (λ h x. part_lower (family s f) (family s g) (family s r) h p.lower x) d)
 

@@ -1,7 +1,7 @@
 -- The sets that contain no set of another family, by halves.
 use Rattle.std.proofs.Common.{◌≡◌, ℕ, Result, Ok, sym, ap₂, ◌∙◌, subst}
 use Rattle.zdd_families.specs.Families.{Family, node, IsAbove, meet, without}
-use Rattle.zdd_families.specs.Sections.{IsCounted, IsPart}
+use Rattle.zdd_families.specs.Sections.{IsCounted, IsPartOfBoth}
 use Rattle.zdd_families.proofs.Laws.{without-node, IsAbove-without, IsAbove-meet}
 use Rattle.zdd_families.proofs.Sections.{IsCounted-upper, IsPart-00, IsPart-10, IsPart-11, IsPart-whole}
 use Rattle.zdd_nodes.specs.Nodes.{NodeId, Stored, family, IsNumber, Grows, Draws}
@@ -16,7 +16,7 @@ module _ (s0 : Stored) (f g : ℕ) (cut : Cut) (c : IsCut s0.families f g cut) w
   fam n = family s0 n
 
   abbrev Q : Family → Type 0
-  Q = IsPart (fam f) (fam g)
+  Q = IsPartOfBoth (fam f) (fam g)
 
   abbrev Made : Family
   Made = without (fam f) (fam g)
@@ -42,10 +42,10 @@ module _ (s0 : Stored) (f g : ℕ) (cut : Cut) (c : IsCut s0.families f g cut) w
   upper_is_above = IsAbove-meet cut.event.n First Second
       (IsAbove-without cut.event.n (fam cut.f1.n) (fam cut.g0.n) c.f1_above)
 
-  at_whole : (h : Family) → IsPart (node cut.event.n (fam cut.f0.n) (fam cut.f1.n))
+  at_whole : (h : Family) → IsPartOfBoth (node cut.event.n (fam cut.f0.n) (fam cut.f1.n))
       (node cut.event.n (fam cut.g0.n) (fam cut.g1.n)) h → Q h
-  at_whole h x = subst (λ m. IsPart (fam f) m h) (sym c.g_is)
-      (subst (λ m. IsPart m (node cut.event.n (fam cut.g0.n) (fam cut.g1.n)) h) (sym c.f_is) x)
+  at_whole h x = subst (λ m. IsPartOfBoth (fam f) m h) (sym c.g_is)
+      (subst (λ m. IsPartOfBoth m (node cut.event.n (fam cut.g0.n) (fam cut.g1.n)) h) (sym c.f_is) x)
 
   pub without_halved : Halved Q Made cut.event.n Lower (meet First Second)
   without_halved = record {
@@ -57,24 +57,24 @@ module _ (s0 : Stored) (f g : ℕ) (cut : Cut) (c : IsCut s0.families f g cut) w
 
   -- the operation is asked for two numbers of the store s
   abbrev Asked : Stored → Stored → ℕ → ℕ → Result NodeId NodeFault → Type 0
-  Asked s t x y r = Draws (IsPart (family s x) (family s y)) (without (family s x) (family s y)) s t r
+  Asked s t x y r = Draws (IsPartOfBoth (family s x) (family s y)) (without (family s x) (family s y)) s t r
 
   pub without_lower : (s1 : Stored) (r : Result NodeId NodeFault) → Asked s0 s1 cut.f0.n cut.g0.n r
       → Draws Q Lower s0 s1 r
-  without_lower s1 r d = Draws-weaker (IsPart (fam cut.f0.n) (fam cut.g0.n)) Q Lower s0 s1 r
+  without_lower s1 r d = Draws-weaker (IsPartOfBoth (fam cut.f0.n) (fam cut.g0.n)) Q Lower s0 s1 r
       (λ h x. at_whole h (IsPart-00 cut.event.n _ _ _ _ h c.f0_above c.f1_above c.g0_above c.g1_above x)) d
 
   pub without_first : (s1 s2 : Stored) (r : Result NodeId NodeFault) → Grows Q s0 s1 → Asked s1 s2 cut.f1.n cut.g0.n r
       → Draws Q First s1 s2 r
-  without_first s1 s2 r a d = Draws-weaker (IsPart (fam cut.f1.n) (fam cut.g0.n)) Q First s1 s2 r
+  without_first s1 s2 r a d = Draws-weaker (IsPartOfBoth (fam cut.f1.n) (fam cut.g0.n)) Q First s1 s2 r
       (λ h x. at_whole h (IsPart-10 cut.event.n _ _ _ _ h c.f0_above c.f1_above c.g0_above c.g1_above x))
-      (moved Q s0 s1 cut.f1.n cut.g0.n a c.f1_in c.g0_in (λ x y. Draws (IsPart x y) (without x y) s1 s2 r) d)
+      (moved Q s0 s1 cut.f1.n cut.g0.n a c.f1_in c.g0_in (λ x y. Draws (IsPartOfBoth x y) (without x y) s1 s2 r) d)
 
   pub without_second : (s1 s2 : Stored) (r : Result NodeId NodeFault) → Grows Q s0 s1 → Asked s1 s2 cut.f1.n cut.g1.n r
       → Draws Q Second s1 s2 r
-  without_second s1 s2 r a d = Draws-weaker (IsPart (fam cut.f1.n) (fam cut.g1.n)) Q Second s1 s2 r
+  without_second s1 s2 r a d = Draws-weaker (IsPartOfBoth (fam cut.f1.n) (fam cut.g1.n)) Q Second s1 s2 r
       (λ h x. at_whole h (IsPart-11 cut.event.n _ _ _ _ h c.f0_above c.f1_above c.g0_above c.g1_above x))
-      (moved Q s0 s1 cut.f1.n cut.g1.n a c.f1_in c.g1_in (λ x y. Draws (IsPart x y) (without x y) s1 s2 r) d)
+      (moved Q s0 s1 cut.f1.n cut.g1.n a c.f1_in c.g1_in (λ x y. Draws (IsPartOfBoth x y) (without x y) s1 s2 r) d)
 
   in_meet : (h : Family) → IsCounted (meet First Second) h → Q h
   in_meet h x = IsPart-whole (fam f) (fam g) h

@@ -2,7 +2,7 @@
 
 ghost use Rattle.std.specs.Prelude.{◌≤◌, ◌⊎◌, MatchOption};
 ghost use Rattle.zdd_families.specs.Families.{having, without, minimal};
-ghost use Rattle.zdd_families.specs.Sections.{IsCounted, IsPart, IsHalf};
+ghost use Rattle.zdd_families.specs.Sections.{IsCounted, IsPartOfBoth, IsHalf};
 ghost use Rattle.zdd_nodes.specs.Nodes.{family, IsNumber, IsSoundStore, Draws};
 ghost use Rattle.zdd_ops.specs.Operations.{join_of, IsSound, IsKnown};
 
@@ -106,7 +106,7 @@ pub fn without_in(
     requires store { IsSoundStore store.old }
     ensures sound { IsSound memo.new store.new.families }
     ensures store { IsSoundStore store.new }
-    ensures drawn { Draws (IsPart (family store.old f.n) (family store.old g.n))
+    ensures drawn { Draws (IsPartOfBoth (family store.old f.n) (family store.old g.n))
         (without (family store.old f.n) (family store.old g.n)) store.old store.new result }
 {
     let left = pass(store, f, g);

@@ -2,7 +2,7 @@
 
 ghost use Rattle.std.specs.Prelude.{◌≡◌, ◌≤◌, ◌↔◌, ◌⊎◌, [], IfOk, OnErr};
 ghost use Rattle.zdd_families.specs.Families.{node, IsAbove, union, meet, minus, having, minimal, without};
-ghost use Rattle.zdd_families.specs.Sections.{IsMade, IsCounted, IsPart, IsHalf, IsMoreThan};
+ghost use Rattle.zdd_families.specs.Sections.{IsMade, IsCounted, IsPartOfBoth, IsHalf, IsMoreThan};
 ghost use Rattle.zdd_nodes.specs.Nodes.{family, IsNumber, IsStored, IsSoundStore, Draws, HasNoRoom, Makes};
 
 use crate::halving::{having_in, join_in, minimal_in, without_in};
@@ -142,10 +142,10 @@ impl Ops {
     pub fn without(&mut self, f: NodeId, g: NodeId) -> Result<NodeId, NodeFault>
         requires f_in { IsNumber self.old f.n }
         requires g_in { IsNumber self.old g.n }
-        ensures drawn { Draws (IsPart (family self.old f.n) (family self.old g.n))
+        ensures drawn { Draws (IsPartOfBoth (family self.old f.n) (family self.old g.n))
             (without (family self.old f.n) (family self.old g.n)) self.old self.new result }
         ensures full { result ≡ Err NodeFault.Full → IsMoreThan self.old.limit
-            (λ h. IsStored h self.old ⊎ IsPart (family self.old f.n) (family self.old g.n) h) }
+            (λ h. IsStored h self.old ⊎ IsPartOfBoth (family self.old f.n) (family self.old g.n) h) }
         ensures sound { IsSoundStore self.new }
     {
         without_in(&mut self.store, &mut self.memo, f, g)

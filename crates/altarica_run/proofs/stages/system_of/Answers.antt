@@ -4,7 +4,8 @@ use Rattle.ar_base.specs.Stages.{Then, rule_told}
 use Rattle.ar_base.proofs.Stages.{stage_stops, stage_passes}
 use Rattle.gts_flatten.specs.Elaborating.{Flattens}
 use Rattle.hierarchy.specs.Models.{IsKeptTable}
-use Rattle.instantiate.specs.Unfolding.{Instantiates, IsTreeFor}
+use Rattle.instantiate.specs.Unfolding.{Instantiates}
+use Rattle.instantiate.specs.MadeTrees.{IsTreeFor}
 use Rattle.source_meaning.specs.Binding.{IsBoundFrom}
 use Rattle.source_meaning.specs.Systems.{Binds}
 use Rattle.altarica_run.specs.Elaborates.{Tables}

@@ -1,19 +1,20 @@
 use Rattle.std.proofs.Common.{List, arith, subst, sym}
 use Rattle.ar_base.specs.Lists.{Along}
 use Rattle.hierarchy.specs.Paths.{prefix}
-use Rattle.hierarchy.specs.Tie.{IsUnit}
+use Rattle.hierarchy.specs.Tie.{IsUnitNode}
 use Rattle.hierarchy.specs.declared.tree.UnitNode.{UnitNode}
 use Rattle.bind_names.proofs.Named.{item_of, texts_more, texts_end, fronts_taken}
 use Rattle.bind_names.proofs.paths.prefixes.Goals as goal
 
 pub loop-node-preserved : goal.loop-node-preserved
 loop-node-preserved c = λ m units tree.
-    let along = subst (λ (ds : List UnitNode). Along (IsUnit m units) units ds) (sym c.deref-node-items.ensures.value)
+    let along = subst (λ (ds : List UnitNode). Along (IsUnitNode m units) units ds)
+    (sym c.deref-node-items.ensures.value)
     tree.units_are in
-    let w = item_of (IsUnit m units) (prefix m) units c.deref-node-items.result.now along c.loop-node.node-index
+    let w = item_of (IsUnitNode m units) (prefix m) units c.deref-node-items.result.now along c.loop-node.node-index
     c.node-item.result c.loop-node-test.true c.node-item.is in
     let so_far = c.loop-node.invariant m units tree in
-    texts_more (IsUnit m units) (prefix m) units c.deref-node-items.result.now along c.loop-node.node-index w.0
+    texts_more (IsUnitNode m units) (prefix m) units c.deref-node-items.result.now along c.loop-node.node-index w.0
     c.loop-node.texts.items c.push.new.self.items c.in_ok-text.text
     w.1 so_far (c.in_ok-text.ensures m units w.0 tree.table.table.names
     (rw c.deref.ensures.value (fronts_taken m units c.loop-node.node-index c.loop-node.texts.items so_far))
@@ -22,8 +23,9 @@ loop-node-preserved c = λ m units tree.
 
 pub returns : goal.returns
 returns c = λ m units tree.
-    let along = subst (λ (ds : List UnitNode). Along (IsUnit m units) units ds) (sym c.deref-node-items.ensures.value)
+    let along = subst (λ (ds : List UnitNode). Along (IsUnitNode m units) units ds)
+    (sym c.deref-node-items.ensures.value)
     tree.units_are in
-    texts_end (IsUnit m units) (prefix m) units c.deref-node-items.result.now along c.loop-node.node-index
+    texts_end (IsUnitNode m units) (prefix m) units c.deref-node-items.result.now along c.loop-node.node-index
     c.loop-node.texts.items (omega (arith, c.loop-node-test.false))
     (c.loop-node.invariant m units tree)

@@ -2,7 +2,7 @@ use Rattle.std.proofs.Common.{true, false, length, sym, ap, ◌∙◌, subst}
 use Rattle.std.proofs.lemmas.Bool.{lt-ltb}
 use Rattle.ar_base.proofs.Standing.{stands_item}
 use Rattle.ar_meaning.specs.Found.{IsAnswer}
-use Rattle.cut_check.specs.Verdicts.{MayHold}
+use Rattle.cut_check.specs.Verdicts.{ContainsLine}
 use Rattle.cut_check.specs.declared.rows.Row.{Row}
 use Rattle.cut_check.proofs.HoldLemmas.{not_within, may_before, may_after, words_answer}
 use Rattle.cut_check.proofs.checking.may_hold.Goals as goal
@@ -33,7 +33,7 @@ returns-then-k-n c = λ lines have.
     let rows = c.args.rows.now in
     let r = c.index-rows-n.result in
     let s = c.index-rows-k.result in
-    subst (λ b. IsAnswer b (MayHold lines c.args.n c.args.k)) (sym (lt-ltb c.args.k c.args.n c.if-k-n.true))
+    subst (λ b. IsAnswer b (ContainsLine lines c.args.n c.args.k)) (sym (lt-ltb c.args.k c.args.n c.if-k-n.true))
     (may_before lines rows have c.args.n c.args.k r s (stands_item rows c.args.n r c.requires.n c.index-rows-n.is)
     (stands_item rows c.args.k s c.requires.k c.index-rows-k.is)
     (words_answer _ _ s.words.items r.words.items true

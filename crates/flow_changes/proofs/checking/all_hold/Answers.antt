@@ -1,7 +1,7 @@
 use Rattle.std.proofs.Common.{◌≡◌, ◌<◌, ℕ, List, inl, inr, length, get_or, rules, sym, subst, take_all}
 use Rattle.ar_base.specs.Lists.{Stands, IsOneOf}
 use Rattle.ar_base.proofs.Standing.{stands_get, stands_item, stands_one, one_here}
-use Rattle.ar_meaning.specs.Flows.{IsBroken}
+use Rattle.ar_meaning.specs.Flows.{IsBrokenAssign}
 use Rattle.gts_core.specs.View.{net_of, assign_of}
 use Rattle.gts_core.specs.declared.system.Assign.{Assign}
 use Rattle.value_changes.proofs.Picks.{one_taken, within_at}
@@ -58,7 +58,8 @@ loop-place-preserved c = λ q n a o sq sa b.
           let one : a ≡ c.index.result.now =
           stands_one p.assigns.items n a c.index.result.now sa
           (subst (λ (z : ℕ). Stands p.assigns.items z c.index.result.now) same there) in
-          c.if-is_broken.ensures (subst (λ (z : Assign). IsBroken (net_of p) c.args.values.now (assign_of z)) one b))
+          c.if-is_broken.ensures
+          (subst (λ (z : Assign). IsBrokenAssign (net_of p) c.args.values.now (assign_of z)) one b))
     ]
 
 pub returns : goal.returns

@@ -2,7 +2,7 @@ use Rattle.std.proofs.Common.{ℕ, Bool, List, Option, IfSome, Vec, Global, leng
 use Rattle.ar_base.specs.Lists.{Stands, IsOneOf}
 use Rattle.domains.specs.declared.Value.{Value}
 use Rattle.ar_meaning.specs.Facts.{FactOf}
-use Rattle.ar_meaning.specs.Flows.{IsBroken}
+use Rattle.ar_meaning.specs.Flows.{IsBrokenAssign}
 use Rattle.ar_meaning.proofs.Found.{holds}
 use Rattle.gts_core.specs.Readings.{IsTotal}
 use Rattle.gts_core.specs.View.{net_of, assign_of}
@@ -209,4 +209,4 @@ returns-clause-follows c = λ e.
     (λ q n a o sq sa b. holds _ c.all_hold.result e c.all_hold.ensures q n a
     (subst (λ (z : List ℕ). IsOneOf z q) (sym c.deref-3.ensures.value) o)
     (subst (λ (z : List ℕ). Stands z q n) (sym c.deref-2.ensures.value) sq) sa
-    (subst (λ (z : List Value). IsBroken (net_of p) z (assign_of a)) (sym c.deref-4.ensures.value) b))
+    (subst (λ (z : List Value). IsBrokenAssign (net_of p) z (assign_of a)) (sym c.deref-4.ensures.value) b))

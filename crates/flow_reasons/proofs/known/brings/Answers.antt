@@ -4,7 +4,7 @@ use Rattle.ar_base.proofs.Standing.{stands_get}
 use Rattle.domains.specs.declared.Value.{Value}
 use Rattle.domains.specs.declared.Value.TheVariants.{Truth}
 use Rattle.typed_expr.specs.declared.expr.Expr.{Expr}
-use Rattle.ar_meaning.specs.Facts.{Passes}
+use Rattle.ar_meaning.specs.Facts.{PassesConditions}
 use Rattle.ar_meaning.specs.Found.{IsAnswer}
 use Rattle.ar_meaning.proofs.Found.{holds, fails}
 use Rattle.gts_core.specs.View.{condition_of}
@@ -20,7 +20,8 @@ returns-then-is_known c = λ b.
 pub returns-then-not-reaches : goal.returns-then-not-reaches
 returns-then-not-reaches c = λ b.
     fails _ _ c.if-not-reaches.true c.in_ok-reaches.ensures
-    (subst (λ (z : List (Expr VarId × Bool)). Passes (Known c.args.values.now c.args.marks.now) (map condition_of z))
+    (subst (λ (z : List (Expr VarId × Bool)). PassesConditions (Known c.args.values.now c.args.marks.now)
+    (map condition_of z))
     (sym c.deref.ensures.value) b.passes)
 
 pub returns : goal.returns
@@ -32,7 +33,8 @@ returns c =
     brings_answer values marks a c.in_ok-set.set v c.has-yields.result
     (open_from values marks a.target.n c.requires.marks (sym c.is_known.ensures ∙ c.if-is_known.false))
     (stands_get values a.target.n (Truth false) c.requires.values)
-    (subst (λ (z : List (Expr VarId × Bool)). Passes (Known values marks) (map condition_of z)) c.deref.ensures.value
+    (subst (λ (z : List (Expr VarId × Bool)). PassesConditions (Known values marks) (map condition_of z))
+    c.deref.ensures.value
     (holds _ _ c.if-not-reaches.false c.in_ok-reaches.ensures))
     (tells values marks a.value c.in_ok-set.set c.in_ok-set.ensures.yields)
     (subst (λ (z : List Value). IsAnswer c.has-yields.result (Contains z v)) c.values.ensures.values

@@ -8,7 +8,7 @@ use Rattle.zdd_nodes.specs.Nodes.{family, Draws}
 use Rattle.eq_core.specs.Views.{gate_of, operand_of}
 use Rattle.eq_core.specs.Gates.{GateIs}
 use Rattle.eq_core.specs.Values.{IsBelow}
-use Rattle.gate_diagrams.specs.Needed.{family_at, InCone, itself, IsNeeded}
+use Rattle.gate_diagrams.specs.Needed.{family_at, InGateCone, itself, IsNeeded}
 use Rattle.gate_diagrams.specs.Drawing.{IsReady, IsTable}
 use Rattle.gate_diagrams.proofs.Tables as t
 use Rattle.gate_diagrams.proofs.draw.draw.Goals as goal
@@ -46,7 +46,7 @@ next_gate-requires-clause-ready c = λ marked.
     (t.ready_next (map gate_of c.args.gates.now) (operand_of c.args.root) c.args.firable.n c.args.ops.now
     c.requires.firable_in c.loop-number.number c.loop-number.table.items c.loop-number.ops c.loop-number.invariant
     c.requires.ordered c.requires.in_order (gate_of gate)
-    (subst (InCone (map gate_of gates) (operand_of c.args.root)) at (is_marks.sound number set))
+    (subst (InGateCone (map gate_of gates) (operand_of c.args.root)) at (is_marks.sound number set))
     (subst (λ n. Stands (map gate_of gates) n (gate_of gate)) at (stands_map gate_of gates number gate stands)))
 
 pub returns-in_err-drawn : goal.returns-in_err-drawn
@@ -99,7 +99,7 @@ loop-number-preserved c =
     c.requires.firable_in c.loop-number.number c.loop-number.table.items c.loop-number.ops c.loop-number.invariant
     c.index.result.now c.next_gate.new.ops c.in_ok-drawn.drawn
     (λ x. stands_one marks number c.index.result.now true read
-    (is_marks.whole number (subst (InCone gates (operand_of c.args.root)) (sym at) x) short))
+    (is_marks.whole number (subst (InGateCone gates (operand_of c.args.root)) (sym at) x) short))
     (subst (λ z. Draws (IsNeeded (family c.loop-number.ops c.args.firable.n) gates (operand_of c.args.root))
     (cond c.index.result.now (family_at (family c.loop-number.ops c.args.firable.n) gates (GateIs (length z) true)) [])
     c.loop-number.ops c.next_gate.new.ops (Ok c.in_ok-drawn.drawn))

@@ -4,7 +4,7 @@ use Rattle.mode_trees.specs.Views.{trees_of}
 use Rattle.zdd_nodes.specs.declared.NodeFault.{NodeFault}
 use Rattle.zdd_nodes.specs.declared.NodeFault.TheVariants.{Full}
 use Rattle.eq_core.specs.Views.{table_of}
-use Rattle.gate_diagrams.specs.Needed.{NodesMay}
+use Rattle.gate_diagrams.specs.NodeLimits.{NodesMay}
 use Rattle.gate_diagrams.specs.Answers.{IsAnswer, store_of}
 use Rattle.gate_diagrams.proofs.Whole.{in_forest, all_listed, a_walk, walk_full, firable_listed, firable_in, firable_stored, limit_kept, answer_needed}
 use Rattle.gate_diagrams.proofs.from_forest.diagrams.Goals as goal

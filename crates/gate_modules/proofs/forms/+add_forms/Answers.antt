@@ -1,5 +1,5 @@
 use Rattle.std.proofs.Common.{map, ap, ◌∙◌, arith}
-use Rattle.gate_modules.specs.Shortened.{numbers, form_of}
+use Rattle.gate_modules.specs.Shortened.{event_numbers, short_form_of}
 use Rattle.gate_modules.proofs.Numbers.{lo_in, hi_in}
 use Rattle.gate_modules.proofs.Parting.{events_push}
 use Rattle.gate_modules.proofs.Walking.{fit_upper, fit_lower, adds_uncovered, fit_exit, fit_skip, adds_covered}
@@ -15,9 +15,9 @@ add_forms-requires t c =
         (
           c.requires.units,
           fit_upper c.args.store.now c.split.ensures.sound c.args.chosen.now c.requires.units
-              (numbers c.args.taken.now) c.args.number.n c.in-Some.event.n c.in-Some.lo.n c.in-Some.hi.n c.requires.in_store
+              (event_numbers c.args.taken.now) c.args.number.n c.in-Some.event.n c.in-Some.lo.n c.in-Some.hi.n c.requires.in_store
               c.in-Some.ensures.halves c.requires.fit c.in-None.ensures _
-              (ap numbers (c.deref.ensures.value ∙ c.in_ok-more.ensures) ∙ events_push c.args.taken.now c.in-Some.event),
+              (ap event_numbers (c.deref.ensures.value ∙ c.in_ok-more.ensures) ∙ events_push c.args.taken.now c.in-Some.event),
         ),
       ),
     )
@@ -32,7 +32,7 @@ add_forms-requires-in-None t c =
         (
           c.requires.units,
           fit_lower c.args.store.now c.split.ensures.sound c.args.chosen.now c.requires.units
-              (numbers c.args.taken.now) c.args.number.n c.in-Some.event.n c.in-Some.lo.n c.in-Some.hi.n c.requires.in_store
+              (event_numbers c.args.taken.now) c.args.number.n c.in-Some.event.n c.in-Some.lo.n c.in-Some.hi.n c.requires.in_store
               c.in-Some.ensures.halves c.requires.fit c.in-None.ensures,
         ),
       ),
@@ -40,10 +40,10 @@ add_forms-requires-in-None t c =
 
 pub returns-in-None : goal.returns-in-None
 returns-in-None t c = adds_uncovered c.args.store.now c.split.ensures.sound c.args.chosen.now c.requires.units
-    (numbers c.args.taken.now) c.args.number.n c.in-Some.event.n c.in-Some.lo.n c.in-Some.hi.n c.requires.in_store
+    (event_numbers c.args.taken.now) c.args.number.n c.in-Some.event.n c.in-Some.lo.n c.in-Some.hi.n c.requires.in_store
     c.in-Some.ensures.halves c.requires.fit c.in-None.ensures _
-    (ap numbers (c.deref.ensures.value ∙ c.in_ok-more.ensures) ∙ events_push c.args.taken.now c.in-Some.event)
-    (map form_of c.args.forms.now.items) _ _ c.in_ok-add_forms-in-None.ensures c.in_ok-add_forms-in-None-2.ensures
+    (ap event_numbers (c.deref.ensures.value ∙ c.in_ok-more.ensures) ∙ events_push c.args.taken.now c.in-Some.event)
+    (map short_form_of c.args.forms.now.items) _ _ c.in_ok-add_forms-in-None.ensures c.in_ok-add_forms-in-None-2.ensures
 
 pub add_forms-requires-in-Some-holder : goal.add_forms-requires-in-Some-holder
 add_forms-requires-in-Some-holder t c =
@@ -54,11 +54,11 @@ add_forms-requires-in-Some-holder t c =
         (
           c.requires.units,
           fit_exit c.args.store.now c.split.ensures.sound c.args.chosen.now
-              c.requires.units (numbers c.args.taken.now) c.args.number.n c.in-Some.event.n c.in-Some.lo.n c.in-Some.hi.n
+              c.requires.units (event_numbers c.args.taken.now) c.args.number.n c.in-Some.event.n c.in-Some.lo.n c.in-Some.hi.n
               c.requires.in_store c.in-Some.ensures.halves c.requires.fit c.in-Some-holder.range
               c.in-Some-holder.ensures.is_chosen c.in-Some-holder.ensures.holds c.exit-end.result.n c.skip-rest.result.n
               c.exit-end.ensures c.skip-rest.ensures _
-              (ap numbers (c.deref-in-Some-holder.ensures.value ∙ c.in_ok-more.ensures)
+              (ap event_numbers (c.deref-in-Some-holder.ensures.value ∙ c.in_ok-more.ensures)
               ∙ events_push c.args.taken.now c.in-Some.event),
         ),
       ),
@@ -73,7 +73,7 @@ add_forms-requires-in-Some-holder-2 t c =
         (
           c.requires.units,
           fit_skip c.args.store.now c.split.ensures.sound
-              c.args.chosen.now c.requires.units (numbers c.args.taken.now) c.args.number.n c.in-Some.event.n c.in-Some.lo.n
+              c.args.chosen.now c.requires.units (event_numbers c.args.taken.now) c.args.number.n c.in-Some.event.n c.in-Some.lo.n
               c.in-Some.hi.n c.requires.in_store c.in-Some.ensures.halves c.requires.fit c.in-Some-holder.range
               c.in-Some-holder.ensures.is_chosen c.in-Some-holder.ensures.holds c.exit-end.result.n c.skip-rest.result.n
               c.exit-end.ensures c.skip-rest.ensures,
@@ -83,9 +83,9 @@ add_forms-requires-in-Some-holder-2 t c =
 
 pub returns : goal.returns
 returns t c = adds_covered c.args.store.now c.split.ensures.sound c.args.chosen.now c.requires.units
-    (numbers c.args.taken.now) c.args.number.n c.in-Some.event.n c.in-Some.lo.n c.in-Some.hi.n c.requires.in_store
+    (event_numbers c.args.taken.now) c.args.number.n c.in-Some.event.n c.in-Some.lo.n c.in-Some.hi.n c.requires.in_store
     c.in-Some.ensures.halves c.requires.fit c.in-Some-holder.range c.in-Some-holder.ensures.is_chosen
     c.in-Some-holder.ensures.holds c.exit-end.result.n c.skip-rest.result.n c.exit-end.ensures c.skip-rest.ensures _
-    (ap numbers (c.deref-in-Some-holder.ensures.value ∙ c.in_ok-more.ensures)
-    ∙ events_push c.args.taken.now c.in-Some.event) (map form_of c.args.forms.now.items) _ _
+    (ap event_numbers (c.deref-in-Some-holder.ensures.value ∙ c.in_ok-more.ensures)
+    ∙ events_push c.args.taken.now c.in-Some.event) (map short_form_of c.args.forms.now.items) _ _
     c.in_ok-add_forms-in-Some-holder.ensures c.in_ok-add_forms-in-Some-holder-2.ensures

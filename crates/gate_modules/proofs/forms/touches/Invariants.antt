@@ -1,6 +1,6 @@
 use Rattle.std.proofs.Common.{◌≡◌, false, take}
-use Rattle.gate_modules.specs.Shortened.{numbers, touches}
+use Rattle.gate_modules.specs.Shortened.{event_numbers, touches}
 use Rattle.gate_modules.proofs.forms.touches.Given as goal
 
 abbrev pub invariant-loop-event : goal.invariant-loop-event
-invariant-loop-event l = touches (numbers (take l.event-index l.fn.taken)) l.fn.range ≡ false
+invariant-loop-event l = touches (event_numbers (take l.event-index l.fn.taken)) l.fn.range ≡ false

@@ -1,8 +1,8 @@
 use Rattle.std.proofs.Common.{◌≡◌, map, take}
 use Rattle.ar_base.specs.Numbers.{UnitId}
-use Rattle.gate_modules.specs.Shortened.{numbers, touches, units_where}
+use Rattle.gate_modules.specs.Shortened.{event_numbers, touches, units_where}
 use Rattle.gate_modules.proofs.forms.units_of.Given as goal
 
 abbrev pub invariant-loop-range : goal.invariant-loop-range
 invariant-loop-range l = map (λ (u : UnitId). u.n) l.units.items
-    ≡ units_where (touches (numbers l.fn.taken)) (take l.range-index l.fn.chosen)
+    ≡ units_where (touches (event_numbers l.fn.taken)) (take l.range-index l.fn.chosen)

@@ -1,7 +1,7 @@
 use Rattle.std.proofs.Common.{◌≡◌, true, false, subst, ◌∙◌, refl, arith}
 use Rattle.std.proofs.lemmas.Grind.{common_steps}
 use Rattle.std.proofs.lemmas.Result.{on_ok_weaker}
-use Rattle.gts_core.specs.Bound.{Gives, AreConditionCopies, conditions_in}
+use Rattle.gts_core.specs.Bound.{GivesAssigns, AreConditionCopies, conditions_in}
 use Rattle.gts_core.proofs.ActForms.{gives_skip, gives_set, gives_if, gives_all, give_none, give_next, gives_under}
 use Rattle.gts_core.proofs.assigning.+assigned.Goals as goal
 
@@ -15,7 +15,7 @@ all_assigned-loop-act-preserved t c = record {
       give_next c.args.acts.now c.loop-act.act-index c.act-item.result (conditions_in c.args.when.now.items)
       c.args.out.now.items c.loop-act.out.items c.assigned.new.out.items c.loop-act-test.true c.act-item.is
       c.loop-act.invariant.given
-      (subst (λ w. Gives c.act-item.result (conditions_in w) c.loop-act.out.items c.assigned.new.out.items)
+      (subst (λ w. GivesAssigns c.act-item.result (conditions_in w) c.loop-act.out.items c.assigned.new.out.items)
       c.loop-act.invariant.kept c.in_ok-assigned.ensures.given);
   kept = c.in_ok-assigned.ensures.kept ∙ c.loop-act.invariant.kept;
 }

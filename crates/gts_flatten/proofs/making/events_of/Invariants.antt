@@ -4,7 +4,8 @@ use Rattle.gts_core.specs.Bound.{declared_from}
 use Rattle.gts_core.specs.declared.bound.DeclaredEvent.{DeclaredEvent}
 use Rattle.gts_core.specs.declared.system.Event.{Event}
 use Rattle.sync_expand.specs.Counts.{AreCounts}
-use Rattle.sync_expand.specs.Plans.{planned_of, planned_ways, first_of}
+use Rattle.sync_expand.specs.Plans.{planned_ways, first_of}
+use Rattle.sync_expand.specs.Planned.{planned_of}
 use Rattle.gts_flatten.specs.Making.{IsMadeEvent}
 use Rattle.gts_flatten.proofs.making.events_of.Given as goal
 

@@ -5,7 +5,7 @@ use Rattle.ar_base.specs.Numbers.{VarId}
 use Rattle.hierarchy.specs.Units.{numbers}
 use Rattle.hierarchy.specs.Walks.{is_variable}
 use Rattle.hierarchy.specs.Listing.{variables}
-use Rattle.hierarchy.specs.Tie.{IsVariable, AnswersThing}
+use Rattle.hierarchy.specs.Tie.{IsVariableNode, AnswersThing}
 use Rattle.hierarchy.specs.Finding.{FindsNode}
 use Rattle.hierarchy.specs.declared.tree.VarNode.{VarNode}
 use Rattle.hierarchy.proofs.Looking.{nodes_rise, thing_answer, place_fits}
@@ -21,7 +21,7 @@ pub place_of_variable-requires : goal.place_of_variable-requires
 place_of_variable-requires c =
     let t = c.requires.tree.is_tree in let m = c.requires.tree.model in let units = c.requires.tree.units in
     subst (λ (xs : List VarNode). IsNonDecreasingBy (λ (d : VarNode). d.node.unit.n) xs) (sym c.deref.ensures.value)
-    (nodes_rise t.table.kept t.are_units is_variable (λ (d : VarNode). d.node) (IsVariable m units)
+    (nodes_rise t.table.kept t.are_units is_variable (λ (d : VarNode). d.node) (IsVariableNode m units)
     (λ t d i. (i.given, i.node)) c.args.tree.now.variables.items t.variables_are)
 
 pub returns-in_err-place : goal.returns-in_err-place
@@ -30,7 +30,7 @@ returns-in_err-place c = λ m units u t s.
     None) c.deref.ensures.value c.in_err-place.ensures in
     subst (λ (a : Option VarId). AnswersThing m (variables m units) is_variable u c.args.first
     (numbers c.args.names.now) (option_map (λ (v : VarId). v.n) a)) (sym c.from_residual-in_err-place.ensures)
-    (thing_answer t.table.kept t.are_units is_variable (λ (d : VarNode). d.node) (IsVariable m units)
+    (thing_answer t.table.kept t.are_units is_variable (λ (d : VarNode). d.node) (IsVariableNode m units)
     (λ t d i. (i.given, i.node)) c.args.tree.now.variables.items t.variables_are
     (c.in_ok-unit.ensures m units u t s) None f)
 
@@ -48,5 +48,5 @@ returns c = λ m units u t s.
     (Some c.in_ok-place.place)) c.deref.ensures.value c.in_ok-place.ensures in
     subst (λ (n : ℕ). AnswersThing m (variables m units) is_variable u c.args.first (numbers c.args.names.now) (Some n))
     (sym c.new.ensures) (thing_answer t.table.kept t.are_units is_variable (λ (d : VarNode). d.node)
-    (IsVariable m units) (λ t d i. (i.given, i.node)) c.args.tree.now.variables.items t.variables_are
+    (IsVariableNode m units) (λ t d i. (i.given, i.node)) c.args.tree.now.variables.items t.variables_are
     (c.in_ok-unit.ensures m units u t s) (Some c.in_ok-place.place) f)

@@ -1,5 +1,5 @@
 use Rattle.ar_base.proofs.Results.{ok_map}
-use Rattle.hierarchy.specs.Tie.{boolean, named}
+use Rattle.hierarchy.specs.TypeDomains.{boolean, named}
 use Rattle.instantiate.proofs.Domained.{found_declared}
 use Rattle.instantiate.proofs.domains_of.domain_of.Goals as goal
 

@@ -3,8 +3,8 @@ use Rattle.ar_base.proofs.Standing.{along_length, stands_within}
 use Rattle.class_table.proofs.MemberNames.{none_of}
 use Rattle.class_table.proofs.Taken.{item_stands}
 use Rattle.hierarchy.specs.Units.{UnitPath, set_at_of}
-use Rattle.hierarchy.specs.Settings.{Named, word_of, set_by}
-use Rattle.hierarchy.specs.Tie.{IsName, IsSetAt}
+use Rattle.hierarchy.specs.Settings.{Named, target_word_of, set_by}
+use Rattle.hierarchy.specs.Tie.{IsNameOfUnit, IsSetAt}
 use Rattle.hierarchy.specs.declared.tree.Attribute.{Attribute}
 use Rattle.ar_syntax.specs.declared.members.Word.{Word}
 use Rattle.instantiate.specs.Values.{AreAttribute}
@@ -23,22 +23,23 @@ loop-level-preserved c = λ m units u h there.
     c.in-Some.ensures.lookup.1 in
     let is = outline_of m units c.args.outlines.now h.along c.loop-level.at.n on.unit o on.stands s in
     let w = owner_some units on.unit o.owner c.in-Some-owner.owner is.owner c.in-Some-owner.is in
-    let name = subst (λ (v : UnitPath). IsName v o.name) w.2 is.name in
+    let name = subst (λ (v : UnitPath). IsNameOfUnit v o.name) w.2 is.name in
     let set = subst (λ (v : UnitPath). IsSetAt (set_at_of v) o.set_at) w.2 is.set_at in
     let a = rw c.deref.ensures.value at (c.in_ok-attribute.ensures m units w.1 w.0.set_at h.table.table.holds set
     w.3) in
-    subst (λ (ws : List Word). IsOn m units u (map word_of c.args.target.items) c.in-Some-owner.owner.n (map word_of ws)
+    subst (λ (ws : List Word). IsOn m units u (map target_word_of c.args.target.items) c.in-Some-owner.owner.n
+    (map target_word_of ws)
     c.match-branch-2.found) (sym c.in_ok-insert.ensures.items)
     (elim c.match-branch-2.branch [
-      | in-Some-2 v ↦ subst (λ (f : Option Attribute). IsOn m units u (map word_of c.args.target.items)
-          c.in-Some-owner.owner.n (Named o.name.n ∷ map word_of c.loop-level.target.items) f) (sym v.found-is)
+      | in-Some-2 v ↦ subst (λ (f : Option Attribute). IsOn m units u (map target_word_of c.args.target.items)
+          c.in-Some-owner.owner.n (Named o.name.n ∷ map target_word_of c.loop-level.target.items) f) (sym v.found-is)
           (on_set m units u _ c.loop-level.at.n _ _ on w.0 w.1 w.2 c.in-Some-owner.owner.n w.3 o.name.n _ name
-          (subst (AreAttribute units (set_by m w.1 w.0.set_at (map word_of c.loop-level.target.items)))
+          (subst (AreAttribute units (set_by m w.1 w.0.set_at (map target_word_of c.loop-level.target.items)))
           v.in-Some-2.is a))
-      | in_default-2 v ↦ subst (λ (f : Option Attribute). IsOn m units u (map word_of c.args.target.items)
-          c.in-Some-owner.owner.n (Named o.name.n ∷ map word_of c.loop-level.target.items) f) (sym v.found-is)
+      | in_default-2 v ↦ subst (λ (f : Option Attribute). IsOn m units u (map target_word_of c.args.target.items)
+          c.in-Some-owner.owner.n (Named o.name.n ∷ map target_word_of c.loop-level.target.items) f) (sym v.found-is)
           (on_none m units u _ c.loop-level.at.n _ _ on w.0 w.1 w.2 c.in-Some-owner.owner.n w.3 o.name.n name
-          (subst (AreAttribute units (set_by m w.1 w.0.set_at (map word_of c.loop-level.target.items)))
+          (subst (AreAttribute units (set_by m w.1 w.0.set_at (map target_word_of c.loop-level.target.items)))
           v.in_default-2.is a))
     ])
 

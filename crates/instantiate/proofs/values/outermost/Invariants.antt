@@ -2,7 +2,7 @@ use Rattle.std.proofs.Common.{List, map}
 use Rattle.ar_base.specs.Lists.{Stands}
 use Rattle.hierarchy.specs.Models.{RootedModel}
 use Rattle.hierarchy.specs.Units.{UnitPath}
-use Rattle.hierarchy.specs.Settings.{word_of}
+use Rattle.hierarchy.specs.Settings.{target_word_of}
 use Rattle.hierarchy.specs.Tie.{AreOutlines}
 use Rattle.instantiate.proofs.Upward.{IsOn}
 use Rattle.instantiate.proofs.values.outermost.Given as goal
@@ -10,4 +10,4 @@ use Rattle.instantiate.proofs.values.outermost.Given as goal
 abbrev pub invariant-loop-level : goal.invariant-loop-level
 invariant-loop-level l = (m : RootedModel) (units : List UnitPath) (u : UnitPath)
     → AreOutlines m units l.classes l.outlines → Stands units l.fn.unit.n u
-    → IsOn m units u (map word_of l.fn.target.items) l.at.n (map word_of l.target.items) l.found
+    → IsOn m units u (map target_word_of l.fn.target.items) l.at.n (map target_word_of l.target.items) l.found

@@ -5,8 +5,8 @@ use Rattle.ar_syntax.specs.declared.members.Word.TheVariants as word
 use Rattle.class_table.specs.Members.{Site, MemberKind, owned_at}
 use Rattle.class_table.specs.Tables.{site_of}
 use Rattle.hierarchy.specs.Units.{names_at}
-use Rattle.hierarchy.specs.Settings.{TargetWord, Named, word_of, is_state, settings_of, target_in, declared_in}
-use Rattle.hierarchy.specs.Tie.{HasDomain}
+use Rattle.hierarchy.specs.Settings.{TargetWord, Named, target_word_of, is_state, settings_of, target_in, declared_in}
+use Rattle.hierarchy.specs.TypeDomains.{HasDomain}
 use Rattle.hierarchy.proofs.Apart.{named_back}
 use Rattle.instantiate.specs.Values.{declared_type, last_of}
 use Rattle.instantiate.proofs.InForce.{variable_at, target_one, declared_one}
@@ -34,11 +34,11 @@ returns c = λ m units t h known kept so.
     (c.in_ok-push.ensures.items ∙ ap (λ (ws : List Word). ws ++ word.Name c.args.node.name ∷ [])
     c.new-target.ensures.items) in
     let last = sym (c.last_word.ensures ∙ ap last_of state) in
-    let target : target_in g.name g.kind ≡ Some (map word_of c.push-2.new.self.items) =
+    let target : target_in g.name g.kind ≡ Some (map target_word_of c.push-2.new.self.items) =
     ap (λ (k : MemberKind). target_in g.name k) v.kind ∙ (target_one g.name v.type v.settings _ v.one
     ∙ (ap (λ (n : ℕ). Some (Named n ∷ (last_of (is_state v.settings) ∷ []))) name
     ∙ (ap (λ (w : TargetWord). Some (Named c.args.node.name.n ∷ (w ∷ []))) last
-    ∙ ap (λ (ws : List Word). Some (map word_of ws)) (sym words)))) in
+    ∙ ap (λ (ws : List Word). Some (map target_word_of ws)) (sym words)))) in
     record {
       given = g;
       node = so.node;

@@ -3,14 +3,14 @@ use Rattle.ar_base.specs.Lists.{Along}
 use Rattle.ar_base.proofs.Standing.{along_back, along_length, stands_get}
 use Rattle.hierarchy.specs.Walks.{is_variable}
 use Rattle.hierarchy.specs.Listing.{variables}
-use Rattle.hierarchy.specs.Tie.{IsVariable}
+use Rattle.hierarchy.specs.Tie.{IsVariableNode}
 use Rattle.hierarchy.specs.declared.tree.MemNode.{MemNode}
 use Rattle.unit_rules.proofs.Pushing.{push_start, push_next, push_end}
 use Rattle.instantiate.specs.Nodes.{IsNodeSo}
 use Rattle.instantiate.proofs.variable_lists.variables.Goals as goal
 
 pub loop-node-init : goal.loop-node-init
-loop-node-init c = λ m units h kept. push_start (IsVariable m units) _ c.new-variables.ensures.items
+loop-node-init c = λ m units h kept. push_start (IsVariableNode m units) _ c.new-variables.ensures.items
 
 pub loop-node-preserved : goal.loop-node-preserved
 loop-node-preserved c = λ m units h kept.
@@ -24,7 +24,7 @@ loop-node-preserved c = λ m units h kept.
     } in
     let s = stands_get c.deref-node-items.result.now c.loop-node.node-index none c.loop-node-test.true in
     let w = along_back (variables m units) c.deref-node-items.result.now a c.loop-node.node-index _ s in
-    push_next (IsVariable m units) _ _ _ _ _ _ w.1 (c.loop-node.invariant m units h kept)
+    push_next (IsVariableNode m units) _ _ _ _ _ _ w.1 (c.loop-node.invariant m units h kept)
     (c.in_ok-variable.ensures m units w.0 h known kept w.2) c.in_ok-push.ensures.items
 
 pub returns : goal.returns
@@ -33,4 +33,4 @@ returns c = λ m units h kept.
     let a = subst (λ (ds : List MemNode). Along (IsNodeSo m units is_variable) (variables m units) ds)
     (sym c.deref-node-items.ensures.value) (c.in_ok-nodes.ensures m units h known) in
     let n = along_length (variables m units) c.deref-node-items.result.now a in
-    push_end (IsVariable m units) _ _ _ (omega arith) (c.loop-node.invariant m units h kept)
+    push_end (IsVariableNode m units) _ _ _ (omega arith) (c.loop-node.invariant m units h kept)

@@ -3,7 +3,7 @@ use Rattle.ar_base.specs.Lists.{Along}
 use Rattle.hierarchy.specs.Models.{RootedModel}
 use Rattle.hierarchy.specs.Units.{UnitPath}
 use Rattle.hierarchy.specs.Listing.{variables}
-use Rattle.hierarchy.specs.Tie.{IsVariable}
+use Rattle.hierarchy.specs.Tie.{IsVariableNode}
 use Rattle.hierarchy.specs.Tie.{AreOutlines}
 use Rattle.instantiate.specs.Values.{KeepsDeclarations}
 use Rattle.instantiate.proofs.variable_lists.variables.Given as goal
@@ -11,4 +11,4 @@ use Rattle.instantiate.proofs.variable_lists.variables.Given as goal
 abbrev pub invariant-loop-node : goal.invariant-loop-node
 invariant-loop-node l = (m : RootedModel) (units : List UnitPath) → AreOutlines m units l.classes l.outlines
     → KeepsDeclarations m units
-    → Along (IsVariable m units) (take l.node-index (variables m units)) l.variables.items
+    → Along (IsVariableNode m units) (take l.node-index (variables m units)) l.variables.items

@@ -5,7 +5,7 @@ use Rattle.ar_base.proofs.Standing.{stands_one, stands_none, along_on}
 use Rattle.ar_meaning.specs.Runs.{Label}
 use Rattle.gts_flatten.specs.Elaborating.{Elaborated}
 use Rattle.job_inputs.specs.CutLines.{IsPassed, IsCutLine}
-use Rattle.job_inputs.specs.CutLists.{CutLine, Lists, IsBadLabel, IsFirstBadLabel, IsBadCut, IsFirstBadCut, CutList, HaveOneMeaning}
+use Rattle.job_inputs.specs.CutLists.{CutLine, ListsCutLines, IsBadLabel, IsFirstBadLabel, IsBadCut, IsFirstBadCut, CutList, HaveOneMeaning}
 use Rattle.job_inputs.specs.CutLists as lists
 use Rattle.job_inputs.specs.Labels.{IsLabel}
 use Rattle.job_inputs.specs.Scripts.{Why, BadLine}
@@ -29,8 +29,8 @@ module _ (x : Elaborated) (is : HaveOneMeaning x) where
       let i : l ≡ m = is.one t l m h k in
       let j : ls ≡ ms = labels_same texts ls ms hs ks in cc
 
-  lists_same : {n : ℕ} {lines : List (List ℕ)} {cs ds : List CutLine} → Lists x n lines cs → Lists x n lines ds
-      → cs ≡ ds
+  lists_same : {n : ℕ} {lines : List (List ℕ)} {cs ds : List CutLine} → ListsCutLines x n lines cs → ListsCutLines x n
+      lines ds → cs ≡ ds
   lists_same lists.none lists.none = refl
   lists_same (lists.passes h a) (lists.passes k b) = lists_same a b
   lists_same (lists.passes h a) (lists.cut n c along b) = absurd (n h)
@@ -59,7 +59,7 @@ module _ (x : Elaborated) (is : HaveOneMeaning x) where
   passed_good h (lists.no_cut m f) = m h
   passed_good h (lists.bad_label m d f) = m h
 
-  lists_good : {n : ℕ} {lines : List (List ℕ)} {cs : List CutLine} → Lists x n lines cs
+  lists_good : {n : ℕ} {lines : List (List ℕ)} {cs : List CutLine} → ListsCutLines x n lines cs
       → (k : ℕ) (line : List ℕ) (why : Why) → Stands lines k line → IsBadCut x why line → ⊥
   lists_good lists.none k line why s b = stands_none k line s
   lists_good (lists.passes {line = own} h a) zero line why s b =

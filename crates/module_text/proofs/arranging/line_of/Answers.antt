@@ -1,7 +1,7 @@
 use Rattle.std.proofs.Common.{◌≡◌, ◌++◌, ◌↔◌, ◌<◌, ◌∙◌, ℕ, List, [], length, ap, sym, subst, Vec, Global}
 use Rattle.ar_base.specs.Lists.{IsOneOf}
 use Rattle.ar_base.specs.Numbers.{WayId}
-use Rattle.gate_modules.specs.Shortened.{numbers}
+use Rattle.gate_modules.specs.Shortened.{event_numbers}
 use Rattle.module_text.specs.Arranged.{unit_pieces, way_pieces}
 use Rattle.module_text.specs.Places.{IsPlaced, pieces_at}
 use Rattle.module_text.specs.declared.arranging.Piece.{Piece}
@@ -11,7 +11,7 @@ use Rattle.module_text.proofs.arranging.line_of.Goals as goal
 pub add_ways-requires : goal.add_ways-requires
 add_ways-requires c = λ p o.
     let t = c.args.table.now in
-    let set = numbers c.args.events.now in
+    let set = event_numbers c.args.events.now in
     let each = subst (λ (z : List (Vec ℕ Global)). (n : ℕ) → IsOneOf c.in_ok-spots.spots.items n ↔ IsPlaced z set n)
     c.deref.ensures.value c.in_ok-spots.ensures.each in
     subst (λ (z : List WayId). p < length z) (sym c.deref-2.ensures.value)
@@ -21,7 +21,7 @@ add_ways-requires c = λ p o.
 pub returns : goal.returns
 returns c = λ edges are.
     let t = c.args.table.now in
-    let set = numbers c.args.events.now in
+    let set = event_numbers c.args.events.now in
     let units = unit_pieces c.args.units.now in
     let each = subst (λ (z : List (Vec ℕ Global)). (n : ℕ) → IsOneOf c.in_ok-spots.spots.items n ↔ IsPlaced z set n)
     c.deref.ensures.value c.in_ok-spots.ensures.each in

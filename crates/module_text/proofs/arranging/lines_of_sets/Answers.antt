@@ -1,6 +1,6 @@
 use Rattle.std.proofs.Common.{◌∙◌, List, [], map, take_all, ap}
 use Rattle.ar_base.specs.Numbers.{EventId}
-use Rattle.gate_modules.specs.Shortened.{numbers}
+use Rattle.gate_modules.specs.Shortened.{event_numbers}
 use Rattle.module_text.specs.Arranged.{pieces_of, line_pieces, part_pieces}
 use Rattle.module_text.proofs.Placing.{lines_more}
 use Rattle.module_text.proofs.arranging.lines_of_sets.Goals as goal
@@ -12,7 +12,8 @@ pub loop-set-preserved : goal.loop-set-preserved
 loop-set-preserved c = λ edges are.
     lines_more (part_pieces edges) c.args.sets.now c.loop-set.set-index c.set-item.result c.loop-set.lines.items
     c.push.new.self.items c.in_ok-line.line c.loop-set-test.true c.set-item.is c.in_ok-push.ensures.items
-    (c.in_ok-line.ensures edges are ∙ ap (λ (z : List EventId). line_pieces edges [] (numbers z)) c.deref.ensures.value)
+    (c.in_ok-line.ensures edges are ∙ ap (λ (z : List EventId). line_pieces edges [] (event_numbers z))
+    c.deref.ensures.value)
     (c.loop-set.invariant edges are)
 
 pub returns : goal.returns

@@ -1,7 +1,7 @@
 use Rattle.std.proofs.Common.{◌↔◌, ℕ, List, [], sym, subst, take_all}
 use Rattle.ar_base.specs.Lists.{IsOneOf}
 use Rattle.ar_base.specs.Numbers.{EventId}
-use Rattle.gate_modules.specs.Shortened.{numbers}
+use Rattle.gate_modules.specs.Shortened.{event_numbers}
 use Rattle.module_text.specs.Places.{IsPlaced}
 use Rattle.module_text.proofs.Placing.{none_placed, placed_more, sorted_ascends, sorted_same}
 use Rattle.module_text.proofs.places.spots_of.Goals as goal
@@ -28,6 +28,6 @@ returns-clause-each c = λ p.
     let all = c.loop-event.spots.items in
     let same = sorted_same all c.sort_unstable.new.self.items c.dedup.new.self.items c.sort_unstable.ensures.permutation
     c.dedup.ensures.filtered p in
-    let are = subst (λ (z : List EventId). IsOneOf all p ↔ IsPlaced c.args.places.now (numbers z) p)
+    let are = subst (λ (z : List EventId). IsOneOf all p ↔ IsPlaced c.args.places.now (event_numbers z) p)
     (take_all c.loop-event.event-index c.args.events.now c.loop-event-test.false) (c.loop-event.invariant p) in
     (λ o. are.0 (same.0 o), λ h. same.1 (are.1 h))

@@ -1,14 +1,14 @@
 use Rattle.std.proofs.Common.{ap, ap₂, true, Some, ◌≡◌, ◌∙◌}
 use Rattle.clap.specs.declared.builder.arg.Arg.{Arg}
 use Rattle.clap.specs.Words.{Rule, app_of, rule_of, with_rule}
-use Rattle.run_words.specs.Lines.{program, bare, any_number, command, files}
+use Rattle.run_words.specs.Lines.{program, bare_command, any_number, command, files}
 use Rattle.run_words.proofs.Program.{with_settings, required_rule, ranged_rule}
 use Rattle.run_words.proofs.lines.described.Goals as goal
 
 pub returns : goal.returns
 unfolding program
 returns c =
-    let bare_is : app_of c.disable_version_flag.result ≡ bare =
+    let bare_is : app_of c.disable_version_flag.result ≡ bare_command =
     with_settings c.new-3.result c.disable_help_flag.result c.disable_version_flag.result c.new-3.ensures.app
     c.disable_help_flag.ensures c.disable_version_flag.ensures in
     let command_is : rule_of c.required-command.result ≡ command =

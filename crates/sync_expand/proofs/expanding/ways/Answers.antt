@@ -1,7 +1,7 @@
 use Rattle.std.proofs.Common.{ap, ◌∙◌, ◌≤◌, arith, ℕ, List, map, length, Some}
 use Rattle.std.proofs.lemmas.Result.{err_from_is_err_and}
 use Rattle.ar_base.specs.declared.counts.Count.TheVariants.{Ways as TheWays, WayParts}
-use Rattle.sync_expand.specs.Expanding.{greatest}
+use Rattle.sync_expand.specs.Counting.{greatest}
 use Rattle.gts_core.specs.Bound.{declared_from}
 use Rattle.sync_expand.specs.Counts.{all_parts}
 use Rattle.sync_expand.proofs.KnownLemmas.{some_known, few_of}

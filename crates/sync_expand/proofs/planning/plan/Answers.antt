@@ -1,7 +1,7 @@
 use Rattle.std.proofs.Common.{arith, ap, ◌∙◌, ℕ, List}
 use Rattle.std.proofs.lemmas.List.{take_all}
 use Rattle.ar_meaning.specs.Systems.{Transition}
-use Rattle.ar_meaning.specs.Expand.{Declared}
+use Rattle.ar_meaning.specs.Expand.{EventDeclaration}
 use Rattle.ar_base.proofs.Standing.{one_here}
 use Rattle.gts_core.specs.Bound.{declared_from}
 use Rattle.sync_expand.specs.Plans.{planned_ways}
@@ -24,5 +24,5 @@ pub returns : goal.returns
 returns c = λ counts num few.
     let l = declared_length 0 c.args.events.now in
     c.loop-place.invariant counts num few
-    ∙ ap (λ (ds : List (Declared (Transition ℕ) ℕ)). planned_ways counts ds)
+    ∙ ap (λ (ds : List (EventDeclaration (Transition ℕ) ℕ)). planned_ways counts ds)
     (take_all c.loop-place.place (declared_from 0 c.args.events.now) (omega (arith, l)))

@@ -1,7 +1,8 @@
 use Rattle.std.proofs.Common.{◌≡◌, ℕ, List, map, take}
 use Rattle.gts_core.specs.Bound.{declared_from}
 use Rattle.sync_expand.specs.Counts.{AreFew}
-use Rattle.sync_expand.specs.Plans.{planned_of, planned_ways}
+use Rattle.sync_expand.specs.Plans.{planned_ways}
+use Rattle.sync_expand.specs.Planned.{planned_of}
 use Rattle.sync_expand.specs.Planning.{IsNumbering}
 use Rattle.sync_expand.proofs.planning.plan.Given as goal
 

@@ -1,12 +1,12 @@
 use Rattle.std.proofs.Common.{◌≡◌, ℕ, List, [], sym, subst, rules}
 use Rattle.ar_base.specs.Lists.{Stands, Along, none}
-use Rattle.hierarchy.specs.Tie.{IsUnit}
+use Rattle.hierarchy.specs.Tie.{IsUnitNode}
 use Rattle.hierarchy.specs.declared.tree.UnitNode.{UnitNode}
 use Rattle.unit_rules.proofs.Nodes.{outline_at, along_next, along_all}
 use Rattle.unit_rules.proofs.naming.name_units.Goals as goal
 
 pub loop-place-init : goal.loop-place-init
-loop-place-init c = λ m units o a. subst (λ (ns : List UnitNode). Along (IsUnit m units) [] ns)
+loop-place-init c = λ m units o a. subst (λ (ns : List UnitNode). Along (IsUnitNode m units) [] ns)
     (sym c.new-nodes.ensures.items) none
 
 pub loop-place-preserved : goal.loop-place-preserved

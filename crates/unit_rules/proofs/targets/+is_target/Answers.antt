@@ -1,6 +1,6 @@
 use Rattle.std.proofs.Common.{map, Some, None, refl, ap}
 use Rattle.class_table.proofs.Taken.{item_stands}
-use Rattle.hierarchy.specs.Settings.{word_of}
+use Rattle.hierarchy.specs.Settings.{target_word_of}
 use Rattle.hierarchy.specs.Walks.{Nothing, Loops}
 use Rattle.unit_rules.specs.declared.settables.Settable.TheVariants as settable
 use Rattle.unit_rules.proofs.Leading.{no_length, told_empty, none_named, parameter_named, state_named, flow_named, inner_named, not_inner, named_words, other_word, found_here, outline_there, never, told_by, told_so}
@@ -12,7 +12,7 @@ returns-in_default t c = λ m units classes u o a k p. never m u _ _ refl
 
 pub returns-in_default-word : goal.returns-in_default-word
 returns-in_default-word t c = λ m units classes u o a k p.
-    never m u _ _ (ap (map word_of) c.in-Some.ensures.cases.0)
+    never m u _ _ (ap (map target_word_of) c.in-Some.ensures.cases.0)
     (other_word m u c.in-Some.word.now _ c.in_default-word.not-Name)
 
 pub returns-in_default-get : goal.returns-in_default-get

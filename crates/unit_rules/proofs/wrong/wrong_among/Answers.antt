@@ -1,7 +1,7 @@
 use Rattle.std.proofs.Common.{◌≡◌, ◌<◌, map, length, ap, arith}
 use Rattle.class_table.proofs.Looping.{loop_start, loop_next, loop_end}
 use Rattle.class_table.proofs.Taken.{item_stands}
-use Rattle.hierarchy.specs.Settings.{word_of, target_of}
+use Rattle.hierarchy.specs.Settings.{target_word_of, target_of}
 use Rattle.unit_rules.proofs.Searched.{setting_to, setting_back}
 use Rattle.unit_rules.proofs.wrong.wrong_among.Goals as goal
 
@@ -13,7 +13,7 @@ loop-place-preserved c =
     let l : c.loop-place.place < length c.args.settings.now = omega arith in
     let x = c.index-settings-place.result in
     let s = item_stands c.args.settings.now c.loop-place.place x l c.index-settings-place.is in
-    let words : map word_of c.deref.result.now ≡ target_of x = ap (map word_of) c.deref.ensures.value in
+    let words : map target_word_of c.deref.result.now ≡ target_of x = ap (map target_word_of) c.deref.ensures.value in
     let met = c.in_ok-is_new.ensures c.args.settings.now c.loop-place.place x c.loop-place.invariant.0 s words in (
       met.have_met,
       λ m units classes u o a k t.

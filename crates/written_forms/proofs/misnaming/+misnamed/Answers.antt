@@ -8,32 +8,32 @@ use Rattle.class_table.proofs.Taken.{item_stands}
 use Rattle.class_table.proofs.Looping.{loop_start, loop_next, loop_end}
 use Rattle.written_forms.specs.Operands.{level_of, wanting, OfKind, Like, each_wanting, terms, tests, branches, first_branch}
 use Rattle.typed_expr.specs.declared.expr.ValueKind.TheVariants.{Truth, Whole}
-use Rattle.written_forms.specs.Wrong.{IsMisnamed, IsNamed, Among, MisnamedOperand}
+use Rattle.written_forms.specs.Wrong.{IsMisnamed, IsNamedPath, Among, MisnamedOperand}
 use Rattle.written_forms.proofs.Gathering.{none_among, one_among, both_among, mapped_to, mapped_back, paired_to, paired_back}
 use Rattle.written_forms.proofs.MisnamedForms as misnamed
 use Rattle.written_forms.proofs.misnaming.+misnamed.Goals as goal
 
 pub first_misnamed-returns-in-Truth : goal.first_misnamed-returns-in-Truth
 first_misnamed-returns-in-Truth g t c =
-    let may = (IsNamed (g.N.Naming.kind_at c.args.naming.now)) in
+    let may = (IsNamedPath (g.N.Naming.kind_at c.args.naming.now)) in
     misnamed.misnamed_inside may c.args.expr.now _ _ (opened.form-truth _ _ c.in-Truth.is) (λ p e. cc)
     (none_among (MisnamedOperand may))
 
 pub first_misnamed-returns-in-Whole : goal.first_misnamed-returns-in-Whole
 first_misnamed-returns-in-Whole g t c =
-    let may = (IsNamed (g.N.Naming.kind_at c.args.naming.now)) in
+    let may = (IsNamedPath (g.N.Naming.kind_at c.args.naming.now)) in
     misnamed.misnamed_inside may c.args.expr.now _ _ (opened.form-whole _ _ c.in-Whole.is) (λ p e. cc)
     (none_among (MisnamedOperand may))
 
 pub first_misnamed-returns-in-Real : goal.first_misnamed-returns-in-Real
 first_misnamed-returns-in-Real g t c =
-    let may = (IsNamed (g.N.Naming.kind_at c.args.naming.now)) in
+    let may = (IsNamedPath (g.N.Naming.kind_at c.args.naming.now)) in
     misnamed.misnamed_inside may c.args.expr.now raw.Real _ (opened.form-real _ c.in-Real.is) (λ p e. cc)
     (none_among (MisnamedOperand may))
 
 pub first_misnamed-returns-in-Not : goal.first_misnamed-returns-in-Not
 first_misnamed-returns-in-Not g t c =
-    let may = (IsNamed (g.N.Naming.kind_at c.args.naming.now)) in
+    let may = (IsNamedPath (g.N.Naming.kind_at c.args.naming.now)) in
     let h = subst (λ (e : RawExpr). IsEarliest (IsMisnamed may (level_of e)) c.first_misnamed.result) c.deref.ensures
     c.first_misnamed.ensures in
     misnamed.misnamed_inside may c.args.expr.now (raw.Not c.in-Not.a) c.first_misnamed.result
@@ -42,7 +42,7 @@ first_misnamed-returns-in-Not g t c =
 
 pub first_misnamed-returns-in-Minus : goal.first_misnamed-returns-in-Minus
 first_misnamed-returns-in-Minus g t c =
-    let may = (IsNamed (g.N.Naming.kind_at c.args.naming.now)) in
+    let may = (IsNamedPath (g.N.Naming.kind_at c.args.naming.now)) in
     let h = subst (λ (e : RawExpr). IsEarliest (IsMisnamed may (level_of e)) c.first_misnamed-in-Minus.result)
     c.deref-in-Minus.ensures c.first_misnamed-in-Minus.ensures in
     misnamed.misnamed_inside may c.args.expr.now (raw.Minus c.in-Minus.a) c.first_misnamed-in-Minus.result
@@ -51,7 +51,7 @@ first_misnamed-returns-in-Minus g t c =
 
 pub first_misnamed-returns-in-All : goal.first_misnamed-returns-in-All
 first_misnamed-returns-in-All g t c =
-    let may = (IsNamed (g.N.Naming.kind_at c.args.naming.now)) in
+    let may = (IsNamedPath (g.N.Naming.kind_at c.args.naming.now)) in
     let h = subst (λ (es : List RawExpr). IsEarliest (Among (MisnamedOperand may) (each_wanting (OfKind Truth) es))
     c.misnamed_in.result) c.deref-in-All.ensures.value (c.misnamed_in.ensures (OfKind Truth)) in
     misnamed.misnamed_inside may c.args.expr.now (raw.All c.in-All.es) c.misnamed_in.result
@@ -59,7 +59,7 @@ first_misnamed-returns-in-All g t c =
 
 pub first_misnamed-returns-in-Any : goal.first_misnamed-returns-in-Any
 first_misnamed-returns-in-Any g t c =
-    let may = (IsNamed (g.N.Naming.kind_at c.args.naming.now)) in
+    let may = (IsNamedPath (g.N.Naming.kind_at c.args.naming.now)) in
     let h = subst (λ (es : List RawExpr). IsEarliest (Among (MisnamedOperand may) (each_wanting (OfKind Truth) es))
     c.misnamed_in-in-Any.result) c.deref-in-Any.ensures.value (c.misnamed_in-in-Any.ensures (OfKind Truth)) in
     misnamed.misnamed_inside may c.args.expr.now (raw.Any c.in-Any.es) c.misnamed_in-in-Any.result
@@ -67,7 +67,7 @@ first_misnamed-returns-in-Any g t c =
 
 pub first_misnamed-returns-in-Product : goal.first_misnamed-returns-in-Product
 first_misnamed-returns-in-Product g t c =
-    let may = (IsNamed (g.N.Naming.kind_at c.args.naming.now)) in
+    let may = (IsNamedPath (g.N.Naming.kind_at c.args.naming.now)) in
     let h = subst (λ (es : List RawExpr). IsEarliest (Among (MisnamedOperand may) (each_wanting (OfKind Whole) es))
     c.misnamed_in-in-Product.result) c.deref-in-Product.ensures.value
     (c.misnamed_in-in-Product.ensures (OfKind Whole)) in
@@ -76,7 +76,7 @@ first_misnamed-returns-in-Product g t c =
 
 pub first_misnamed-returns-in-Least : goal.first_misnamed-returns-in-Least
 first_misnamed-returns-in-Least g t c =
-    let may = (IsNamed (g.N.Naming.kind_at c.args.naming.now)) in
+    let may = (IsNamedPath (g.N.Naming.kind_at c.args.naming.now)) in
     let h = subst (λ (es : List RawExpr). IsEarliest (Among (MisnamedOperand may) (each_wanting (OfKind Whole) es))
     c.misnamed_in-in-Least.result) c.deref-in-Least.ensures.value
     (c.misnamed_in-in-Least.ensures (OfKind Whole)) in
@@ -85,7 +85,7 @@ first_misnamed-returns-in-Least g t c =
 
 pub first_misnamed-returns-in-Greatest : goal.first_misnamed-returns-in-Greatest
 first_misnamed-returns-in-Greatest g t c =
-    let may = (IsNamed (g.N.Naming.kind_at c.args.naming.now)) in
+    let may = (IsNamedPath (g.N.Naming.kind_at c.args.naming.now)) in
     let h = subst (λ (es : List RawExpr). IsEarliest (Among (MisnamedOperand may) (each_wanting (OfKind Whole) es))
     c.misnamed_in-in-Greatest.result) c.deref-in-Greatest.ensures.value
     (c.misnamed_in-in-Greatest.ensures (OfKind Whole)) in
@@ -94,7 +94,7 @@ first_misnamed-returns-in-Greatest g t c =
 
 pub first_misnamed-returns-in-Count : goal.first_misnamed-returns-in-Count
 first_misnamed-returns-in-Count g t c =
-    let may = (IsNamed (g.N.Naming.kind_at c.args.naming.now)) in
+    let may = (IsNamedPath (g.N.Naming.kind_at c.args.naming.now)) in
     let h = subst (λ (es : List RawExpr). IsEarliest (Among (MisnamedOperand may) (each_wanting (OfKind Truth) es))
     c.misnamed_in-in-Count.result) c.deref-in-Count.ensures.value
     (c.misnamed_in-in-Count.ensures (OfKind Truth)) in
@@ -103,7 +103,7 @@ first_misnamed-returns-in-Count g t c =
 
 pub first_misnamed-returns-in-Sum : goal.first_misnamed-returns-in-Sum
 first_misnamed-returns-in-Sum g t c =
-    let may = (IsNamed (g.N.Naming.kind_at c.args.naming.now)) in
+    let may = (IsNamedPath (g.N.Naming.kind_at c.args.naming.now)) in
     let h = subst (λ (ps : List (Bool × RawExpr)). IsEarliest (Among (MisnamedOperand may) (terms ps))
     c.misnamed_terms.result) c.deref-in-Sum.ensures.value c.misnamed_terms.ensures in
     misnamed.misnamed_inside may c.args.expr.now (raw.Sum c.in-Sum.parts) c.misnamed_terms.result
@@ -111,7 +111,7 @@ first_misnamed-returns-in-Sum g t c =
 
 pub first_misnamed-returns-in-Compare : goal.first_misnamed-returns-in-Compare
 first_misnamed-returns-in-Compare g t c =
-    let may = (IsNamed (g.N.Naming.kind_at c.args.naming.now)) in
+    let may = (IsNamedPath (g.N.Naming.kind_at c.args.naming.now)) in
     let h = subst (λ (e : RawExpr). IsEarliest (IsMisnamed may (level_of e)) c.first_misnamed-in-Compare.result)
     c.deref-in-Compare.ensures c.first_misnamed-in-Compare.ensures in
     let k = subst (λ (e : RawExpr). IsEarliest (IsMisnamed may (level_of e)) c.first_misnamed-in-Compare-2.result)
@@ -121,7 +121,7 @@ first_misnamed-returns-in-Compare g t c =
 
 pub first_misnamed-returns-in-Choose : goal.first_misnamed-returns-in-Choose
 first_misnamed-returns-in-Choose g t c =
-    let may = (IsNamed (g.N.Naming.kind_at c.args.naming.now)) in
+    let may = (IsNamedPath (g.N.Naming.kind_at c.args.naming.now)) in
     let first = first_branch c.in-Choose.cases.items c.in-Choose.other.value in
     let h = subst (λ (cs : List (RawExpr × RawExpr)). IsEarliest
     (Among (MisnamedOperand may) (tests cs ++ branches first cs)) c.misnamed_cases.result)
@@ -144,7 +144,7 @@ misnamed_in-loop-e-preserved g t c =
 
 pub misnamed_in-returns : goal.misnamed_in-returns
 misnamed_in-returns g t c = λ d.
-    let may = (IsNamed (g.N.Naming.kind_at c.args.naming.now)) in
+    let may = (IsNamedPath (g.N.Naming.kind_at c.args.naming.now)) in
     loop_end _ _ _ _ _ (omega arith) (mapped_to (MisnamedOperand may) (wanting d) c.args.es.now)
     (mapped_back (MisnamedOperand may) (wanting d) c.args.es.now) c.loop-e.invariant
 
@@ -158,7 +158,7 @@ misnamed_terms-loop-e-preserved g t c =
 
 pub misnamed_terms-returns : goal.misnamed_terms-returns
 misnamed_terms-returns g t c =
-    let may = (IsNamed (g.N.Naming.kind_at c.args.naming.now)) in
+    let may = (IsNamedPath (g.N.Naming.kind_at c.args.naming.now)) in
     let f = λ (p : Bool × RawExpr). wanting (OfKind Whole) p.1 in
     loop_end _ _ _ _ _ (omega arith) (mapped_to (MisnamedOperand may) f c.args.parts.now)
     (mapped_back (MisnamedOperand may) f c.args.parts.now) c.loop-e.invariant
@@ -176,7 +176,7 @@ misnamed_cases-loop-test-preserved g t c =
 
 pub misnamed_cases-returns : goal.misnamed_cases-returns
 misnamed_cases-returns g t c = λ first.
-    let may = (IsNamed (g.N.Naming.kind_at c.args.naming.now)) in
+    let may = (IsNamedPath (g.N.Naming.kind_at c.args.naming.now)) in
     let f = λ (p : RawExpr × RawExpr). wanting (OfKind Truth) p.0 in
     let h = λ (p : RawExpr × RawExpr). wanting (Like first) p.1 in
     loop_end _ _ _ _ _ (omega arith) (paired_to (MisnamedOperand may) f h c.args.cases.now)

@@ -9,7 +9,7 @@ use Rattle.class_table.proofs.Looping.{loop_start, loop_next, loop_end}
 use Rattle.typed_expr.specs.declared.expr.ValueKind.TheVariants.{Truth, Whole}
 use Rattle.written_forms.specs.Operands.{level_of, wanting, OfKind, Like, each_wanting, terms, tests, branches, is_equality}
 use Rattle.written_forms.specs.Forms.{IsFormOf}
-use Rattle.written_forms.specs.Wrong.{IsMistyped, Names, demanding, AreWanted, Among, MistypedOperand}
+use Rattle.written_forms.specs.Wrong.{IsMistyped, NamesKind, demanding, AreWanted, Among, MistypedOperand}
 use Rattle.written_forms.proofs.Gathering.{one_among, mapped_to, mapped_back, paired_to, paired_back}
 use Rattle.written_forms.proofs.MistypedForms.{wrong_both, wrong_leaf, wrong_like, wrong_sides, wrong_choices}
 use Rattle.written_forms.proofs.mistyping.+mistyped.Goals as goal
@@ -41,26 +41,26 @@ first_mistyped-returns-in-Path g t c =
 pub first_mistyped-returns-in-Not : goal.first_mistyped-returns-in-Not
 first_mistyped-returns-in-Not g t c =
     let kinds = (g.N.Naming.kind_at c.args.naming.now) in
-    let h = subst (λ (e : RawExpr). IsEarliest (IsMistyped (Names kinds) (OfKind Truth) e) c.first_mistyped.result)
+    let h = subst (λ (e : RawExpr). IsEarliest (IsMistyped (NamesKind kinds) (OfKind Truth) e) c.first_mistyped.result)
     c.deref.ensures c.first_mistyped.ensures in
     wrong_both kinds (demanding c.args.want) c.args.expr.now (raw.Not c.in-Not.a) _ _ _
     (opened.form-not _ _ c.in-Not.is) c.wrong_itself-itself.ensures
-    (one_among (MistypedOperand (Names kinds)) (wanting (OfKind Truth) c.in-Not.a.value) _ h) c.earlier.ensures
+    (one_among (MistypedOperand (NamesKind kinds)) (wanting (OfKind Truth) c.in-Not.a.value) _ h) c.earlier.ensures
 
 pub first_mistyped-returns-in-Minus : goal.first_mistyped-returns-in-Minus
 first_mistyped-returns-in-Minus g t c =
     let kinds = (g.N.Naming.kind_at c.args.naming.now) in
-    let h = subst (λ (e : RawExpr). IsEarliest (IsMistyped (Names kinds) (OfKind Whole) e)
+    let h = subst (λ (e : RawExpr). IsEarliest (IsMistyped (NamesKind kinds) (OfKind Whole) e)
     c.first_mistyped-in-Minus.result) c.deref-in-Minus.ensures c.first_mistyped-in-Minus.ensures in
     wrong_both kinds (demanding c.args.want) c.args.expr.now (raw.Minus c.in-Minus.a) _ _ _
     (opened.form-minus _ _ c.in-Minus.is) c.wrong_itself-itself.ensures
-    (one_among (MistypedOperand (Names kinds)) (wanting (OfKind Whole) c.in-Minus.a.value) _ h)
+    (one_among (MistypedOperand (NamesKind kinds)) (wanting (OfKind Whole) c.in-Minus.a.value) _ h)
     c.earlier-in-Minus.ensures
 
 pub first_mistyped-returns-in-Sum : goal.first_mistyped-returns-in-Sum
 first_mistyped-returns-in-Sum g t c =
     let kinds = (g.N.Naming.kind_at c.args.naming.now) in
-    let h = subst (λ (ps : List (Bool × RawExpr)). IsEarliest (Among (MistypedOperand (Names kinds)) (terms ps))
+    let h = subst (λ (ps : List (Bool × RawExpr)). IsEarliest (Among (MistypedOperand (NamesKind kinds)) (terms ps))
     c.wrong_terms.result) c.deref-in-Sum.ensures.value c.wrong_terms.ensures in
     wrong_both kinds (demanding c.args.want) c.args.expr.now (raw.Sum c.in-Sum.parts) _ _ _
     (opened.form-sum _ _ c.in-Sum.is) c.wrong_itself-itself.ensures h c.earlier-in-Sum.ensures
@@ -69,7 +69,7 @@ pub first_mistyped-returns-in-All : goal.first_mistyped-returns-in-All
 first_mistyped-returns-in-All g t c =
     let kinds = (g.N.Naming.kind_at c.args.naming.now) in
     let h = subst (λ (es : List RawExpr). IsEarliest
-    (Among (MistypedOperand (Names kinds)) (each_wanting (OfKind Truth) es)) c.wrong_in.result)
+    (Among (MistypedOperand (NamesKind kinds)) (each_wanting (OfKind Truth) es)) c.wrong_in.result)
     c.deref-in-All.ensures.value c.wrong_in.ensures in
     wrong_both kinds (demanding c.args.want) c.args.expr.now (raw.All c.in-All.es) _ _ _
     (opened.form-all _ _ c.in-All.is) c.wrong_itself-itself.ensures h c.earlier-in-All.ensures
@@ -78,7 +78,7 @@ pub first_mistyped-returns-in-Any : goal.first_mistyped-returns-in-Any
 first_mistyped-returns-in-Any g t c =
     let kinds = (g.N.Naming.kind_at c.args.naming.now) in
     let h = subst (λ (es : List RawExpr). IsEarliest
-    (Among (MistypedOperand (Names kinds)) (each_wanting (OfKind Truth) es)) c.wrong_in-in-Any.result)
+    (Among (MistypedOperand (NamesKind kinds)) (each_wanting (OfKind Truth) es)) c.wrong_in-in-Any.result)
     c.deref-in-Any.ensures.value c.wrong_in-in-Any.ensures in
     wrong_both kinds (demanding c.args.want) c.args.expr.now (raw.Any c.in-Any.es) _ _ _
     (opened.form-any _ _ c.in-Any.is) c.wrong_itself-itself.ensures h c.earlier-in-Any.ensures
@@ -87,7 +87,7 @@ pub first_mistyped-returns-in-Product : goal.first_mistyped-returns-in-Product
 first_mistyped-returns-in-Product g t c =
     let kinds = (g.N.Naming.kind_at c.args.naming.now) in
     let h = subst (λ (es : List RawExpr). IsEarliest
-    (Among (MistypedOperand (Names kinds)) (each_wanting (OfKind Whole) es)) c.wrong_in-in-Product.result)
+    (Among (MistypedOperand (NamesKind kinds)) (each_wanting (OfKind Whole) es)) c.wrong_in-in-Product.result)
     c.deref-in-Product.ensures.value c.wrong_in-in-Product.ensures in
     wrong_both kinds (demanding c.args.want) c.args.expr.now (raw.Product c.in-Product.es) _ _ _
     (opened.form-product _ _ c.in-Product.is) c.wrong_itself-itself.ensures h c.earlier-in-Product.ensures
@@ -96,7 +96,7 @@ pub first_mistyped-returns-in-Least : goal.first_mistyped-returns-in-Least
 first_mistyped-returns-in-Least g t c =
     let kinds = (g.N.Naming.kind_at c.args.naming.now) in
     let h = subst (λ (es : List RawExpr). IsEarliest
-    (Among (MistypedOperand (Names kinds)) (each_wanting (OfKind Whole) es)) c.wrong_in-in-Least.result)
+    (Among (MistypedOperand (NamesKind kinds)) (each_wanting (OfKind Whole) es)) c.wrong_in-in-Least.result)
     c.deref-in-Least.ensures.value c.wrong_in-in-Least.ensures in
     wrong_both kinds (demanding c.args.want) c.args.expr.now (raw.Least c.in-Least.es) _ _ _
     (opened.form-least _ _ c.in-Least.is) c.wrong_itself-itself.ensures h c.earlier-in-Least.ensures
@@ -105,7 +105,7 @@ pub first_mistyped-returns-in-Greatest : goal.first_mistyped-returns-in-Greatest
 first_mistyped-returns-in-Greatest g t c =
     let kinds = (g.N.Naming.kind_at c.args.naming.now) in
     let h = subst (λ (es : List RawExpr). IsEarliest
-    (Among (MistypedOperand (Names kinds)) (each_wanting (OfKind Whole) es)) c.wrong_in-in-Greatest.result)
+    (Among (MistypedOperand (NamesKind kinds)) (each_wanting (OfKind Whole) es)) c.wrong_in-in-Greatest.result)
     c.deref-in-Greatest.ensures.value c.wrong_in-in-Greatest.ensures in
     wrong_both kinds (demanding c.args.want) c.args.expr.now (raw.Greatest c.in-Greatest.es) _ _ _
     (opened.form-greatest _ _ c.in-Greatest.is) c.wrong_itself-itself.ensures h c.earlier-in-Greatest.ensures
@@ -114,7 +114,7 @@ pub first_mistyped-returns-in-Count : goal.first_mistyped-returns-in-Count
 first_mistyped-returns-in-Count g t c =
     let kinds = (g.N.Naming.kind_at c.args.naming.now) in
     let h = subst (λ (es : List RawExpr). IsEarliest
-    (Among (MistypedOperand (Names kinds)) (each_wanting (OfKind Truth) es)) c.wrong_in-in-Count.result)
+    (Among (MistypedOperand (NamesKind kinds)) (each_wanting (OfKind Truth) es)) c.wrong_in-in-Count.result)
     c.deref-in-Count.ensures.value c.wrong_in-in-Count.ensures in
     wrong_both kinds (demanding c.args.want) c.args.expr.now (raw.Count c.in-Count.es) _ _ _
     (opened.form-count _ _ c.in-Count.is) c.wrong_itself-itself.ensures h c.earlier-in-Count.ensures
@@ -123,11 +123,11 @@ pub first_mistyped-returns-in-Compare : goal.first_mistyped-returns-in-Compare
 first_mistyped-returns-in-Compare g t c =
     let kinds = (g.N.Naming.kind_at c.args.naming.now) in
     let want = c.wanted_sides-left.result in
-    let w = subst (λ (e : RawExpr). AreWanted (Names kinds) (is_equality c.in-Compare.relation) (level_of e) want)
+    let w = subst (λ (e : RawExpr). AreWanted (NamesKind kinds) (is_equality c.in-Compare.relation) (level_of e) want)
     c.deref-in-Compare.ensures c.wanted_sides-left.ensures in
-    let h = subst (λ (e : RawExpr). IsEarliest (IsMistyped (Names kinds) (demanding want.0) e)
+    let h = subst (λ (e : RawExpr). IsEarliest (IsMistyped (NamesKind kinds) (demanding want.0) e)
     c.first_mistyped-first.result) c.deref-in-Compare-2.ensures c.first_mistyped-first.ensures in
-    let k = subst (λ (e : RawExpr). IsEarliest (IsMistyped (Names kinds) (demanding want.1) e)
+    let k = subst (λ (e : RawExpr). IsEarliest (IsMistyped (NamesKind kinds) (demanding want.1) e)
     c.first_mistyped-in-Compare.result) c.deref-in-Compare-3.ensures c.first_mistyped-in-Compare.ensures in
     wrong_both kinds (demanding c.args.want) c.args.expr.now
     (raw.Compare c.in-Compare.relation c.in-Compare.a c.in-Compare.b) _ _ _
@@ -138,11 +138,11 @@ first_mistyped-returns-in-Compare g t c =
 pub first_mistyped-returns-in-Choose : goal.first_mistyped-returns-in-Choose
 first_mistyped-returns-in-Choose g t c =
     let kinds = (g.N.Naming.kind_at c.args.naming.now) in
-    let h = λ (first : RawExpr) (k : IsFormOf (Names kinds) (level_of first) c.form_kind-kind.result). subst
+    let h = λ (first : RawExpr) (k : IsFormOf (NamesKind kinds) (level_of first) c.form_kind-kind.result). subst
     (λ (cs : List (RawExpr × RawExpr)). IsEarliest
-    (Among (MistypedOperand (Names kinds)) (tests cs ++ branches first cs)) c.wrong_cases-first.result)
+    (Among (MistypedOperand (NamesKind kinds)) (tests cs ++ branches first cs)) c.wrong_cases-first.result)
     c.deref-in-Choose.ensures.value (c.wrong_cases-first.ensures first k) in
-    let m = subst (λ (e : RawExpr). IsEarliest (IsMistyped (Names kinds) (demanding c.form_kind-kind.result) e)
+    let m = subst (λ (e : RawExpr). IsEarliest (IsMistyped (NamesKind kinds) (demanding c.form_kind-kind.result) e)
     c.first_mistyped-in-Choose.result) c.deref-in-Choose-2.ensures c.first_mistyped-in-Choose.ensures in
     let i = opened.form-choice _ _ _ c.in-Choose.is in
     wrong_both kinds (demanding c.args.want) c.args.expr.now (raw.Choose c.in-Choose.cases c.in-Choose.other) _ _ _ i
@@ -162,8 +162,8 @@ pub wrong_in-returns : goal.wrong_in-returns
 wrong_in-returns g t c =
     let kinds = (g.N.Naming.kind_at c.args.naming.now) in
     let f = wanting (OfKind c.args.kind) in
-    loop_end _ _ _ _ _ (omega arith) (mapped_to (MistypedOperand (Names kinds)) f c.args.es.now)
-    (mapped_back (MistypedOperand (Names kinds)) f c.args.es.now) c.loop-e.invariant
+    loop_end _ _ _ _ _ (omega arith) (mapped_to (MistypedOperand (NamesKind kinds)) f c.args.es.now)
+    (mapped_back (MistypedOperand (NamesKind kinds)) f c.args.es.now) c.loop-e.invariant
 
 pub wrong_terms-loop-e-init : goal.wrong_terms-loop-e-init
 wrong_terms-loop-e-init g t c = loop_start _ _
@@ -177,8 +177,8 @@ pub wrong_terms-returns : goal.wrong_terms-returns
 wrong_terms-returns g t c =
     let kinds = (g.N.Naming.kind_at c.args.naming.now) in
     let f = λ (p : Bool × RawExpr). wanting (OfKind Whole) p.1 in
-    loop_end _ _ _ _ _ (omega arith) (mapped_to (MistypedOperand (Names kinds)) f c.args.parts.now)
-    (mapped_back (MistypedOperand (Names kinds)) f c.args.parts.now) c.loop-e.invariant
+    loop_end _ _ _ _ _ (omega arith) (mapped_to (MistypedOperand (NamesKind kinds)) f c.args.parts.now)
+    (mapped_back (MistypedOperand (NamesKind kinds)) f c.args.parts.now) c.loop-e.invariant
 
 pub wrong_cases-loop-test-init : goal.wrong_cases-loop-test-init
 wrong_cases-loop-test-init g t c = λ first h. loop_start _ _
@@ -198,5 +198,5 @@ wrong_cases-returns g t c = λ first k.
     let kinds = (g.N.Naming.kind_at c.args.naming.now) in
     let f = λ (p : RawExpr × RawExpr). wanting (OfKind Truth) p.0 in
     let h = λ (p : RawExpr × RawExpr). wanting (Like first) p.1 in
-    loop_end _ _ _ _ _ (omega arith) (paired_to (MistypedOperand (Names kinds)) f h c.args.cases.now)
-    (paired_back (MistypedOperand (Names kinds)) f h c.args.cases.now) (c.loop-test.invariant first k)
+    loop_end _ _ _ _ _ (omega arith) (paired_to (MistypedOperand (NamesKind kinds)) f h c.args.cases.now)
+    (paired_back (MistypedOperand (NamesKind kinds)) f h c.args.cases.now) (c.loop-test.invariant first k)

@@ -1,16 +1,16 @@
 use Rattle.std.proofs.Common.{sym, ◌∙◌}
 use Rattle.ar_syntax.proofs.Opened as opened
-use Rattle.written_forms.specs.Wrong.{Names}
+use Rattle.written_forms.specs.Wrong.{NamesKind}
 use Rattle.written_forms.specs.Breaches.{MistypesItself}
 use Rattle.written_forms.proofs.RuleForms as form
 use Rattle.written_forms.proofs.rules.mistyped_itself.Goals as goal
 
 pub returns-in-Skip : goal.returns-in-Skip
-returns-in-Skip g c = form.never (MistypesItself (Names (g.T.Naming.kind_at c.args.targets.now))) c.args.instr.now _
+returns-in-Skip g c = form.never (MistypesItself (NamesKind (g.T.Naming.kind_at c.args.targets.now))) c.args.instr.now _
     (opened.instr-skip _ c.in-Skip.is) (form.skip_typed (g.T.Naming.kind_at c.args.targets.now))
 
 pub returns-in-All : goal.returns-in-All
-returns-in-All g c = form.never (MistypesItself (Names (g.T.Naming.kind_at c.args.targets.now))) c.args.instr.now _
+returns-in-All g c = form.never (MistypesItself (NamesKind (g.T.Naming.kind_at c.args.targets.now))) c.args.instr.now _
     (opened.instr-group _ _ c.in-All.is) (form.all_typed (g.T.Naming.kind_at c.args.targets.now) _)
 
 pub returns-in-None : goal.returns-in-None

@@ -2,15 +2,15 @@ use Rattle.std.proofs.Common.{◌≡◌, ◌≢◌, [], ◌∷◌, true, false, 
 use Rattle.ar_lexer.specs.declared.token.TokenKind.TheVariants.{Sign, Reserved}
 use Rattle.ar_syntax.specs.declared.members.Member.TheVariants as member
 use Rattle.ar_grammar.specs.Words.{between}
-use Rattle.ar_grammar.specs.Members.{IsKeyed, single, block, event, hide, IsMember, keyed, IsLater, IsBody}
+use Rattle.ar_grammar.specs.Members.{ReadsKeyed, single, block, event, hide, ReadsMember, keyed, ReadsLater, ReadsBody}
 use Rattle.ar_grammar.specs.Results.{kind_at, begins_section, begins_later, begins_member, begins_body, ends_body}
 use Rattle.ar_grammar.proofs.Finding.{finds_then, finds_fails, finds_given, finds_plain, finds_err, finds_ok, finds_memory, finds_deep, finds_nothing, finds_token, finds_from, loops_stop, loops_fail, spans_then, spans_token, spans_expected, spans_from, spans_map, eats_kind, follows_token, follows_any}
 use Rattle.ar_grammar.proofs.BodyParts.{spans_first, member_declared, keyed_event, keyed_hide, keyed_block, keyed_single, member_first, member_named, member_keyed, member_open, later_open, later_first, later_section, later_keyed, later_follows, sections_none, sections_parts, sections_follow, finds_body, body_empty, body_some, body_in, groups_push}
 use Rattle.std.proofs.Common.{inl, inr}
 use Rattle.ar_lexer.specs.declared.signs.TheConstants.{SEMICOLON, COMMA}
 use Rattle.ar_lexer.specs.declared.words.TheConstants.{EVENT, HIDE}
-use Rattle.ar_grammar.specs.Words.{separated}
-use Rattle.ar_grammar.specs.Members.{IsSection, IsEvent, IsHidden}
+use Rattle.ar_grammar.specs.Words.{separated_by}
+use Rattle.ar_grammar.specs.Members.{ReadsSection, ReadsEvent, ReadsHidden}
 use Rattle.ar_grammar.proofs.BodyParts.{adds_map, sections_added, sections_nothing}
 use Rattle.ar_grammar.proofs.cursor.Parser.+body.Goals as goal
 use Rattle.ar_grammar.proofs.Standing.{halts_err, halts_over, refuses_fails, refuses_then, refuses_map, refuses_inside, refuses_from, refuses_given, refuses_turn, refuses_deep, passes, passes_token, begins_then, begins_token, begins_no_more, begins_maybe}
@@ -109,7 +109,7 @@ pub member-returns-in_err-push-clause-only : goal.member-returns-in_err-push-cla
 member-returns-in_err-push-clause-only t c = let f = c.in_ok-declaration.ensures.only in finds_memory f.front f.passed c.from_residual-in_err-push.ensures.1
 
 pub member-returns-then-is_at-clause-found : goal.member-returns-then-is_at-clause-found
-member-returns-then-is_at-clause-found t c = let s = c.in_ok-declaration.ensures.found in (c.in_ok-declaration.declaration ∷ [], c.in_ok-push.ensures.items, record { front = s.front; split = s.split; form = member_declared c.args.left (IsBody c.args.left) _ _ s.front s.form (spans_first s ∙ c.if-is_at.ensures.yes) })
+member-returns-then-is_at-clause-found t c = let s = c.in_ok-declaration.ensures.found in (c.in_ok-declaration.declaration ∷ [], c.in_ok-push.ensures.items, record { front = s.front; split = s.split; form = member_declared c.args.left (ReadsBody c.args.left) _ _ s.front s.form (spans_first s ∙ c.if-is_at.ensures.yes) })
 
 pub member-returns-then-is_at-clause-only : goal.member-returns-then-is_at-clause-only
 member-returns-then-is_at-clause-only t c =
@@ -117,8 +117,8 @@ member-returns-then-is_at-clause-only t c =
     (λ n next ts h s k. (member_named n next ts h (k ∙ c.if-is_at.ensures.yes), s))
 
 pub member-returns-clause-found : goal.member-returns-clause-found
-member-returns-clause-found t c = adds_map (IsKeyed c.args.left (IsBody c.args.left))
-    (IsMember c.args.left (IsBody c.args.left)) _ _ _ _ _ c.keyed.ensures.found (λ ms next ts h. keyed h)
+member-returns-clause-found t c = adds_map (ReadsKeyed c.args.left (ReadsBody c.args.left))
+    (ReadsMember c.args.left (ReadsBody c.args.left)) _ _ _ _ _ c.keyed.ensures.found (λ ms next ts h. keyed h)
 
 pub member-returns-clause-only : goal.member-returns-clause-only
 member-returns-clause-only t c = finds_given c.keyed.ensures.only
@@ -126,8 +126,8 @@ member-returns-clause-only t c = finds_given c.keyed.ensures.only
 
 pub keyed-returns-then-is_at-clause-found : goal.keyed-returns-then-is_at-clause-found
 keyed-returns-then-is_at-clause-found t c =
-    adds_map (λ ms. between (Reserved EVENT) (Sign SEMICOLON) (separated (Sign COMMA) (IsEvent c.args.left) ms))
-    (IsKeyed c.args.left (IsBody c.args.left)) _ _ _ _ _ c.events.ensures.found (λ ms next ts h. event h)
+    adds_map (λ ms. between (Reserved EVENT) (Sign SEMICOLON) (separated_by (Sign COMMA) (ReadsEvent c.args.left) ms))
+    (ReadsKeyed c.args.left (ReadsBody c.args.left)) _ _ _ _ _ c.events.ensures.found (λ ms next ts h. event h)
 
 pub keyed-returns-then-is_at-clause-only : goal.keyed-returns-then-is_at-clause-only
 keyed-returns-then-is_at-clause-only t c =
@@ -135,8 +135,8 @@ keyed-returns-then-is_at-clause-only t c =
 
 pub keyed-returns-then-is_at-2-clause-found : goal.keyed-returns-then-is_at-2-clause-found
 keyed-returns-then-is_at-2-clause-found t c =
-    adds_map (λ ms. between (Reserved HIDE) (Sign SEMICOLON) (separated (Sign COMMA) IsHidden ms))
-    (IsKeyed c.args.left (IsBody c.args.left)) _ _ _ _ _ c.hides.ensures.found (λ ms next ts h. hide h)
+    adds_map (λ ms. between (Reserved HIDE) (Sign SEMICOLON) (separated_by (Sign COMMA) ReadsHidden ms))
+    (ReadsKeyed c.args.left (ReadsBody c.args.left)) _ _ _ _ _ c.hides.ensures.found (λ ms next ts h. hide h)
 
 pub keyed-returns-then-is_at-2-clause-only : goal.keyed-returns-then-is_at-2-clause-only
 keyed-returns-then-is_at-2-clause-only t c =
@@ -198,7 +198,7 @@ keyed-returns-clause-only t c = finds_from
     ))) c.if-eat.ensures.left
 
 pub sections-returns-then-not-begins_section-clause-found : goal.sections-returns-then-not-begins_section-clause-found
-sections-returns-then-not-begins_section-clause-found t c = sections_nothing c.args.left (IsBody c.args.left) _ _
+sections-returns-then-not-begins_section-clause-found t c = sections_nothing c.args.left (ReadsBody c.args.left) _ _
 
 pub sections-returns-then-not-begins_section-clause-only : goal.sections-returns-then-not-begins_section-clause-only
 sections-returns-then-not-begins_section-clause-only t c =
@@ -228,7 +228,7 @@ sections-returns-in_err-later_clauses-clause-only t c =
     ))
 
 pub sections-returns-clause-found : goal.sections-returns-clause-found
-sections-returns-clause-found t c = let a = c.in_ok-section.ensures.found in let b = c.in_ok-later_clauses.ensures.found in sections_added c.args.left (IsBody c.args.left) _ _ _ a.0 b.0 a.1 b.1 a.2 b.2
+sections-returns-clause-found t c = let a = c.in_ok-section.ensures.found in let b = c.in_ok-later_clauses.ensures.found in sections_added c.args.left (ReadsBody c.args.left) _ _ _ a.0 b.0 a.1 b.1 a.2 b.2
 
 pub sections-returns-clause-only : goal.sections-returns-clause-only
 sections-returns-clause-only t c = finds_given
@@ -254,7 +254,8 @@ later_clauses-returns-clause-only t c = loops_stop c.loop-self.invariant.loops (
 
 pub later_clause-returns-then-begins_section-clause-found : goal.later_clause-returns-then-begins_section-clause-found
 later_clause-returns-then-begins_section-clause-found t c =
-    adds_map (IsSection c.args.left) (IsLater c.args.left (IsBody c.args.left)) _ _ _ _ _ c.section.ensures.found
+    adds_map (ReadsSection c.args.left) (ReadsLater c.args.left (ReadsBody c.args.left)) _ _ _ _ _
+    c.section.ensures.found
     (λ ms next ts h. inl h)
 
 pub later_clause-returns-then-begins_section-clause-only : goal.later_clause-returns-then-begins_section-clause-only
@@ -268,7 +269,7 @@ later_clause-returns-then-begins_section-clause-only t c =
 
 pub later_clause-returns-clause-found : goal.later_clause-returns-clause-found
 later_clause-returns-clause-found t c =
-    adds_map (IsKeyed c.args.left (IsBody c.args.left)) (IsLater c.args.left (IsBody c.args.left)) _ _ _ _ _
+    adds_map (ReadsKeyed c.args.left (ReadsBody c.args.left)) (ReadsLater c.args.left (ReadsBody c.args.left)) _ _ _ _ _
     c.keyed.ensures.found (λ ms next ts h. inr h)
 
 pub later_clause-returns-clause-only : goal.later_clause-returns-clause-only

@@ -1,6 +1,6 @@
 use Rattle.std.proofs.Common.{length, ◌+◌, ◌*◌}
-use Rattle.ar_grammar.specs.Parts.{member_text, later_text}
-use Rattle.ar_grammar.specs.Members.{IsMember, IsLater, IsBody}
+use Rattle.ar_grammar.specs.Parts.{member_tokens, later_tokens}
+use Rattle.ar_grammar.specs.Members.{ReadsMember, ReadsLater, ReadsBody}
 use Rattle.ar_grammar.specs.Results.{ends_members, ends_body}
 use Rattle.ar_grammar.proofs.BodyParts.{GathersGroups}
 use Rattle.ar_grammar.proofs.cursor.Parser.+body.Given as goal
@@ -31,7 +31,7 @@ decreases-sections l = 8 * l.left + 5
 
 abbrev pub invariant-members-loop-self : goal.invariant-members-loop-self
 invariant-members-loop-self l =
-    GathersGroups (IsMember l.left (IsBody l.left)) member_text ends_members l.fn.members.items l.members.items
+    GathersGroups (ReadsMember l.left (ReadsBody l.left)) member_tokens ends_members l.fn.members.items l.members.items
     l.fn.self.rest.now l.self.rest.now
 
 abbrev pub decreases-members-loop-self : goal.decreases-members-loop-self
@@ -39,7 +39,7 @@ decreases-members-loop-self l = length l.self.rest.now
 
 abbrev pub invariant-later_clauses-loop-self : goal.invariant-later_clauses-loop-self
 invariant-later_clauses-loop-self l =
-    GathersGroups (IsLater l.left (IsBody l.left)) later_text ends_body l.fn.members.items l.members.items
+    GathersGroups (ReadsLater l.left (ReadsBody l.left)) later_tokens ends_body l.fn.members.items l.members.items
     l.fn.self.rest.now l.self.rest.now
 
 abbrev pub decreases-later_clauses-loop-self : goal.decreases-later_clauses-loop-self

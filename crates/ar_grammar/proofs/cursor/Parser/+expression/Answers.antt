@@ -4,7 +4,7 @@ use Rattle.std.proofs.lemmas.Bool.{eqb-true}
 use Rattle.ar_syntax.specs.declared.expressions.RawExpr.{RawExpr}
 use Rattle.ar_grammar.specs.declared.terms.Chain.{Chain}
 use Rattle.ar_grammar.specs.declared.terms.Chain.TheVariants.{Any}
-use Rattle.ar_grammar.specs.Expressions.{Node, IsExpr, IsNot, IsMinus, IsProduct, IsSum, IsCompare, IsPrimary, IsIf, IsSwitch}
+use Rattle.ar_grammar.specs.Expressions.{Node, ReadsExpr, ReadsNot, ReadsMinus, ReadsProduct, ReadsSum, ReadsCompare, ReadsPrimary, ReadsIf, ReadsSwitch}
 use Rattle.ar_grammar.specs.Chains.{chain_form, ends_chain, ends_operand}
 use Rattle.ar_grammar.specs.Results.{kind_at, Finds, begins_term, begins_expr, begins_not, begins_minus, ends_list, ends_cases, ends_sum, is_relation}
 use Rattle.ar_grammar.proofs.Finding.{finds_then, finds_fails, finds_given, finds_plain, finds_err, finds_ok, finds_memory, finds_inside, finds_no_room, finds_syntax, finds_nothing, finds_token, finds_from, finds_at, loops_start, loops_stop, loops_fail, loops_next, gathers_push, spans_then, spans_token, spans_expected, spans_from, spans_at, spans_map, takes_map, takes_from, err_memory, eats_as, eats_kind, then_kind, follows_token, follows_then, follows_any}
@@ -17,13 +17,13 @@ use Rattle.ar_grammar.proofs.cursor.Parser.+expression.Goals as goal
 use Rattle.std.proofs.Common.{inl, inr}
 use Rattle.ar_lexer.specs.declared.token.TokenKind.TheVariants.{Sign}
 use Rattle.ar_lexer.specs.declared.signs.TheConstants.{OPEN_BRACE, CLOSE_BRACE, CLOSE_PARENTHESIS, COLON}
-use Rattle.ar_grammar.specs.Texts.{relation_text, plus_text, one_of, begins_constant, begins_call}
+use Rattle.ar_grammar.specs.Texts.{relation_tokens, plus_tokens, one_of, begins_constant, begins_call}
 use Rattle.ar_grammar.specs.Texts as text
 use Rattle.ar_grammar.proofs.ExpressionForms.{then_assoc}
 use Rattle.ar_grammar.proofs.Standing.{halts_err, halts_over, refuses_fails, refuses_then, refuses_map, refuses_inside, refuses_from, refuses_turn, refuses_some, refuses_here, refuses_no_room, passes, passes_token, passes_expected, passes_one, begins_token, begins_nothing, begins_no_more, begins_then, begins_map, turns_each, turns_then, turns_token}
 use Rattle.ar_grammar.proofs.Turning.{turns_operand, turns_tree, turns_product, turns_a_term, turns_a_sum, turns_a_case, turns_enclosed, turns_all_cases}
 use Rattle.ar_grammar.proofs.Beginnings.{some_expr, some_not, some_minus, some_arguments, some_case, some_default, some_else, expr_at, not_at, minus_at, call_one}
-use Rattle.ar_grammar.specs.Parts.{operand_text}
+use Rattle.ar_grammar.specs.Parts.{operand_tokens}
 use Rattle.ar_grammar.specs.declared.lexeme.Refusal.TheVariants.{Syntax}
 
 pub cases-returns-in_err-test-clause-only : goal.cases-returns-in_err-test-clause-only
@@ -139,7 +139,7 @@ compare-returns-in_err-form-in-Some-clause-only t c = let f = finds_then c.in_ok
 
 pub compare-returns-in-None-clause-found : goal.compare-returns-in-None-clause-found
 compare-returns-in-None-clause-found t c =
-    spans_at (Node (IsCompare (IsSum (IsProduct (IsMinus c.args.left)))) c.in_ok-first.first)
+    spans_at (Node (ReadsCompare (ReadsSum (ReadsProduct (ReadsMinus c.args.left)))) c.in_ok-first.first)
     (spans_map c.in_ok-first.ensures.found (compare_one _ _)) c.in-None.ensures.left
 
 pub compare-returns-in-None-clause-only : goal.compare-returns-in-None-clause-only
@@ -200,7 +200,7 @@ expr-returns-then-left-eq0-clause-only t c =
 
 pub expr-returns-then-is_at-clause-found : goal.expr-returns-then-is_at-clause-found
 expr-returns-then-is_at-clause-found t c =
-    takes_map (Node (IsIf (IsExpr (c.args.left - 1)))) (Node (IsExpr c.args.left)) _ _ _ c.choice.ensures.found
+    takes_map (Node (ReadsIf (ReadsExpr (c.args.left - 1)))) (Node (ReadsExpr c.args.left)) _ _ _ c.choice.ensures.found
     (λ e next ts h. expr_choice_in c.args.left e next ts c.if-left-eq0.false h)
 
 pub expr-returns-then-is_at-clause-only : goal.expr-returns-then-is_at-clause-only
@@ -209,7 +209,7 @@ expr-returns-then-is_at-clause-only t c =
     (λ n next ts h s k. (expr_if n next ts h (k ∙ c.if-is_at.ensures.yes), s))
 
 pub expr-returns-clause-found : goal.expr-returns-clause-found
-expr-returns-clause-found t c = takes_map (Node (chain_form Any (c.args.left - 1))) (Node (IsExpr c.args.left)) _ _ _
+expr-returns-clause-found t c = takes_map (Node (chain_form Any (c.args.left - 1))) (Node (ReadsExpr c.args.left)) _ _ _
     c.chain.ensures.found (λ e next ts h. expr_plain_in c.args.left e next ts c.if-left-eq0.false h)
 
 pub expr-returns-clause-only : goal.expr-returns-clause-only
@@ -243,8 +243,9 @@ minus-returns-then-eat-clause-only t c =
     (λ n next ts h s k. (minus_negated n next ts h (k ∙ eats_kind c.if-eat.ensures.taken), s))
 
 pub minus-returns-clause-found : goal.minus-returns-clause-found
-minus-returns-clause-found t c = takes_from (Node (IsMinus c.args.left)) _ _ _ _
-    (takes_map (Node (IsPrimary (IsExpr (c.args.left - 1)))) (Node (IsMinus c.args.left)) _ _ _ c.primary.ensures.found
+minus-returns-clause-found t c = takes_from (Node (ReadsMinus c.args.left)) _ _ _ _
+    (takes_map (Node (ReadsPrimary (ReadsExpr (c.args.left - 1)))) (Node (ReadsMinus c.args.left)) _ _ _
+    c.primary.ensures.found
     (λ e next ts h. minus_plain_in c.args.left e next ts c.if-left-eq0.false h)) (sym c.if-eat.ensures.left)
 
 pub minus-returns-clause-only : goal.minus-returns-clause-only
@@ -321,8 +322,9 @@ not-returns-then-eat-clause-only t c =
     (λ n next ts h s k. (not_negated n next ts h (k ∙ eats_kind c.if-eat.ensures.taken), s))
 
 pub not-returns-clause-found : goal.not-returns-clause-found
-not-returns-clause-found t c = takes_from (Node (IsNot c.args.left)) _ _ _ _
-    (takes_map (Node (IsCompare (IsSum (IsProduct (IsMinus (c.args.left - 1)))))) (Node (IsNot c.args.left)) _ _ _
+not-returns-clause-found t c = takes_from (Node (ReadsNot c.args.left)) _ _ _ _
+    (takes_map (Node (ReadsCompare (ReadsSum (ReadsProduct (ReadsMinus (c.args.left - 1))))))
+    (Node (ReadsNot c.args.left)) _ _ _
     c.compare.ensures.found (λ e next ts h. not_plain_in c.args.left e next ts c.if-left-eq0.false h))
     (sym c.if-eat.ensures.left)
 
@@ -337,7 +339,7 @@ not-returns-clause-only t c = finds_from
 
 pub operand-returns-in-Any-clause-only : goal.operand-returns-in-Any-clause-only
 operand-returns-in-Any-clause-only t c =
-    subst (λ (k : Chain). Finds (operand_text k) (ends_operand k) c.args.left c.chain.result c.args.self.now.rest.now
+    subst (λ (k : Chain). Finds (operand_tokens k) (ends_operand k) c.args.left c.chain.result c.args.self.now.rest.now
     c.chain.new.self.rest.now) (sym c.in-Any.is) c.chain.ensures.only
 
 pub operands-returns-in_err-expect-clause-only : goal.operands-returns-in_err-expect-clause-only
@@ -403,8 +405,8 @@ primary-returns-then-is_at-clause-only t c =
 
 pub primary-returns-then-is_at-2-clause-found : goal.primary-returns-then-is_at-2-clause-found
 primary-returns-then-is_at-2-clause-found t c =
-    takes_from (Node (IsPrimary (IsExpr c.args.left))) _ _ _ _
-    (takes_map (Node (IsSwitch (IsExpr c.args.left))) (Node (IsPrimary (IsExpr c.args.left))) _ _ _
+    takes_from (Node (ReadsPrimary (ReadsExpr c.args.left))) _ _ _ _
+    (takes_map (Node (ReadsSwitch (ReadsExpr c.args.left))) (Node (ReadsPrimary (ReadsExpr c.args.left))) _ _ _
     c.switch.ensures.found (λ e next ts h. switch_in c.args.left e next ts h)) (sym c.in_default.ensures.left)
 
 pub primary-returns-then-is_at-2-clause-only : goal.primary-returns-then-is_at-2-clause-only
@@ -606,7 +608,7 @@ pub compare-returns-in_err-second-in-Some-clause-stuck : goal.compare-returns-in
 compare-returns-in_err-second-in-Some-clause-stuck t c =
     halts_err _ _ c.from_residual-in_err-second-in-Some.ensures.1
     (refuses_then (passes c.in_ok-first.ensures.found (λ m l. turns_a_sum _ m l _))
-    (refuses_map (refuses_then {P = λ m. relation_text}
+    (refuses_map (refuses_then {P = λ m. relation_tokens}
     (passes (spans_token c.in-Some.ensures.taken)
     (λ m l next next' ts h. (c.in-Some.relation, turns_token next next' ts h))) c.in_err-second-in-Some.ensures.stuck)
     (λ m next ts h. inr h)))
@@ -678,22 +680,22 @@ pub more_operands-returns-in_err-operand-clause-stuck : goal.more_operands-retur
 more_operands-returns-in_err-operand-clause-stuck t c = halts_err _ _ c.from_residual.ensures.1 (let g = c.loop-chain.invariant in refuses_turn (passes g.taken (λ m l. turns_each (λ x. turns_then turns_token (turns_operand c.args.chain _ m l x)) g.more)) (refuses_then (passes_token (eats_as c.loop-chain-test.ensures.taken c.separator_of-separator.ensures.value)) c.in_err-operand.ensures.stuck))
 
 pub more_terms-returns-in_err-term-clause-stuck : goal.more_terms-returns-in_err-term-clause-stuck
-more_terms-returns-in_err-term-clause-stuck t c = halts_err _ _ c.from_residual.ensures.1 (let g = c.loop-plus.invariant in refuses_turn (passes g.taken (λ m l. turns_each (turns_a_term _ m l) g.more)) (refuses_then {P = λ m. plus_text} (passes (spans_token (term_eats c.in-Some.plus c.in-Some.ensures.plus c.in-Some.ensures.minus)) (λ m l next next' ts h. (c.in-Some.plus, turns_token next next' ts h))) c.in_err-term.ensures.stuck))
+more_terms-returns-in_err-term-clause-stuck t c = halts_err _ _ c.from_residual.ensures.1 (let g = c.loop-plus.invariant in refuses_turn (passes g.taken (λ m l. turns_each (turns_a_term _ m l) g.more)) (refuses_then {P = λ m. plus_tokens} (passes (spans_token (term_eats c.in-Some.plus c.in-Some.ensures.plus c.in-Some.ensures.minus)) (λ m l next next' ts h. (c.in-Some.plus, turns_token next next' ts h))) c.in_err-term.ensures.stuck))
 
 pub operand-returns-in-Any-clause-stuck : goal.operand-returns-in-Any-clause-stuck
 operand-returns-in-Any-clause-stuck t c =
     halts_over _ c.chain.ensures.stuck
-    (λ e r. refuses_map r (λ m next ts h. subst (λ (k : Chain). operand_text k m next ts) (sym c.in-Any.is) h))
+    (λ e r. refuses_map r (λ m next ts h. subst (λ (k : Chain). operand_tokens k m next ts) (sym c.in-Any.is) h))
 
 pub operand-returns-in-All-clause-stuck : goal.operand-returns-in-All-clause-stuck
 operand-returns-in-All-clause-stuck t c =
     halts_over _ c.not.ensures.stuck (λ e r. refuses_map r
-    (λ m next ts h. subst (λ (k : Chain). operand_text k m next ts) (sym c.in-All.is) h))
+    (λ m next ts h. subst (λ (k : Chain). operand_tokens k m next ts) (sym c.in-All.is) h))
 
 pub operand-returns-in-Product-clause-stuck : goal.operand-returns-in-Product-clause-stuck
 operand-returns-in-Product-clause-stuck t c =
     halts_over _ c.minus.ensures.stuck
-    (λ e r. refuses_map r (λ m next ts h. subst (λ (k : Chain). operand_text k m next ts) (sym c.in-Product.is) h))
+    (λ e r. refuses_map r (λ m next ts h. subst (λ (k : Chain). operand_tokens k m next ts) (sym c.in-Product.is) h))
 
 pub operands-returns-in_err-expect-clause-stuck : goal.operands-returns-in_err-expect-clause-stuck
 operands-returns-in_err-expect-clause-stuck t c =

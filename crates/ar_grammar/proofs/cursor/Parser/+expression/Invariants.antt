@@ -4,13 +4,13 @@ use Rattle.ar_lexer.specs.declared.signs.TheConstants.{COMMA}
 use Rattle.ar_grammar.specs.declared.terms.Chain.{Chain}
 use Rattle.ar_grammar.specs.declared.terms.Chain.TheVariants.{Any, All, Product}
 use Rattle.ar_grammar.specs.Words.{token, deep, ◌▸◌}
-use Rattle.ar_grammar.specs.Expressions.{Node, IsExpr, IsMinus, IsProduct, IsTerm, IsCase}
+use Rattle.ar_grammar.specs.Expressions.{Node, ReadsExpr, ReadsMinus, ReadsProduct, ReadsTerm, ReadsCase}
 use Rattle.ar_grammar.specs.Chains.{separator_of, operand_form, ends_chain}
-use Rattle.ar_grammar.specs.Texts.{expr_text}
+use Rattle.ar_grammar.specs.Texts.{expr_tokens}
 use Rattle.ar_grammar.specs.Results.{ends_sum, ends_list, ends_cases}
 use Rattle.ar_grammar.proofs.Finding.{Gathers}
 use Rattle.ar_grammar.proofs.cursor.Parser.+expression.Given as goal
-use Rattle.ar_grammar.specs.Parts.{operand_text, term_text, case_text}
+use Rattle.ar_grammar.specs.Parts.{operand_tokens, term_tokens, case_tokens}
 
 -- how far a chain stands above its operands
 abbrev rank_of : Chain → ℕ
@@ -69,7 +69,7 @@ decreases-compare l = 8 * l.left + 6
 abbrev pub invariant-more_operands-loop-chain : goal.invariant-more_operands-loop-chain
 invariant-more_operands-loop-chain l =
     Gathers (λ e. token (separator_of l.chain) ▸ Node (operand_form l.chain l.left) e)
-    (λ n. token (separator_of l.chain) ▸ operand_text l.chain n) (ends_chain l.chain)
+    (λ n. token (separator_of l.chain) ▸ operand_tokens l.chain n) (ends_chain l.chain)
     l.fn.operands.items l.operands.items l.fn.self.rest.now l.self.rest.now
 
 abbrev pub decreases-more_operands-loop-chain : goal.decreases-more_operands-loop-chain
@@ -77,7 +77,8 @@ decreases-more_operands-loop-chain l = length l.self.rest.now
 
 abbrev pub invariant-more_terms-loop-plus : goal.invariant-more_terms-loop-plus
 invariant-more_terms-loop-plus l =
-    Gathers (IsTerm (IsProduct (IsMinus l.left))) term_text ends_sum l.fn.terms.items l.terms.items l.fn.self.rest.now
+    Gathers (ReadsTerm (ReadsProduct (ReadsMinus l.left))) term_tokens ends_sum l.fn.terms.items l.terms.items
+    l.fn.self.rest.now
     l.self.rest.now
 
 abbrev pub decreases-more_terms-loop-plus : goal.decreases-more_terms-loop-plus
@@ -85,7 +86,8 @@ decreases-more_terms-loop-plus l = length l.self.rest.now
 
 abbrev pub invariant-more_arguments-loop-self : goal.invariant-more_arguments-loop-self
 invariant-more_arguments-loop-self l =
-    Gathers (λ e. token (Sign COMMA) ▸ Node (IsExpr l.left) e) (λ n. token (Sign COMMA) ▸ expr_text deep n) ends_list
+    Gathers (λ e. token (Sign COMMA) ▸ Node (ReadsExpr l.left) e) (λ n. token (Sign COMMA) ▸ expr_tokens deep n)
+    ends_list
     l.fn.operands.items l.operands.items l.fn.self.rest.now l.self.rest.now
 
 abbrev pub decreases-more_arguments-loop-self : goal.decreases-more_arguments-loop-self
@@ -93,7 +95,7 @@ decreases-more_arguments-loop-self l = length l.self.rest.now
 
 abbrev pub invariant-cases-loop-self : goal.invariant-cases-loop-self
 invariant-cases-loop-self l =
-    Gathers (IsCase (IsExpr l.left)) case_text ends_cases l.initial.cases.items l.cases.items l.fn.self.rest.now
+    Gathers (ReadsCase (ReadsExpr l.left)) case_tokens ends_cases l.initial.cases.items l.cases.items l.fn.self.rest.now
     l.self.rest.now
 
 abbrev pub decreases-cases-loop-self : goal.decreases-cases-loop-self

@@ -4,8 +4,8 @@ use Rattle.ar_lexer.specs.declared.signs.TheConstants.{OPEN_BRACE, CLOSE_BRACE}
 use Rattle.ar_lexer.specs.declared.words.TheConstants.{ELSE, IF, THEN}
 use Rattle.ar_syntax.specs.declared.instructions.Instr.{Instr}
 use Rattle.ar_grammar.specs.Words.{token, ◌▸◌, between, each}
-use Rattle.ar_grammar.specs.Expressions.{Node, IsExpr}
-use Rattle.ar_grammar.specs.Instructions.{IsInstr, IsElse, IsSimple, IsGroup, IsConditional}
+use Rattle.ar_grammar.specs.Expressions.{Node, ReadsExpr}
+use Rattle.ar_grammar.specs.Instructions.{ReadsInstr, ReadsElse, ReadsSimple, ReadsGroup, ReadsConditional}
 use Rattle.ar_grammar.specs.Results.{begins_instr, is_word}
 use Rattle.ar_grammar.proofs.Finding.{apart}
 use Rattle.ar_grammar.proofs.ExpressionForms.{then_map}
@@ -26,7 +26,7 @@ instr-returns-then-left-eq0-clause-only t c =
 
 pub instr-returns-then-is_at-clause-found : goal.instr-returns-then-is_at-clause-found
 instr-returns-then-is_at-clause-found t c =
-    takes_map (IsConditional (c.args.left - 1)) (IsInstr c.args.left) _ _ _ c.conditional.ensures.found
+    takes_map (ReadsConditional (c.args.left - 1)) (ReadsInstr c.args.left) _ _ _ c.conditional.ensures.found
     (λ i next ts h. conditional_in c.args.left i next ts c.if-left-eq0.false h)
 
 pub instr-returns-then-is_at-clause-only : goal.instr-returns-then-is_at-clause-only
@@ -36,7 +36,7 @@ instr-returns-then-is_at-clause-only t c =
 
 pub instr-returns-then-is_at-2-clause-found : goal.instr-returns-then-is_at-2-clause-found
 instr-returns-then-is_at-2-clause-found t c =
-    takes_map (IsGroup (c.args.left - 1)) (IsInstr c.args.left) _ _ _ c.group.ensures.found
+    takes_map (ReadsGroup (c.args.left - 1)) (ReadsInstr c.args.left) _ _ _ c.group.ensures.found
     (λ i next ts h. group_in c.args.left i next ts c.if-left-eq0.false h)
 
 pub instr-returns-then-is_at-2-clause-only : goal.instr-returns-then-is_at-2-clause-only
@@ -45,7 +45,7 @@ instr-returns-then-is_at-2-clause-only t c =
     (λ n next ts h s k. (instr_group n next ts h (k ∙ c.if-is_at-2.ensures.yes), s))
 
 pub instr-returns-clause-found : goal.instr-returns-clause-found
-instr-returns-clause-found t c = takes_map (IsSimple (c.args.left - 1)) (IsInstr c.args.left) _ _ _
+instr-returns-clause-found t c = takes_map (ReadsSimple (c.args.left - 1)) (ReadsInstr c.args.left) _ _ _
     c.simple.ensures.found (λ i next ts h. simple_in c.args.left i next ts c.if-left-eq0.false h)
 
 pub instr-returns-clause-only : goal.instr-returns-clause-only
@@ -85,7 +85,8 @@ conditional-returns-clause-found t c =
       no = c.in_ok-no.no;
       is = refl;
       reads = subst (λ (x : Instr). (between (Reserved IF) (Reserved THEN)
-          (Node (IsExpr c.args.left) c.in_ok-test.test) ▸ IsInstr c.args.left x ▸ IsElse (IsInstr c.args.left)
+          (Node (ReadsExpr c.args.left) c.in_ok-test.test) ▸ ReadsInstr c.args.left x
+          ▸ ReadsElse (ReadsInstr c.args.left)
           c.in_ok-no.no) next ts) (sym c.in_ok-yes.ensures.ok) h;
     })
 
@@ -107,7 +108,7 @@ other_branch-returns-in_err-boxed-clause-only t c = let f = finds_then (finds_to
 pub other_branch-returns-then-eat-clause-found : goal.other_branch-returns-then-eat-clause-found
 other_branch-returns-then-eat-clause-found t c =
     spans_map (spans_then (spans_token c.if-eat.ensures.taken) c.in_ok-inner.ensures.found)
-    (λ next ts h. subst (λ (x : Instr). (token (Reserved ELSE) ▸ IsInstr c.args.left x) next ts)
+    (λ next ts h. subst (λ (x : Instr). (token (Reserved ELSE) ▸ ReadsInstr c.args.left x) next ts)
     (sym c.in_ok-boxed.ensures.ok) h)
 
 pub other_branch-returns-then-eat-clause-only : goal.other_branch-returns-then-eat-clause-only
@@ -145,8 +146,8 @@ group-returns-clause-found t c = let m = c.in_ok-more_instrs.ensures.found in
     (λ next ts h. record {
       instrs = c.more_instrs.new.instrs;
       is = refl;
-      reads = subst (λ (xs : List Instr). between (Sign OPEN_BRACE) (Sign CLOSE_BRACE) (each (IsInstr c.args.left) xs)
-          next ts) (sym (pushed_all m.1 c.new-instrs.ensures.items)) h;
+      reads = subst (λ (xs : List Instr). between (Sign OPEN_BRACE) (Sign CLOSE_BRACE) (each (ReadsInstr c.args.left)
+          xs) next ts) (sym (pushed_all m.1 c.new-instrs.ensures.items)) h;
     })
 
 pub group-returns-clause-only : goal.group-returns-clause-only

@@ -1,7 +1,7 @@
 use Rattle.std.proofs.Common.{length, ◌+◌, ◌*◌}
 use Rattle.ar_grammar.specs.Words.{deep}
-use Rattle.ar_grammar.specs.Texts.{instr_text}
-use Rattle.ar_grammar.specs.Instructions.{IsInstr}
+use Rattle.ar_grammar.specs.Texts.{instr_tokens}
+use Rattle.ar_grammar.specs.Instructions.{ReadsInstr}
 use Rattle.ar_grammar.specs.Results.{ends_group}
 use Rattle.ar_grammar.proofs.Finding.{Gathers}
 use Rattle.ar_grammar.proofs.cursor.Parser.+instruction.Given as goal
@@ -23,7 +23,7 @@ decreases-group l = 4 * l.left + 2
 
 abbrev pub invariant-more_instrs-loop-self : goal.invariant-more_instrs-loop-self
 invariant-more_instrs-loop-self l =
-    Gathers (IsInstr l.left) (instr_text deep) ends_group l.fn.instrs.items l.instrs.items l.fn.self.rest.now
+    Gathers (ReadsInstr l.left) (instr_tokens deep) ends_group l.fn.instrs.items l.instrs.items l.fn.self.rest.now
     l.self.rest.now
 
 abbrev pub decreases-more_instrs-loop-self : goal.decreases-more_instrs-loop-self

@@ -10,7 +10,7 @@ use Rattle.ar_lexer.specs.declared.signs.TheConstants.{OPEN_PARENTHESIS, CLOSE_P
 use Rattle.ar_grammar.specs.Results.{is_sign}
 use Rattle.ar_grammar.proofs.Standing.{halts_err, halts_over, refuses_fails, refuses_then, refuses_map, refuses_inside, refuses_turn, refuses_deep, passes, passes_expected, begins_token}
 use Rattle.ar_grammar.proofs.UnreadParts.{turns_unread, some_unread_end, some_bracketed, bracketed_at}
-use Rattle.ar_grammar.specs.Parts.{unread_text}
+use Rattle.ar_grammar.specs.Parts.{unread_tokens}
 
 pub unread-returns-in_err-unread_piece-clause-only : goal.unread-returns-in_err-unread_piece-clause-only
 unread-returns-in_err-unread_piece-clause-only t c =
@@ -101,7 +101,7 @@ pub unread_group-returns-in_err-expect-clause-stuck : goal.unread_group-returns-
 unread_group-returns-in_err-expect-clause-stuck t c =
     halts_err _ _ c.from_residual.ensures.1
     (refuses_inside c.if-left-eq0.false
-    (refuses_fails (c.in_err-expect.ensures.stuck _) (λ m. some_unread_end {A = unread_text m})) (λ m next ts h. h))
+    (refuses_fails (c.in_err-expect.ensures.stuck _) (λ m. some_unread_end {A = unread_tokens m})) (λ m next ts h. h))
 
 pub unread_group-returns-in_err-unread-clause-stuck : goal.unread_group-returns-in_err-unread-clause-stuck
 unread_group-returns-in_err-unread-clause-stuck t c =

@@ -8,7 +8,7 @@ use Rattle.std.proofs.Common.{inr, ap}
 use Rattle.ar_lexer.specs.declared.token.TokenKind.TheVariants.{Sign}
 use Rattle.ar_lexer.specs.declared.signs.TheConstants.{OPEN_PARENTHESIS, CLOSE_PARENTHESIS}
 use Rattle.ar_grammar.specs.Results.{is_sign}
-use Rattle.ar_grammar.specs.Parts.{unread_text}
+use Rattle.ar_grammar.specs.Parts.{unread_tokens}
 
 pub returns-then-not-is_at-clause-only : goal.returns-then-not-is_at-clause-only
 returns-then-not-is_at-clause-only c =
@@ -61,7 +61,8 @@ pub returns-in_err-expect-clause-stuck : goal.returns-in_err-expect-clause-stuck
 returns-in_err-expect-clause-stuck c =
     halts_err _ _ c.from_residual.ensures.1
     (refuses_inside c.if-left-eq0.false
-    (refuses_fails (c.in_err-expect.ensures.stuck _) (λ m. some_unread_end {A = unread_text m})) (λ m next ts h. inr h))
+    (refuses_fails (c.in_err-expect.ensures.stuck _) (λ m. some_unread_end {A = unread_tokens m}))
+    (λ m next ts h. inr h))
 
 pub returns-in_err-unread-clause-stuck : goal.returns-in_err-unread-clause-stuck
 returns-in_err-unread-clause-stuck c =

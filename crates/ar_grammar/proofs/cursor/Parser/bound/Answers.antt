@@ -1,5 +1,5 @@
 use Rattle.std.proofs.Common.{refl, sym, ap, ◌∙◌}
-use Rattle.ar_grammar.specs.Items.{IsWhole, IsBound, whole, negated}
+use Rattle.ar_grammar.specs.Items.{ReadsWhole, ReadsBound, whole, negated}
 use Rattle.ar_grammar.specs.Results.{kind_at}
 use Rattle.ar_grammar.proofs.Finding.{finds_then, finds_given, finds_err, finds_ok, finds_token, finds_from, spans_then, spans_token, spans_map, takes_map, takes_from, eats_kind, follows_any}
 use Rattle.ar_grammar.proofs.ItemParts.{bound_minus, bound_whole}
@@ -26,8 +26,8 @@ returns-then-eat-clause-only c = λ left. finds_given
     (λ n next ts h s k. (bound_minus next ts h (k ∙ eats_kind c.if-eat.ensures.taken), refl))
 
 pub returns-clause-found : goal.returns-clause-found
-returns-clause-found c = takes_from IsBound _ _ _ _
-    (takes_map IsWhole IsBound _ _ _ c.whole-2.ensures.found (λ z next ts h. whole h)) (sym c.if-eat.ensures.left)
+returns-clause-found c = takes_from ReadsBound _ _ _ _
+    (takes_map ReadsWhole ReadsBound _ _ _ c.whole-2.ensures.found (λ z next ts h. whole h)) (sym c.if-eat.ensures.left)
 
 pub returns-clause-only : goal.returns-clause-only
 returns-clause-only c = λ left. finds_from

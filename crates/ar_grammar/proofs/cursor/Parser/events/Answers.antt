@@ -1,7 +1,7 @@
 use Rattle.std.proofs.Common.{◌∷◌, refl}
 use Rattle.ar_lexer.specs.declared.token.TokenKind.TheVariants.{Sign}
 use Rattle.ar_lexer.specs.declared.signs.TheConstants.{COMMA, SEMICOLON}
-use Rattle.ar_grammar.specs.Members.{IsEvent}
+use Rattle.ar_grammar.specs.Members.{ReadsEvent}
 use Rattle.ar_grammar.specs.Results.{ends_attribute, ends_semicolon}
 use Rattle.ar_grammar.proofs.Finding.{finds_then, finds_fails, finds_given, finds_err, finds_ok, finds_memory, spans_then, spans_expected, follows_token, follows_any}
 use Rattle.ar_grammar.proofs.MemberParts.{separated_made, pushed_both, separated_follow, semicolon_attribute, listed_parts}
@@ -9,7 +9,7 @@ use Rattle.ar_grammar.proofs.cursor.Parser.events.Goals as goal
 use Rattle.ar_grammar.proofs.Standing.{halts_err, refuses_fails, refuses_then, refuses_map, passes, passes_expected, begins_then, begins_token, begins_no_more, turns_each, turns_then, turns_token}
 use Rattle.ar_grammar.proofs.ExpressionForms.{then_map, then_unassoc}
 use Rattle.ar_grammar.proofs.MemberParts.{turns_event, begins_list_end}
-use Rattle.ar_grammar.specs.Parts.{event_text}
+use Rattle.ar_grammar.specs.Parts.{event_tokens}
 use Rattle.ar_lexer.specs.declared.token.TokenKind.TheVariants.{Name}
 use Rattle.ar_grammar.proofs.Standing.{begins_maybe}
 
@@ -22,7 +22,7 @@ pub returns-in_err-first-clause-only : goal.returns-in_err-first-clause-only
 returns-in_err-first-clause-only c =
     finds_given (finds_then (c.in_ok-expect.ensures.only _)
     (finds_fails c.in_err-first.ensures.only c.from_residual-in_err-first.ensures.1
-    (separated_follow (Sign COMMA) (Sign SEMICOLON) event_text ends_attribute ends_semicolon refl semicolon_attribute
+    (separated_follow (Sign COMMA) (Sign SEMICOLON) event_tokens ends_attribute ends_semicolon refl semicolon_attribute
     refl)) follows_any) (λ n next ts h s k. (listed_parts h, s))
 
 pub returns-in_err-push-clause-only : goal.returns-in_err-push-clause-only
@@ -33,7 +33,7 @@ returns-in_err-more_events-clause-only c =
     finds_given (finds_then (c.in_ok-expect.ensures.only _)
     (finds_then c.in_ok-first.ensures.only
     (finds_fails c.in_err-more_events.ensures.only c.from_residual-in_err-more_events.ensures.1 (follows_token refl))
-    (separated_follow (Sign COMMA) (Sign SEMICOLON) event_text ends_attribute ends_semicolon refl semicolon_attribute
+    (separated_follow (Sign COMMA) (Sign SEMICOLON) event_tokens ends_attribute ends_semicolon refl semicolon_attribute
     refl)) follows_any) (λ n next ts h s k. (listed_parts h, s))
 
 pub returns-in_err-expect-2-clause-only : goal.returns-in_err-expect-2-clause-only
@@ -42,18 +42,18 @@ returns-in_err-expect-2-clause-only c =
     (finds_then c.in_ok-first.ensures.only
     (finds_then c.in_ok-more_events.ensures.only
     (finds_err (c.in_err-expect-2.ensures.only _) c.from_residual-in_err-expect-2.ensures.1) (follows_token refl))
-    (separated_follow (Sign COMMA) (Sign SEMICOLON) event_text ends_attribute ends_semicolon refl semicolon_attribute
+    (separated_follow (Sign COMMA) (Sign SEMICOLON) event_tokens ends_attribute ends_semicolon refl semicolon_attribute
     refl)) follows_any) (λ n next ts h s k. (listed_parts h, s))
 
 pub returns-clause-found : goal.returns-clause-found
-returns-clause-found c = let m = c.in_ok-more_events.ensures.found in (c.in_ok-first.first ∷ m.0, pushed_both c.args.members.now.items m.0 c.in_ok-first.first c.in_ok-push.ensures.items m.1, spans_then (spans_expected c.in_ok-expect.ensures.found) (spans_then (separated_made (Sign COMMA) (IsEvent c.args.left) c.in_ok-first.first m.0 (c.in_ok-first.first ∷ m.0) refl c.in_ok-first.ensures.found m.2) (spans_expected c.in_ok-expect-2.ensures.found)))
+returns-clause-found c = let m = c.in_ok-more_events.ensures.found in (c.in_ok-first.first ∷ m.0, pushed_both c.args.members.now.items m.0 c.in_ok-first.first c.in_ok-push.ensures.items m.1, spans_then (spans_expected c.in_ok-expect.ensures.found) (spans_then (separated_made (Sign COMMA) (ReadsEvent c.args.left) c.in_ok-first.first m.0 (c.in_ok-first.first ∷ m.0) refl c.in_ok-first.ensures.found m.2) (spans_expected c.in_ok-expect-2.ensures.found)))
 
 pub returns-clause-only : goal.returns-clause-only
 returns-clause-only c = finds_given
     (finds_then (c.in_ok-expect.ensures.only _)
     (finds_then c.in_ok-first.ensures.only
     (finds_then c.in_ok-more_events.ensures.only (finds_ok _ (c.in_ok-expect-2.ensures.only _)) (follows_token refl))
-    (separated_follow (Sign COMMA) (Sign SEMICOLON) event_text ends_attribute ends_semicolon refl semicolon_attribute
+    (separated_follow (Sign COMMA) (Sign SEMICOLON) event_tokens ends_attribute ends_semicolon refl semicolon_attribute
     refl)) follows_any) (λ n next ts h s k. (listed_parts h, s))
 
 pub returns-in_err-expect-clause-stuck : goal.returns-in_err-expect-clause-stuck

@@ -1,7 +1,7 @@
 use Rattle.std.proofs.Common.{◌∷◌, refl}
 use Rattle.ar_lexer.specs.declared.token.TokenKind.TheVariants.{Sign}
 use Rattle.ar_lexer.specs.declared.signs.TheConstants.{COMMA, SEMICOLON}
-use Rattle.ar_grammar.specs.Members.{IsHidden}
+use Rattle.ar_grammar.specs.Members.{ReadsHidden}
 use Rattle.ar_grammar.specs.Results.{ends_path, ends_semicolon}
 use Rattle.ar_grammar.proofs.Finding.{finds_then, finds_fails, finds_given, finds_err, finds_ok, finds_memory, spans_then, spans_expected, follows_token, follows_any}
 use Rattle.ar_grammar.proofs.MemberParts.{separated_made, pushed_both, separated_follow, semicolon_path, listed_parts}
@@ -9,7 +9,7 @@ use Rattle.ar_grammar.proofs.cursor.Parser.hides.Goals as goal
 use Rattle.ar_grammar.proofs.Standing.{halts_err, halts_memory, refuses_fails, refuses_then, refuses_map, passes, passes_expected, begins_then, begins_token, begins_no_more, turns_each, turns_then, turns_token}
 use Rattle.ar_grammar.proofs.ExpressionForms.{then_map, then_unassoc}
 use Rattle.ar_grammar.proofs.MemberParts.{turns_hidden, begins_list_end}
-use Rattle.ar_grammar.specs.Texts.{path_text}
+use Rattle.ar_grammar.specs.Texts.{path_tokens}
 use Rattle.ar_grammar.proofs.InstrTexts.{some_path}
 
 pub returns-in_err-expect-clause-only : goal.returns-in_err-expect-clause-only
@@ -21,7 +21,8 @@ pub returns-in_err-first-clause-only : goal.returns-in_err-first-clause-only
 returns-in_err-first-clause-only c =
     λ left. finds_given (finds_then (c.in_ok-expect.ensures.only left)
     (finds_fails (c.in_err-first.ensures.only left) c.from_residual-in_err-first.ensures.1
-    (separated_follow (Sign COMMA) (Sign SEMICOLON) (λ n. path_text) ends_path ends_semicolon refl semicolon_path refl))
+    (separated_follow (Sign COMMA) (Sign SEMICOLON) (λ n. path_tokens) ends_path ends_semicolon refl semicolon_path
+    refl))
     follows_any) (λ n next ts h s k. (listed_parts h, s))
 
 pub returns-in_err-push-clause-only : goal.returns-in_err-push-clause-only
@@ -32,7 +33,8 @@ returns-in_err-more_hidden-clause-only c =
     λ left. finds_given (finds_then (c.in_ok-expect.ensures.only left)
     (finds_then (c.in_ok-first.ensures.only left)
     (finds_fails (c.in_err-more_hidden.ensures.only left) c.from_residual-in_err-more_hidden.ensures.1
-    (follows_token refl)) (separated_follow (Sign COMMA) (Sign SEMICOLON) (λ n. path_text) ends_path ends_semicolon refl
+    (follows_token refl))
+    (separated_follow (Sign COMMA) (Sign SEMICOLON) (λ n. path_tokens) ends_path ends_semicolon refl
     semicolon_path refl)) follows_any) (λ n next ts h s k. (listed_parts h, s))
 
 pub returns-in_err-expect-2-clause-only : goal.returns-in_err-expect-2-clause-only
@@ -41,18 +43,20 @@ returns-in_err-expect-2-clause-only c =
     (finds_then (c.in_ok-first.ensures.only left)
     (finds_then (c.in_ok-more_hidden.ensures.only left)
     (finds_err (c.in_err-expect-2.ensures.only _) c.from_residual-in_err-expect-2.ensures.1) (follows_token refl))
-    (separated_follow (Sign COMMA) (Sign SEMICOLON) (λ n. path_text) ends_path ends_semicolon refl semicolon_path refl))
+    (separated_follow (Sign COMMA) (Sign SEMICOLON) (λ n. path_tokens) ends_path ends_semicolon refl semicolon_path
+    refl))
     follows_any) (λ n next ts h s k. (listed_parts h, s))
 
 pub returns-clause-found : goal.returns-clause-found
-returns-clause-found c = let m = c.in_ok-more_hidden.ensures.found in (c.in_ok-first.first ∷ m.0, pushed_both c.args.members.now.items m.0 c.in_ok-first.first c.in_ok-push.ensures.items m.1, spans_then (spans_expected c.in_ok-expect.ensures.found) (spans_then (separated_made (Sign COMMA) IsHidden c.in_ok-first.first m.0 (c.in_ok-first.first ∷ m.0) refl c.in_ok-first.ensures.found m.2) (spans_expected c.in_ok-expect-2.ensures.found)))
+returns-clause-found c = let m = c.in_ok-more_hidden.ensures.found in (c.in_ok-first.first ∷ m.0, pushed_both c.args.members.now.items m.0 c.in_ok-first.first c.in_ok-push.ensures.items m.1, spans_then (spans_expected c.in_ok-expect.ensures.found) (spans_then (separated_made (Sign COMMA) ReadsHidden c.in_ok-first.first m.0 (c.in_ok-first.first ∷ m.0) refl c.in_ok-first.ensures.found m.2) (spans_expected c.in_ok-expect-2.ensures.found)))
 
 pub returns-clause-only : goal.returns-clause-only
 returns-clause-only c = λ left. finds_given
     (finds_then (c.in_ok-expect.ensures.only left)
     (finds_then (c.in_ok-first.ensures.only left)
     (finds_then (c.in_ok-more_hidden.ensures.only left) (finds_ok _ (c.in_ok-expect-2.ensures.only _))
-    (follows_token refl)) (separated_follow (Sign COMMA) (Sign SEMICOLON) (λ n. path_text) ends_path ends_semicolon refl
+    (follows_token refl))
+    (separated_follow (Sign COMMA) (Sign SEMICOLON) (λ n. path_tokens) ends_path ends_semicolon refl
     semicolon_path refl)) follows_any) (λ n next ts h s k. (listed_parts h, s))
 
 pub returns-in_err-expect-clause-stuck : goal.returns-in_err-expect-clause-stuck

@@ -1,5 +1,5 @@
 use Rattle.std.proofs.Common.{sym}
-use Rattle.ar_grammar.specs.Items.{AreItems}
+use Rattle.ar_grammar.specs.Items.{ReadsItems}
 use Rattle.ar_grammar.proofs.ItemParts.{model_fails, model_refuses, model_over, model_behind, model_found, empty_list, some_list}
 use Rattle.ar_grammar.proofs.cursor.Parser.model.Goals as goal
 
@@ -14,7 +14,7 @@ returns-in_err-items-clause-stuck c =
 
 pub returns-then-is_empty-clause-found : goal.returns-then-is_empty-clause-found
 returns-then-is_empty-clause-found c =
-    model_found (AreItems c.args.left c.in_ok-items.items.items) c.in_ok-items.ensures.found
+    model_found (ReadsItems c.args.left c.in_ok-items.items.items) c.in_ok-items.ensures.found
     (empty_list _ (sym c.if-is_empty.ensures))
 
 pub returns-clause-only : goal.returns-clause-only

@@ -6,17 +6,17 @@ use Rattle.ar_grammar.proofs.Finding.{finds_then, finds_memory, finds_token, fin
 use Rattle.ar_grammar.proofs.MemberParts.{separated_more, semicolon_attribute}
 use Rattle.ar_grammar.proofs.cursor.Parser.more_events.Goals as goal
 use Rattle.ar_grammar.proofs.Standing.{halts_err, refuses_turn, refuses_then, passes, passes_token, turns_each, turns_then, turns_token}
-use Rattle.ar_grammar.specs.Parts.{event_text}
+use Rattle.ar_grammar.specs.Parts.{event_tokens}
 use Rattle.ar_grammar.proofs.MemberParts.{turns_event}
 
 pub returns-in_err-event-clause-only : goal.returns-in_err-event-clause-only
-returns-in_err-event-clause-only c = let e = c.loop-self-test.ensures.taken in loops_fail c.loop-self.invariant.loops (ap ends_semicolon (eats_kind e)) (finds_then (finds_token e) c.in_err-event.ensures.only follows_any) c.from_residual.ensures.1 (separated_more (Sign COMMA) event_text ends_attribute ends_semicolon refl semicolon_attribute)
+returns-in_err-event-clause-only c = let e = c.loop-self-test.ensures.taken in loops_fail c.loop-self.invariant.loops (ap ends_semicolon (eats_kind e)) (finds_then (finds_token e) c.in_err-event.ensures.only follows_any) c.from_residual.ensures.1 (separated_more (Sign COMMA) event_tokens ends_attribute ends_semicolon refl semicolon_attribute)
 
 pub loop-self-preserved : goal.loop-self-preserved
-loop-self-preserved c = let e = c.loop-self-test.ensures.taken in gathers_push c.loop-self.invariant (ap ends_semicolon (eats_kind e)) (spans_then (spans_token e) c.in_ok-event.ensures.found) (finds_then (finds_token e) c.in_ok-event.ensures.only follows_any) (separated_more (Sign COMMA) event_text ends_attribute ends_semicolon refl semicolon_attribute) c.in_ok-push.ensures.items
+loop-self-preserved c = let e = c.loop-self-test.ensures.taken in gathers_push c.loop-self.invariant (ap ends_semicolon (eats_kind e)) (spans_then (spans_token e) c.in_ok-event.ensures.found) (finds_then (finds_token e) c.in_ok-event.ensures.only follows_any) (separated_more (Sign COMMA) event_tokens ends_attribute ends_semicolon refl semicolon_attribute) c.in_ok-push.ensures.items
 
 pub returns-in_err-push-clause-only : goal.returns-in_err-push-clause-only
-returns-in_err-push-clause-only c = let e = c.loop-self-test.ensures.taken in let l = loops_next c.loop-self.invariant.loops (ap ends_semicolon (eats_kind e)) (finds_then (finds_token e) c.in_ok-event.ensures.only follows_any) (separated_more (Sign COMMA) event_text ends_attribute ends_semicolon refl semicolon_attribute) in finds_memory l.front l.passed c.from_residual-in_err-push.ensures.1
+returns-in_err-push-clause-only c = let e = c.loop-self-test.ensures.taken in let l = loops_next c.loop-self.invariant.loops (ap ends_semicolon (eats_kind e)) (finds_then (finds_token e) c.in_ok-event.ensures.only follows_any) (separated_more (Sign COMMA) event_tokens ends_attribute ends_semicolon refl semicolon_attribute) in finds_memory l.front l.passed c.from_residual-in_err-push.ensures.1
 
 pub returns-clause-only : goal.returns-clause-only
 returns-clause-only c = let a = c.loop-self-test.ensures in finds_at (loops_stop c.loop-self.invariant.loops (λ n next ts h k. a.other (sym k ∙ then_kind h))) a.left

@@ -1,6 +1,6 @@
 use Rattle.std.proofs.Common.{◌++◌, ◌∷◌, [], sym, ap, ◌∙◌, append_assoc}
 use Rattle.ar_grammar.specs.Words.{token, ◌▸◌}
-use Rattle.ar_grammar.specs.Paths.{IsPlacedName}
+use Rattle.ar_grammar.specs.Paths.{ReadsPlacedName}
 use Rattle.ar_grammar.specs.Results.{ends_names}
 use Rattle.ar_lexer.specs.declared.token.TokenKind.TheVariants.{Sign}
 use Rattle.ar_lexer.specs.declared.signs.TheConstants.{COMMA}
@@ -21,7 +21,7 @@ loop-self-preserved c =
     let i = c.loop-self.invariant in (
       i.0 ++ c.in_ok-name.name ∷ [],
       c.in_ok-push.ensures.items ∙ ap (λ s. s ++ c.in_ok-name.name ∷ []) i.1 ∙ append_assoc _ i.0 _,
-      spans_push (λ x. token (Sign COMMA) ▸ IsPlacedName x) i.0 c.in_ok-name.name i.2
+      spans_push (λ x. token (Sign COMMA) ▸ ReadsPlacedName x) i.0 c.in_ok-name.name i.2
           (spans_then (spans_token e) c.in_ok-name.ensures.found),
       loops_next i.3 (ap ends_names (eats_kind e))
           (finds_then (finds_token e) (c.in_ok-name.ensures.only 0) follows_any) follows_any,

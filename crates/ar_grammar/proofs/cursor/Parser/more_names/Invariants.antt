@@ -2,7 +2,7 @@ use Rattle.std.proofs.Common.{◌≡◌, ◌++◌, length}
 use Rattle.ar_lexer.specs.declared.token.TokenKind.TheVariants.{Name, Sign}
 use Rattle.ar_lexer.specs.declared.signs.TheConstants.{COMMA}
 use Rattle.ar_grammar.specs.Words.{token, ◌▸◌, each}
-use Rattle.ar_grammar.specs.Paths.{IsPlacedName}
+use Rattle.ar_grammar.specs.Paths.{ReadsPlacedName}
 use Rattle.ar_grammar.specs.Results.{Spans, ends_names}
 use Rattle.ar_grammar.proofs.Finding.{Loops}
 use Rattle.ar_grammar.proofs.cursor.Parser.more_names.Given as goal
@@ -10,7 +10,7 @@ use Rattle.ar_grammar.proofs.cursor.Parser.more_names.Given as goal
 abbrev pub invariant-loop-self : goal.invariant-loop-self
 invariant-loop-self l =
     (more : _) × (l.names.items ≡ l.fn.names.items ++ more)
-    × Spans (each (λ x. token (Sign COMMA) ▸ IsPlacedName x) more) l.fn.self.rest.now l.self.rest.now
+    × Spans (each (λ x. token (Sign COMMA) ▸ ReadsPlacedName x) more) l.fn.self.rest.now l.self.rest.now
     × Loops (λ _. token (Sign COMMA) ▸ token Name) ends_names l.fn.self.rest.now l.self.rest.now
 
 abbrev pub decreases-loop-self : goal.decreases-loop-self

@@ -6,17 +6,17 @@ use Rattle.ar_grammar.proofs.Finding.{finds_then, finds_memory, finds_token, fin
 use Rattle.ar_grammar.proofs.MemberParts.{separated_more, semicolon_path}
 use Rattle.ar_grammar.proofs.cursor.Parser.more_parts.Goals as goal
 use Rattle.ar_grammar.proofs.Standing.{halts_err, refuses_turn, refuses_then, passes, passes_token, turns_each, turns_then, turns_token, halts_memory}
-use Rattle.ar_grammar.specs.Parts.{part_text}
+use Rattle.ar_grammar.specs.Parts.{part_tokens}
 use Rattle.ar_grammar.proofs.MemberParts.{turns_part}
 
 pub returns-in_err-part-clause-only : goal.returns-in_err-part-clause-only
-returns-in_err-part-clause-only c = λ left. let e = c.loop-self-test.ensures.taken in loops_fail c.loop-self.invariant.loops (ap ends_semicolon (eats_kind e)) (finds_then (finds_token e) (c.in_err-part.ensures.only _) follows_any) c.from_residual.ensures.1 (separated_more (Sign AMPERSAND) (λ n. part_text) ends_path ends_semicolon refl semicolon_path)
+returns-in_err-part-clause-only c = λ left. let e = c.loop-self-test.ensures.taken in loops_fail c.loop-self.invariant.loops (ap ends_semicolon (eats_kind e)) (finds_then (finds_token e) (c.in_err-part.ensures.only _) follows_any) c.from_residual.ensures.1 (separated_more (Sign AMPERSAND) (λ n. part_tokens) ends_path ends_semicolon refl semicolon_path)
 
 pub loop-self-preserved : goal.loop-self-preserved
-loop-self-preserved c = let e = c.loop-self-test.ensures.taken in gathers_push c.loop-self.invariant (ap ends_semicolon (eats_kind e)) (spans_then (spans_token e) c.in_ok-part.ensures.found) (finds_then (finds_token e) (c.in_ok-part.ensures.only 0) follows_any) (separated_more (Sign AMPERSAND) (λ n. part_text) ends_path ends_semicolon refl semicolon_path) c.in_ok-push.ensures.items
+loop-self-preserved c = let e = c.loop-self-test.ensures.taken in gathers_push c.loop-self.invariant (ap ends_semicolon (eats_kind e)) (spans_then (spans_token e) c.in_ok-part.ensures.found) (finds_then (finds_token e) (c.in_ok-part.ensures.only 0) follows_any) (separated_more (Sign AMPERSAND) (λ n. part_tokens) ends_path ends_semicolon refl semicolon_path) c.in_ok-push.ensures.items
 
 pub returns-in_err-push-clause-only : goal.returns-in_err-push-clause-only
-returns-in_err-push-clause-only c = λ left. let e = c.loop-self-test.ensures.taken in let l = loops_next c.loop-self.invariant.loops (ap ends_semicolon (eats_kind e)) (finds_then (finds_token e) (c.in_ok-part.ensures.only 0) follows_any) (separated_more (Sign AMPERSAND) (λ n. part_text) ends_path ends_semicolon refl semicolon_path) in finds_memory l.front l.passed c.from_residual-in_err-push.ensures.1
+returns-in_err-push-clause-only c = λ left. let e = c.loop-self-test.ensures.taken in let l = loops_next c.loop-self.invariant.loops (ap ends_semicolon (eats_kind e)) (finds_then (finds_token e) (c.in_ok-part.ensures.only 0) follows_any) (separated_more (Sign AMPERSAND) (λ n. part_tokens) ends_path ends_semicolon refl semicolon_path) in finds_memory l.front l.passed c.from_residual-in_err-push.ensures.1
 
 pub returns-clause-only : goal.returns-clause-only
 returns-clause-only c = λ left. let a = c.loop-self-test.ensures in finds_at (loops_stop c.loop-self.invariant.loops (λ n next ts h k. a.other (sym k ∙ then_kind h))) a.left

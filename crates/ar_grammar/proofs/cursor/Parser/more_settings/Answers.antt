@@ -2,7 +2,7 @@ use Rattle.std.proofs.Common.{refl, sym, ap, ◌∙◌}
 use Rattle.ar_lexer.specs.declared.token.TokenKind.TheVariants.{Sign}
 use Rattle.ar_lexer.specs.declared.signs.TheConstants.{COMMA}
 use Rattle.ar_grammar.specs.Words.{deep}
-use Rattle.ar_grammar.specs.Texts.{expr_text, setting_text}
+use Rattle.ar_grammar.specs.Texts.{expr_tokens, setting_tokens}
 use Rattle.ar_grammar.specs.Results.{ends_expr, ends_list}
 use Rattle.ar_grammar.proofs.Finding.{finds_then, finds_memory, finds_token, finds_at, loops_stop, loops_fail, loops_next, gathers_push, spans_then, spans_token, eats_kind, then_kind, follows_any}
 use Rattle.ar_grammar.proofs.MemberParts.{separated_more, list_end, turns_setting}
@@ -10,13 +10,13 @@ use Rattle.ar_grammar.proofs.cursor.Parser.more_settings.Goals as goal
 use Rattle.ar_grammar.proofs.Standing.{halts_err, refuses_turn, refuses_then, passes, passes_token, turns_each, turns_then, turns_token}
 
 pub returns-in_err-setting-clause-only : goal.returns-in_err-setting-clause-only
-returns-in_err-setting-clause-only c = let e = c.loop-self-test.ensures.taken in loops_fail c.loop-self.invariant.loops (ap ends_list (eats_kind e)) (finds_then (finds_token e) c.in_err-setting.ensures.only follows_any) c.from_residual.ensures.1 (separated_more (Sign COMMA) (λ n. setting_text (expr_text deep n)) ends_expr ends_list refl list_end)
+returns-in_err-setting-clause-only c = let e = c.loop-self-test.ensures.taken in loops_fail c.loop-self.invariant.loops (ap ends_list (eats_kind e)) (finds_then (finds_token e) c.in_err-setting.ensures.only follows_any) c.from_residual.ensures.1 (separated_more (Sign COMMA) (λ n. setting_tokens (expr_tokens deep n)) ends_expr ends_list refl list_end)
 
 pub loop-self-preserved : goal.loop-self-preserved
-loop-self-preserved c = let e = c.loop-self-test.ensures.taken in gathers_push c.loop-self.invariant (ap ends_list (eats_kind e)) (spans_then (spans_token e) c.in_ok-setting.ensures.found) (finds_then (finds_token e) c.in_ok-setting.ensures.only follows_any) (separated_more (Sign COMMA) (λ n. setting_text (expr_text deep n)) ends_expr ends_list refl list_end) c.in_ok-push.ensures.items
+loop-self-preserved c = let e = c.loop-self-test.ensures.taken in gathers_push c.loop-self.invariant (ap ends_list (eats_kind e)) (spans_then (spans_token e) c.in_ok-setting.ensures.found) (finds_then (finds_token e) c.in_ok-setting.ensures.only follows_any) (separated_more (Sign COMMA) (λ n. setting_tokens (expr_tokens deep n)) ends_expr ends_list refl list_end) c.in_ok-push.ensures.items
 
 pub returns-in_err-push-clause-only : goal.returns-in_err-push-clause-only
-returns-in_err-push-clause-only c = let e = c.loop-self-test.ensures.taken in let l = loops_next c.loop-self.invariant.loops (ap ends_list (eats_kind e)) (finds_then (finds_token e) c.in_ok-setting.ensures.only follows_any) (separated_more (Sign COMMA) (λ n. setting_text (expr_text deep n)) ends_expr ends_list refl list_end) in finds_memory l.front l.passed c.from_residual-in_err-push.ensures.1
+returns-in_err-push-clause-only c = let e = c.loop-self-test.ensures.taken in let l = loops_next c.loop-self.invariant.loops (ap ends_list (eats_kind e)) (finds_then (finds_token e) c.in_ok-setting.ensures.only follows_any) (separated_more (Sign COMMA) (λ n. setting_tokens (expr_tokens deep n)) ends_expr ends_list refl list_end) in finds_memory l.front l.passed c.from_residual-in_err-push.ensures.1
 
 pub returns-clause-only : goal.returns-clause-only
 returns-clause-only c = let a = c.loop-self-test.ensures in finds_at (loops_stop c.loop-self.invariant.loops (λ n next ts h k. a.other (sym k ∙ then_kind h))) a.left

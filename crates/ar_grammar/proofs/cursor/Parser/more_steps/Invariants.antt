@@ -2,7 +2,7 @@ use Rattle.std.proofs.Common.{◌≡◌, ◌++◌, length}
 use Rattle.ar_lexer.specs.declared.token.TokenKind.TheVariants.{Name, Sign}
 use Rattle.ar_lexer.specs.declared.signs.TheConstants.{DOT}
 use Rattle.ar_grammar.specs.Words.{token, ◌▸◌, each}
-use Rattle.ar_grammar.specs.Paths.{IsName}
+use Rattle.ar_grammar.specs.Paths.{ReadsName}
 use Rattle.ar_grammar.specs.Results.{Spans, ends_path}
 use Rattle.ar_grammar.proofs.Finding.{Loops}
 use Rattle.ar_grammar.proofs.cursor.Parser.more_steps.Given as goal
@@ -10,7 +10,7 @@ use Rattle.ar_grammar.proofs.cursor.Parser.more_steps.Given as goal
 abbrev pub invariant-loop-self : goal.invariant-loop-self
 invariant-loop-self l =
     (more : _) × (l.names.items ≡ l.fn.names.items ++ more)
-    × Spans (each (λ x. token (Sign DOT) ▸ IsName x) more) l.fn.self.rest.now l.self.rest.now
+    × Spans (each (λ x. token (Sign DOT) ▸ ReadsName x) more) l.fn.self.rest.now l.self.rest.now
     × Loops (λ _. token (Sign DOT) ▸ token Name) ends_path l.fn.self.rest.now l.self.rest.now
 
 abbrev pub decreases-loop-self : goal.decreases-loop-self

@@ -2,9 +2,9 @@ use Rattle.std.proofs.Common.{List, [], refl, sym, ◌∙◌, subst}
 use Rattle.ar_lexer.specs.declared.token.TokenKind.TheVariants.{Sign}
 use Rattle.ar_lexer.specs.declared.signs.TheConstants.{CLOSE_PARENTHESIS, COMMA}
 use Rattle.ar_grammar.specs.Words.{deep}
-use Rattle.ar_grammar.specs.Texts.{expr_text, setting_text}
+use Rattle.ar_grammar.specs.Texts.{expr_tokens, setting_tokens}
 use Rattle.std.proofs.Common.{inr}
-use Rattle.ar_grammar.specs.Members.{AreSettings}
+use Rattle.ar_grammar.specs.Members.{ReadsSettings}
 use Rattle.ar_grammar.specs.Results.{kind_at, ends_expr, ends_list}
 use Rattle.ar_grammar.proofs.Finding.{finds_then, finds_fails, finds_given, finds_err, finds_ok, finds_memory, finds_nothing, spans_expected, follows_token, follows_any}
 use Rattle.ar_grammar.proofs.PathForms.{pushed_first, pushed_more}
@@ -23,7 +23,7 @@ returns-then-not-is_at-clause-found c =
     record {
       front = [];
       split = refl;
-      form = subst (λ (xs : List _). AreSettings c.args.left xs (kind_at c.args.self.now.rest.now) [])
+      form = subst (λ (xs : List _). ReadsSettings c.args.left xs (kind_at c.args.self.now.rest.now) [])
           (sym c.new-settings.ensures.items) refl;
     }
 
@@ -36,7 +36,8 @@ pub returns-in_err-first-clause-only : goal.returns-in_err-first-clause-only
 returns-in_err-first-clause-only c =
     finds_given (finds_then (c.in_ok-expect.ensures.only _)
     (finds_fails c.in_err-first.ensures.only c.from_residual-in_err-first.ensures.1
-    (separated_follow (Sign COMMA) (Sign CLOSE_PARENTHESIS) (λ n. setting_text (expr_text deep n)) ends_expr ends_list
+    (separated_follow (Sign COMMA) (Sign CLOSE_PARENTHESIS) (λ n. setting_tokens (expr_tokens deep n)) ends_expr
+    ends_list
     refl list_end refl)) follows_any) (λ n next ts h s k.
     (settings_parts n next ts h s (k ∙ c.if-not-is_at.ensures.yes), refl))
 
@@ -48,7 +49,8 @@ returns-in_err-more_settings-clause-only c =
     finds_given (finds_then (c.in_ok-expect.ensures.only _)
     (finds_then c.in_ok-first.ensures.only
     (finds_fails c.in_err-more_settings.ensures.only c.from_residual-in_err-more_settings.ensures.1
-    (follows_token refl)) (separated_follow (Sign COMMA) (Sign CLOSE_PARENTHESIS) (λ n. setting_text (expr_text deep n))
+    (follows_token refl))
+    (separated_follow (Sign COMMA) (Sign CLOSE_PARENTHESIS) (λ n. setting_tokens (expr_tokens deep n))
     ends_expr ends_list refl list_end refl)) follows_any)
     (λ n next ts h s k. (settings_parts n next ts h s (k ∙ c.if-not-is_at.ensures.yes), refl))
 
@@ -58,7 +60,8 @@ returns-in_err-expect-2-clause-only c =
     (finds_then c.in_ok-first.ensures.only
     (finds_then c.in_ok-more_settings.ensures.only
     (finds_err (c.in_err-expect-2.ensures.only _) c.from_residual-in_err-expect-2.ensures.1) (follows_token refl))
-    (separated_follow (Sign COMMA) (Sign CLOSE_PARENTHESIS) (λ n. setting_text (expr_text deep n)) ends_expr ends_list
+    (separated_follow (Sign COMMA) (Sign CLOSE_PARENTHESIS) (λ n. setting_tokens (expr_tokens deep n)) ends_expr
+    ends_list
     refl list_end refl)) follows_any) (λ n next ts h s k.
     (settings_parts n next ts h s (k ∙ c.if-not-is_at.ensures.yes), refl))
 
@@ -70,7 +73,8 @@ returns-clause-only c = finds_given
     (finds_then (c.in_ok-expect.ensures.only _)
     (finds_then c.in_ok-first.ensures.only
     (finds_then c.in_ok-more_settings.ensures.only (finds_ok _ (c.in_ok-expect-2.ensures.only _)) (follows_token refl))
-    (separated_follow (Sign COMMA) (Sign CLOSE_PARENTHESIS) (λ n. setting_text (expr_text deep n)) ends_expr ends_list
+    (separated_follow (Sign COMMA) (Sign CLOSE_PARENTHESIS) (λ n. setting_tokens (expr_tokens deep n)) ends_expr
+    ends_list
     refl list_end refl)) follows_any) (λ n next ts h s k.
     (settings_parts n next ts h s (k ∙ c.if-not-is_at.ensures.yes), refl))
 

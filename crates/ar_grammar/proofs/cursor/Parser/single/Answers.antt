@@ -1,7 +1,7 @@
 use Rattle.std.proofs.Common.{refl, sym, ap, ◌∙◌}
 use Rattle.ar_lexer.specs.declared.token.TokenKind.TheVariants.{Reserved}
 use Rattle.ar_lexer.specs.declared.words.TheConstants.{BOOLEAN}
-use Rattle.ar_grammar.specs.Members.{IsDeclared, IsSingle, extends, clones, embeds, observer}
+use Rattle.ar_grammar.specs.Members.{ReadsDeclared, ReadsSingle, extends, clones, embeds, observer}
 use Rattle.ar_grammar.specs.Results.{kind_at}
 use Rattle.ar_grammar.proofs.Finding.{finds_then, finds_given, finds_err, finds_ok, finds_token, finds_from, spans_then, spans_token, spans_map, takes_from, eats_kind, follows_any}
 use Rattle.ar_grammar.proofs.BodyParts.{takes_at, single_declared, single_extends, single_as_declared, single_of_declared, single_clones, single_embeds, single_observer, single_parameter}
@@ -24,7 +24,7 @@ returns-then-is_at-clause-only c = finds_given (finds_ok _ (c.in_ok-base.ensures
 
 pub returns-then-is_at-2-clause-found : goal.returns-then-is_at-2-clause-found
 returns-then-is_at-2-clause-found c =
-    takes_at (IsDeclared c.args.left) (IsSingle c.args.left) _ _ _ (Reserved BOOLEAN) c.declaration.ensures.found
+    takes_at (ReadsDeclared c.args.left) (ReadsSingle c.args.left) _ _ _ (Reserved BOOLEAN) c.declaration.ensures.found
     c.if-is_at-2.ensures.yes (λ m next ts h k. single_declared c.args.left m next ts h k)
 
 pub returns-then-is_at-2-clause-only : goal.returns-then-is_at-2-clause-only
@@ -75,7 +75,8 @@ returns-then-eat-clause-only c = finds_given
     (λ n next ts h s k. (single_observer n next ts h (k ∙ eats_kind c.if-eat.ensures.taken), refl))
 
 pub returns-clause-found : goal.returns-clause-found
-returns-clause-found c = takes_from (IsSingle c.args.left) _ _ _ _ c.parameter.ensures.found (sym c.if-eat.ensures.left)
+returns-clause-found c = takes_from (ReadsSingle c.args.left) _ _ _ _ c.parameter.ensures.found
+    (sym c.if-eat.ensures.left)
 
 pub returns-clause-only : goal.returns-clause-only
 returns-clause-only c = finds_from (finds_given c.parameter.ensures.only

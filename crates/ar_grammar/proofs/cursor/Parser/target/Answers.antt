@@ -1,6 +1,6 @@
 use Rattle.ar_lexer.specs.declared.token.TokenKind.TheVariants.{Sign}
 use Rattle.ar_lexer.specs.declared.signs.TheConstants.{DOT}
-use Rattle.ar_grammar.specs.Members.{IsWord}
+use Rattle.ar_grammar.specs.Members.{ReadsWord}
 use Rattle.ar_grammar.proofs.Finding.{finds_then, finds_fails, finds_given, finds_err, finds_ok, follows_any}
 use Rattle.ar_grammar.proofs.PathForms.{pushed_first, pushed_more}
 use Rattle.ar_grammar.proofs.MemberParts.{separated_made, turns_word}
@@ -19,7 +19,7 @@ returns-in_err-more_words-clause-only c =
     (λ n next ts h s k. (h, s))
 
 pub returns-clause-found : goal.returns-clause-found
-returns-clause-found c = let m = c.in_ok-more_words.ensures.found in separated_made (Sign DOT) IsWord c.in_ok-first.first m.0 _ (pushed_more (pushed_first c.in_ok-push.ensures.items c.new-target.ensures.items) m.1) c.in_ok-first.ensures.found m.2
+returns-clause-found c = let m = c.in_ok-more_words.ensures.found in separated_made (Sign DOT) ReadsWord c.in_ok-first.first m.0 _ (pushed_more (pushed_first c.in_ok-push.ensures.items c.new-target.ensures.items) m.1) c.in_ok-first.ensures.found m.2
 
 pub returns-clause-only : goal.returns-clause-only
 returns-clause-only c = λ left. finds_given

@@ -2,7 +2,7 @@ use Rattle.std.proofs.Common.{refl, sym, ap, ◌∙◌}
 use Rattle.ar_lexer.specs.declared.token.TokenKind.TheVariants.{Reserved}
 use Rattle.ar_lexer.specs.declared.words.TheConstants.{BOOLEAN, INTEGER}
 use Rattle.ar_grammar.specs.Words.{token}
-use Rattle.ar_grammar.specs.Paths.{IsName}
+use Rattle.ar_grammar.specs.Paths.{ReadsName}
 use Rattle.ar_grammar.specs.Results.{kind_at}
 use Rattle.ar_grammar.proofs.Finding.{finds_given, finds_err, finds_ok, finds_token, finds_from, spans_token, spans_from, eats_kind}
 use Rattle.ar_grammar.proofs.PathForms.{spans_name}
@@ -43,7 +43,7 @@ returns-in_err-name-clause-only c =
     (c.if-eat-2.ensures.left ∙ c.if-eat.ensures.left)
 
 pub returns-clause-found : goal.returns-clause-found
-returns-clause-found c = stand_made (IsName c.in_ok-name.name.name) _ _ c.place-at.ensures
+returns-clause-found c = stand_made (ReadsName c.in_ok-name.name.name) _ _ c.place-at.ensures
     (spans_from (spans_name c.in_ok-name.ensures.found) (sym (c.if-eat-2.ensures.left ∙ c.if-eat.ensures.left)))
     (name_some c.in_ok-name.name.name)
 

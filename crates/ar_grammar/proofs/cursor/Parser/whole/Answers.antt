@@ -1,7 +1,7 @@
 use Rattle.std.proofs.Common.{refl, sym, ◌∙◌, rules}
 use mir.Syntax.{w64}
 use mir.Val.{SFits}
-use Rattle.ar_grammar.specs.Items.{IsWhole}
+use Rattle.ar_grammar.specs.Items.{ReadsWhole}
 use Rattle.ar_grammar.specs.Results.{Spans}
 use Rattle.ar_grammar.specs.declared.lexeme.Refusal.TheVariants.{Syntax}
 use Rattle.ar_grammar.proofs.Finding.{finds_given, finds_ok, finds_token, finds_syntax, finds_at, spans_token, spans_map, token_kind, eats_kind}
@@ -10,7 +10,7 @@ use Rattle.ar_grammar.proofs.ItemParts.{again, no_sign_of, whole_as, some_whole}
 use Rattle.ar_grammar.proofs.cursor.Parser.whole.Goals as goal
 
 pub returns-in-Some-clause-found : goal.returns-in-Some-clause-found
-returns-in-Some-clause-found c = let f : SFits w64 c.in-Some.n = search rules in again (λ z. Spans (IsWhole z) c.args.self.now.rest.now c.eat_whole.new.self.rest.now) c.in-Some.n f (spans_map (spans_token c.in-Some.ensures.taken) (λ next ts h. record { no_sign = no_sign_of c.in-Some.n c.in-Some.ensures.taken c.requires; reads = h }))
+returns-in-Some-clause-found c = let f : SFits w64 c.in-Some.n = search rules in again (λ z. Spans (ReadsWhole z) c.args.self.now.rest.now c.eat_whole.new.self.rest.now) c.in-Some.n f (spans_map (spans_token c.in-Some.ensures.taken) (λ next ts h. record { no_sign = no_sign_of c.in-Some.n c.in-Some.ensures.taken c.requires; reads = h }))
 
 pub returns-in-Some-clause-only : goal.returns-in-Some-clause-only
 returns-in-Some-clause-only c = λ left. finds_given (finds_ok _ (finds_token c.in-Some.ensures.taken))

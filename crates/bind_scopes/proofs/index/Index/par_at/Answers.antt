@@ -2,7 +2,7 @@ use Rattle.std.proofs.Common.{ℕ, Option, sym, subst}
 use Rattle.hierarchy.specs.Units.{numbers}
 use Rattle.hierarchy.specs.Walks.{is_parameter}
 use Rattle.hierarchy.specs.Listing.{parameters}
-use Rattle.hierarchy.specs.Tie.{IsParameter, AnswersThing}
+use Rattle.hierarchy.specs.Tie.{IsParameterNode, AnswersThing}
 use Rattle.hierarchy.specs.Finding.{FindsNode}
 use Rattle.hierarchy.specs.declared.tree.ParNode.{ParNode}
 use Rattle.hierarchy.proofs.Looking.{thing_answer}
@@ -19,6 +19,6 @@ returns c = λ m units u t s.
     let name = c.in_ok-unit.name.n in
     let f = subst (λ (r : Option ℕ). FindsNode (λ (d : ParNode). d.node) c.args.tree.now.parameters.items unit name r)
     (sym c.place_of.ensures) (c.requires.index.parameters unit name) in
-    thing_answer t.table.kept t.are_units is_parameter (λ (d : ParNode). d.node) (IsParameter m units)
+    thing_answer t.table.kept t.are_units is_parameter (λ (d : ParNode). d.node) (IsParameterNode m units)
     (λ t d i. (i.given, i.node)) c.args.tree.now.parameters.items t.parameters_are
     (c.in_ok-unit.ensures m units u t s) c.place_of.result f

@@ -1,7 +1,7 @@
 use Rattle.std.proofs.Common.{List, insert, sym, ap, subst}
 use Rattle.domains.specs.Values.{IsAscending}
 use Rattle.domains.specs.declared.Value.{Value}
-use Rattle.typed_expr.specs.Sets.{GoesAt, Inserts, Refuses}
+use Rattle.typed_expr.specs.Sets.{GoesAt, Inserts, RefusesValue}
 use Rattle.typed_expr.specs.declared.value_set.Stop.TheVariants.{TooMany}
 use Rattle.typed_expr.proofs.Putting.{refuses, inserts, ascending-insert, either_way, on_ok, on_err}
 use Rattle.typed_expr.proofs.value_set.ValueSet.put.Goals as goal
@@ -11,7 +11,7 @@ pub returns-then-is_full-clause-err : goal.returns-then-is_full-clause-err
 returns-then-is_full-clause-err c =
     let at : GoesAt c.self.inside.items.items c.args.v c.in-Some.place =
     subst (λ (xs : List Value). GoesAt xs c.args.v c.in-Some.place) c.as_slice.ensures c.in-Some.ensures in
-    subst (λ (xs : List Value). Refuses c.args.most xs c.args.v TooMany) c.self.view_is
+    subst (λ (xs : List Value). RefusesValue c.args.most xs c.args.v TooMany) c.self.view_is
     (refuses c.args.most c.self.inside.items.items c.args.v c.in-Some.place c.len.result at c.self.invariant
     c.len.ensures.value c.if-is_full.ensures)
 

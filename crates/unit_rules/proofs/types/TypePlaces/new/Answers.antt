@@ -5,7 +5,7 @@ use Rattle.std.specs.Map.{lookup}
 use Rattle.ar_base.specs.Numbers.{NameId}
 use Rattle.class_table.specs.declared.tables.TypeBody.{TypeBody}
 use Rattle.class_table.proofs.Taken.{take_item}
-use Rattle.unit_rules.specs.Typing.{place_in}
+use Rattle.unit_rules.specs.Typing.{type_place_in}
 use Rattle.unit_rules.proofs.types.TypePlaces.new.Goals as goal
 
 pub loop-place-init : goal.loop-place-init
@@ -16,9 +16,10 @@ loop-place-preserved c =
     let l : c.loop-place.place < length c.args.types.now = omega arith in
     let e = take_item c.args.types.now c.loop-place.place c.index-types-place.result l c.index-types-place.is in
     let n = length-take-le c.loop-place.place c.args.types.now (omega arith) in
-    subst (λ (ts : List (NameId × TypeBody)). (x : ℕ) → hash.get nat_eq c.add.new.self.places x ≡ place_in ts x) (sym e)
+    subst (λ (ts : List (NameId × TypeBody)). (x : ℕ) → hash.get nat_eq c.add.new.self.places x ≡ type_place_in ts x)
+    (sym e)
     (c.in_ok-add.ensures _ _ n c.loop-place.invariant)
 
 pub returns : goal.returns
 returns c = let e = take_all c.loop-place.place c.args.types.now (omega arith) in
-    record { each = λ x. c.loop-place.invariant x ∙ ap (λ (ts : List (NameId × TypeBody)). place_in ts x) e }
+    record { each = λ x. c.loop-place.invariant x ∙ ap (λ (ts : List (NameId × TypeBody)). type_place_in ts x) e }

@@ -14,6 +14,7 @@ use Rattle.hierarchy.specs.declared.tree.MemNode.{MemNode}
 use Rattle.hierarchy.specs.declared.tree.Attribute.{Attribute}
 use Rattle.ar_base.proofs.Standing.{one_here}
 use Rattle.class_table.specs.Declaring.{MemberForm}
+use Rattle.class_table.specs.Tables.{site_of}
 use Rattle.class_table.specs.Members.{owned_at}
 use Rattle.hierarchy.specs.Units.{members_at}
 use Rattle.hierarchy.specs.Walks.{is_variable}
@@ -21,6 +22,7 @@ use Rattle.hierarchy.specs.Listing.{form_of}
 use Rattle.hierarchy.specs.Settings.{settings_of}
 use Rattle.hierarchy.proofs.TargetWords.{one_init, one_reset}
 use Rattle.unit_rules.specs.Rules.{BreaksForm, declares}
+use Rattle.unit_rules.specs.Typing.{bounds_variables}
 use Rattle.unit_rules.proofs.Sited.{one_flat}
 use Rattle.instantiate.specs.Nodes.{IsNodeSo}
 use Rattle.instantiate.specs.Values.{AreAttribute, none, some, KeepsDeclarations, declared_type, last_of}
@@ -66,6 +68,16 @@ module _ (m : RootedModel) (units : List UnitPath) (t : Thing) (g : NamedMember)
         };
       }
 
+-- the site of a node is that of what gives its thing
+pub node_site : {m : RootedModel} {units : List UnitPath} {t : Thing} {g : NamedMember} {d : MemNode}
+    → IsNode m units t g d → site_of (d.source.body, d.source.member) ≡ g.site
+node_site {g = g} {d = d} node =
+    ap (λ (n : ℕ). record { body = n; place = d.source.member }) node.source.body
+    ∙ ap (λ (n : ℕ). record { body = g.site.body; place = n }) node.source.member
+
+pub no_some : {A : Type 0} {a : A} → None ≡ Some a → ⊥
+no_some e = cc
+
 -- a setting with this one word
 pub record HasOne (settings : List Setting) (word : TargetWord) : Type 0 where
   pub one : Setting
@@ -101,6 +113,7 @@ pub record IsVariableAt (m : RootedModel) (g : NamedMember) : Type 0 where
   pub kind : g.kind ≡ Variable type settings
   pub type_is : declared_type (owned_at m.declared g.site) ≡ Some type
   pub settings_are : settings_of (owned_at m.declared g.site) ≡ settings
+  pub bounds : bounds_variables m.declared type ≡ true
   pub one : HasOne settings (last_of (is_state settings))
 
 pub variable_at : (m : RootedModel) (units : List UnitPath) (t : Thing) (d : MemNode)
@@ -116,6 +129,7 @@ variable_at m units t d so kept =
       kind = w.declares.kind;
       type_is = w.type_is;
       settings_are = w.settings_are;
+      bounds = w.declares.bounds;
       one = by at w (is_state settings) refl (is_flow settings) refl;
     }
   where

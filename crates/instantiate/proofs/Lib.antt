@@ -1,3 +1,4 @@
+pub mod Depth
 pub mod Domained
 pub mod InForce
 pub mod Joined

@@ -1,5 +1,5 @@
 -- The way up from a unit, and what is set on it.
-use Rattle.std.proofs.Common.{◌≡◌, ℕ, List, [], ◌∷◌, Option, Some, None, refl, sym, ◌∙◌, ap, subst}
+use Rattle.std.proofs.Common.{◌≡◌, ◌+◌, ℕ, length, List, [], ◌∷◌, Option, Some, None, refl, sym, ◌∙◌, ap, subst, arith}
 use Rattle.std.specs.Option.{option_or}
 use Rattle.ar_base.specs.Lists.{Stands, Along}
 use Rattle.ar_base.proofs.Standing.{along_on, stands_one}
@@ -47,27 +47,33 @@ or_or : (a b c : Option s.Attribute) → option_or (option_or a b) c ≡ option_
 or_or None b c = refl
 or_or (Some a) b c = refl
 
--- the way up from the unit u has come to this unit, with these words and this found
-pub record IsOn (m : RootedModel) (units : List UnitPath) (u : UnitPath) (target : List TargetWord) (at : ℕ)
+-- the way up from the unit u has come to this unit, so many levels up, with these words and this found
+pub record IsOn (m : RootedModel) (units : List UnitPath) (u : UnitPath) (target : List TargetWord) (at level : ℕ)
     (words : List TargetWord) (found : Option Attribute) : Type 0 where
   pub unit : UnitPath
+  pub levels : length unit + level ≡ length u
   pub stands : Stands units at unit
   pub so_far : Option s.Attribute
   pub is : AreAttribute units so_far found
   pub rest : outermost m u target ≡ option_or (outermost m unit words) so_far
 
 module _ (m : RootedModel) (units : List UnitPath) (u : UnitPath) (target : List TargetWord) where
-  pub on_start : (at : ℕ) → Stands units at u → IsOn m units u target at target None
-  on_start at t = record { unit = u; stands = t; so_far = None; is = none; rest = sym (or_none (outermost m u target)) }
+  pub on_start : (at : ℕ) → Stands units at u → IsOn m units u target at 0 target None
+  on_start at t = record { unit = u; levels = omega arith; stands = t; so_far = None; is = none; rest = sym (or_none (outermost m u target)) }
 
-  pub on_end : (at : ℕ) (words : List TargetWord) (found : Option Attribute) (h : IsOn m units u target at words found)
+  pub on_end : (at level : ℕ) (words : List TargetWord) (found : Option Attribute)
+      (h : IsOn m units u target at level words found)
       → h.unit ≡ [] → AreAttribute units (outermost m u target) found
-  on_end at words found h e =
+  on_end at level words found h e =
       subst (λ (a : Option s.Attribute). AreAttribute units a found)
       (sym (h.rest ∙ ap (λ (w : UnitPath). option_or (outermost m w words) h.so_far) e)) h.is
 
-  module _ (at : ℕ) (words : List TargetWord) (found : Option Attribute) (h : IsOn m units u target at words found)
+  module _ (at level : ℕ) (words : List TargetWord) (found : Option Attribute)
+      (h : IsOn m units u target at level words found)
       (l : UnitLevel) (above : UnitPath) (split : h.unit ≡ l ∷ above) (owner : ℕ) (t : Stands units owner above) where
+    higher : length above + (level + 1) ≡ length u
+    higher = let k = h.levels in let e = ap length split in omega (arith, k, e)
+
     up : outermost m u target ≡ option_or (outermost m above (Named l.name ∷ words))
         (option_or (set_by m above l.set_at words) h.so_far)
     up = h.rest ∙ (ap (λ (w : UnitPath). option_or (outermost m w words) h.so_far) split
@@ -76,14 +82,15 @@ module _ (m : RootedModel) (units : List UnitPath) (u : UnitPath) (target : List
     -- one level up, where its declaration sets the target, and where not
     pub on_set : (name : ℕ) (b : Attribute) → name ≡ l.name
         → AreAttribute units (set_by m above l.set_at words) (Some b)
-        → IsOn m units u target owner (Named name ∷ words) (Some b)
-    on_set name b e a = subst (λ (n : ℕ). IsOn m units u target owner (Named n ∷ words) (Some b)) (sym e)
+        → IsOn m units u target owner (level + 1) (Named name ∷ words) (Some b)
+    on_set name b e a = subst (λ (n : ℕ). IsOn m units u target owner (level + 1) (Named n ∷ words) (Some b)) (sym e)
         (go (set_by m above l.set_at words) refl a)
       where
         go : (o : Option s.Attribute) → set_by m above l.set_at words ≡ o → AreAttribute units o (Some b)
-            → IsOn m units u target owner (Named l.name ∷ words) (Some b)
+            → IsOn m units u target owner (level + 1) (Named l.name ∷ words) (Some b)
         go o i (some {a = x} k) = record {
           unit = above;
+          levels = higher;
           stands = t;
           so_far = Some x;
           is = some k;
@@ -92,14 +99,15 @@ module _ (m : RootedModel) (units : List UnitPath) (u : UnitPath) (target : List
         }
 
     pub on_none : (name : ℕ) → name ≡ l.name → AreAttribute units (set_by m above l.set_at words) None
-        → IsOn m units u target owner (Named name ∷ words) found
-    on_none name e a = subst (λ (n : ℕ). IsOn m units u target owner (Named n ∷ words) found) (sym e)
+        → IsOn m units u target owner (level + 1) (Named name ∷ words) found
+    on_none name e a = subst (λ (n : ℕ). IsOn m units u target owner (level + 1) (Named n ∷ words) found) (sym e)
         (go (set_by m above l.set_at words) refl a)
       where
         go : (o : Option s.Attribute) → set_by m above l.set_at words ≡ o → AreAttribute units o None
-            → IsOn m units u target owner (Named l.name ∷ words) found
+            → IsOn m units u target owner (level + 1) (Named l.name ∷ words) found
         go o i none = record {
           unit = above;
+          levels = higher;
           stands = t;
           so_far = h.so_far;
           is = h.is;

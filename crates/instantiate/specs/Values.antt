@@ -1,21 +1,26 @@
 -- Values in force, as they are searched.
-use Rattle.std.specs.Prelude.{◌≡◌, ℕ, Bool, true, false, List, Option, Some, None}
+use Rattle.std.specs.Prelude.{◌≡◌, ℕ, Bool, true, false, List, [], ◌∷◌, ◌++◌, Option, Some, None}
 use Rattle.ar_syntax.specs.declared.expressions.RawExpr.{RawExpr}
 use Rattle.ar_syntax.specs.declared.members.Member.{out-Member}
 use Rattle.ar_syntax.specs.declared.members.Member.TheOpen as member
 use Rattle.ar_syntax.specs.declared.members.Setting.{Setting}
+use Rattle.ar_base.specs.Numbers.{NameId}
 use Rattle.ar_syntax.specs.declared.members.TypeForm.{TypeForm}
-use Rattle.class_table.specs.Declaring.{MemberForm}
+use Rattle.ar_syntax.specs.declared.members.TypeForm.TheVariants as form
+use Rattle.domains.specs.declared.Domain.{Domain}
+use Rattle.class_table.specs.Declaring.{MemberForm, Declared}
 use Rattle.class_table.specs.declared.tables.Owned.{Owned}
 use Rattle.class_table.specs.declared.tables.Owned.TheVariants.{Plain, Nested}
 use Rattle.ar_base.specs.declared.places.Place.{Place}
-use Rattle.class_table.specs.Members.{Site}
+use Rattle.class_table.specs.Members.{Site, domain_named}
 use Rattle.hierarchy.specs.Models.{RootedModel}
-use Rattle.hierarchy.specs.Units.{UnitPath}
+use Rattle.hierarchy.specs.Units.{UnitPath, Thing}
 use Rattle.hierarchy.specs.Settings.{TargetWord, Init, Reset, setting_for}
 use Rattle.hierarchy.specs.Settings as s
-use Rattle.hierarchy.specs.Tie.{IsAttribute}
+use Rattle.hierarchy.specs.Tie.{IsAttribute, IsVariableNode}
+use Rattle.hierarchy.specs.TypeDomains.{HasDomain}
 use Rattle.hierarchy.specs.declared.tree.Attribute.{Attribute}
+use Rattle.hierarchy.specs.declared.tree.VarNode.{VarNode}
 use Rattle.unit_rules.specs.Rules.{BreaksDeclaration}
 
 -- the type of a declaration
@@ -53,6 +58,12 @@ pub data AreAttribute (units : List UnitPath) : Option s.Attribute → Option At
   none : AreAttribute units None None
   some : {a : s.Attribute} {b : Attribute} → IsAttribute units a b → AreAttribute units (Some a) (Some b)
 
+-- the domain of a type, as far as it has one
+pub data HasDomainIf (d : Declared) : TypeForm → Option Domain → Type 0 where
+  has : {f : TypeForm} {v : Domain} → HasDomain d f v → HasDomainIf d f (Some v)
+  every_whole : HasDomainIf d form.Integer None
+  no_domain : {x : NameId} → domain_named d x.n ≡ None → HasDomainIf d (form.Named x) None
+
 -- each declaration of variables of these units has one setting, called init or reset
 pub record KeepsDeclarations (m : RootedModel) (units : List UnitPath) : Type 0 where
   pub kept : (p : Place) → BreaksDeclaration m units p → ⊥
@@ -61,3 +72,9 @@ pub record KeepsDeclarations (m : RootedModel) (units : List UnitPath) : Type 0 
 abbrev pub last_of : Bool → TargetWord
 last_of true = Init
 last_of false = Reset
+
+-- behind these variables the thing's was added
+pub record AddsVariable (m : RootedModel) (units : List UnitPath) (t : Thing) (old new : List VarNode) : Type 0 where
+  pub added : VarNode
+  pub is : IsVariableNode m units t added
+  pub items : new ≡ old ++ added ∷ []

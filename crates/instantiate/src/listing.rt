@@ -1,12 +1,12 @@
 //! The lists of the tree.
 
-ghost use Rattle.std.specs.Prelude.{IfOk};
+ghost use Rattle.std.specs.Prelude.{◌<◌, ◌^◌, IfOk, length};
 ghost use Rattle.hierarchy.specs.Listing.{Unfolded};
 ghost use Rattle.hierarchy.specs.Tie.{IsTreeOf};
 ghost use Rattle.instantiate.specs.Settled.{IsSettled};
 
 use crate::{events, observers, parameters, variables};
-use ar_base::Memory;
+use ar_base::{Cap, Memory};
 use class_table::Classes;
 use hierarchy::{Outline, Tree};
 use std::alloc::Global;
@@ -25,6 +25,7 @@ pub(crate) struct Settled {
 /// The tree of these units, which are within the limits and keep the rules. The only error is want
 /// of memory.
 pub(crate) fn tree_of(alloc: Global, classes: Classes, settled: &Settled) -> Result<Tree, Memory>
+    requires { length settled.now.outlines.items < 2 ^ 32 }
     ensures { (t : Unfolded) → IsSettled classes t settled.now
         → IfOk result (IsTreeOf t.model t.units) }
 {
@@ -34,8 +35,11 @@ pub(crate) fn tree_of(alloc: Global, classes: Classes, settled: &Settled) -> Res
     let parameters = parameters(alloc, &classes, outlines)?;
     let events = events(alloc, &classes, outlines)?;
     let observers = observers(alloc, &classes, outlines)?;
-    if parameters.len() > u32::MAX as usize || observers.len() > u32::MAX as usize {
-        return Err(Memory {});
+    if parameters.len() > u32::MAX as usize {
+        return Err(Memory::from(Cap::Parameters));
+    }
+    if observers.len() > u32::MAX as usize {
+        return Err(Memory::from(Cap::Observers));
     }
     Ok(Tree {
         classes,

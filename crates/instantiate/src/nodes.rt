@@ -1,6 +1,6 @@
 //! The things of units, in the order of units and members.
 
-ghost use Rattle.std.specs.Prelude.{◌≡◌, ◌++◌, [], ◌∷◌, List, map, OnOk, IfOk, Some};
+ghost use Rattle.std.specs.Prelude.{◌≡◌, ◌<◌, ◌^◌, ◌++◌, [], ◌∷◌, List, length, map, OnOk, IfOk, Some};
 ghost use Rattle.std.specs.List.{flat_map};
 ghost use Rattle.ar_base.specs.Lists.{Along};
 ghost use Rattle.ar_syntax.specs.declared.members.Member.{out-Member};
@@ -194,6 +194,7 @@ pub(crate) fn nodes(
     outlines: &[Outline],
     listed: Listed,
 ) -> Result<Vec<MemNode>, Memory>
+    requires { length outlines.now < 2 ^ 32 }
     ensures { (m : RootedModel) (units : List UnitPath)
         → AreOutlines m units classes.now outlines.now
         → KnowsPlaces classes.now.types.items places.now
@@ -202,12 +203,9 @@ pub(crate) fn nodes(
 {
     let mut nodes = Vec::new(alloc);
     for (place, outline) in outlines.iter().enumerate() {
-        let Ok(number) = u32::try_from(place) else {
-            return Err(Memory {});
-        };
         add_unit(
             &mut nodes,
-            UnitId::new(number),
+            UnitId::new(place as u32),
             outline.body,
             classes,
             places,

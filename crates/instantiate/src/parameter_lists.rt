@@ -1,16 +1,14 @@
 //! The parameters of a tree.
 
-ghost use Rattle.std.specs.Prelude.{◌≡◌, List, IfOk, None, Some};
+ghost use Rattle.std.specs.Prelude.{◌≡◌, ◌<◌, ◌^◌, List, IfOk, None, Some, length};
 ghost use Rattle.ar_base.specs.Lists.{Along};
 ghost use Rattle.ar_syntax.specs.declared.expressions.RawExpr.{RawExpr};
-ghost use Rattle.class_table.specs.Declaring.{Declared};
 ghost use Rattle.class_table.specs.Members.{NamedMember, Parameter};
-ghost use Rattle.class_table.specs.Tables.{HoldsDeclared};
 ghost use Rattle.hierarchy.specs.Models.{RootedModel};
 ghost use Rattle.hierarchy.specs.Units.{UnitPath, Thing};
 ghost use Rattle.hierarchy.specs.Walks.{is_parameter};
 ghost use Rattle.hierarchy.specs.Listing.{parameters as parameters_of};
-ghost use Rattle.hierarchy.specs.Tie.{IsNode, HasParameterDomain, IsParameterNode};
+ghost use Rattle.hierarchy.specs.Tie.{IsNode, IsParameterNode};
 ghost use Rattle.hierarchy.specs.Tie.{AreOutlines};
 ghost use Rattle.unit_rules.specs.Typing.{KnowsPlaces};
 ghost use Rattle.instantiate.specs.Nodes.{IsNodeSo};
@@ -22,7 +20,6 @@ use crate::values::value_of;
 use ar_base::Memory;
 use ar_syntax::{Member, TypeForm, Word};
 use class_table::{Classes, Owned};
-use domains::Domain;
 use hierarchy::{Attribute, MemNode, Outline, ParNode};
 use std::alloc::Global;
 use unit_rules::{TypePlaces, owned_at};
@@ -38,25 +35,6 @@ fn type_of(owned: &Owned) -> Option<Option<TypeForm>>
             Member::Kept(_, _, _) => Some(None),
             _ => None,
         },
-    }
-}
-
-// The domain of a parameter of this type; that of `Integer` takes every whole number.
-fn parameter_domain(
-    classes: &Classes,
-    places: &TypePlaces,
-    form: TypeForm,
-) -> Result<Option<Domain>, Memory>
-    ensures { (d : Declared) (value : RawExpr) → HoldsDeclared d classes.now
-        → KnowsPlaces classes.now.types.items places.now
-        → IfOk result (HasParameterDomain d (Parameter form value)) }
-{
-    match form {
-        TypeForm::Integer => Ok(None),
-        _ => {
-            let domain = domain_of(classes, places, form)?;
-            Ok(Some(domain))
-        }
     }
 }
 
@@ -76,7 +54,7 @@ fn typed(
         → IsNode m units t g node → g.kind ≡ Parameter form value
         → IfOk result (IsParameterNode m units t) }
 {
-    let domain = parameter_domain(classes, places, form)?;
+    let domain = domain_of(classes, places, form)?;
     let mut target = Vec::new(alloc);
     target.push(Word::Name(node.name))?;
     let value = value_of(classes, outlines, node, target, None)?;
@@ -135,6 +113,7 @@ pub fn parameters(
     classes: &Classes,
     outlines: &[Outline],
 ) -> Result<Vec<ParNode>, Memory>
+    requires { length outlines.now < 2 ^ 32 }
     ensures { (m : RootedModel) (units : List UnitPath)
         → AreOutlines m units classes.now outlines.now
         → IfOk result (λ v. Along (IsParameterNode m units) (parameters_of m units) v.items) }

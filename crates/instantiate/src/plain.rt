@@ -1,6 +1,6 @@
 //! The events and observers of a tree.
 
-ghost use Rattle.std.specs.Prelude.{List, IfOk};
+ghost use Rattle.std.specs.Prelude.{◌<◌, ◌^◌, List, length, IfOk};
 ghost use Rattle.ar_base.specs.Lists.{Along};
 ghost use Rattle.hierarchy.specs.Models.{RootedModel};
 ghost use Rattle.hierarchy.specs.Units.{UnitPath};
@@ -21,6 +21,7 @@ pub fn events(
     classes: &Classes,
     outlines: &[Outline],
 ) -> Result<Vec<MemNode>, Memory>
+    requires { length outlines.now < 2 ^ 32 }
     ensures { (m : RootedModel) (units : List UnitPath)
         → AreOutlines m units classes.now outlines.now
         → IfOk result (λ v. Along (IsPlainNode m units) (events_of m units) v.items) }
@@ -35,6 +36,7 @@ pub fn observers(
     classes: &Classes,
     outlines: &[Outline],
 ) -> Result<Vec<MemNode>, Memory>
+    requires { length outlines.now < 2 ^ 32 }
     ensures { (m : RootedModel) (units : List UnitPath)
         → AreOutlines m units classes.now outlines.now
         → IfOk result (λ v. Along (IsPlainNode m units) (observers_of m units) v.items) }

@@ -1,29 +1,18 @@
 //! The rules that the units of a main block keep.
 
-ghost use Rattle.std.specs.Prelude.{◌≡◌, ◌≤◌, List, length};
-ghost use Rattle.ar_base.specs.Stages.{kept_rule};
+ghost use Rattle.std.specs.Prelude.{◌≤◌, List, length};
 ghost use Rattle.hierarchy.specs.Models.{RootedModel};
 ghost use Rattle.hierarchy.specs.Units.{UnitPath};
 ghost use Rattle.hierarchy.specs.Tie.{AreOutlines};
 ghost use Rattle.unit_walks.specs.Settling.{AreOutcomes};
 ghost use Rattle.instantiate.specs.Settled.{AnswersRules};
 
-use ar_base::{Place, RuleFault};
+use ar_base::{RuleFault, keep};
 use class_table::Classes;
 use hierarchy::Outline;
 use std::alloc::Global;
 use unit_rules::{first_looping, first_lost, first_wrong_declaration, first_wrong_setting};
 use unit_walks::Walks;
-
-// The rule is refused where it is broken somewhere.
-fn keep(rule: u8, broken: Option<Place>) -> Result<(), RuleFault>
-    ensures { result ≡ kept_rule rule broken }
-{
-    match broken {
-        Some(place) => Err(RuleFault::Rule(rule, place)),
-        None => Ok(()),
-    }
-}
 
 /// Tests the rules L6 to L9 in these units: the least that is broken is told, at the earliest place
 /// where it is. Want of memory may be told in place of any answer.

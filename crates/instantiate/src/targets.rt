@@ -5,13 +5,13 @@ ghost use Rattle.class_table.specs.Members.{Site};
 ghost use Rattle.class_table.specs.Tables.{HoldsDeclared, site_of};
 ghost use Rattle.hierarchy.specs.Models.{RootedModel};
 ghost use Rattle.hierarchy.specs.Units.{UnitPath};
-ghost use Rattle.hierarchy.specs.Settings.{target_word_of, same_word as is_same_word, same_target as is_same_target, settings_at, settings_of as settings_of_member};
+ghost use Rattle.hierarchy.specs.Settings.{target_word_of, same_word as is_same_word, same_target as is_same_target, settings_at};
 ghost use Rattle.instantiate.specs.Values.{declared_type, SetsAt};
 
 use ar_base::BodyId;
 use ar_syntax::{Member, Setting, TypeForm, Word};
 use class_table::{Classes, Owned};
-use unit_rules::owned_at;
+use unit_rules::{owned_at, settings_of};
 
 fn same_word(first: Word, second: Word) -> bool
     ensures { result ≡ is_same_word (target_word_of first) (target_word_of second) }
@@ -62,19 +62,6 @@ pub(crate) fn type_of(owned: &Owned) -> Option<TypeForm>
         Owned::Plain(member) => match member {
             Member::Declare(type_name, _, _) => Some(type_name.form),
             _ => None,
-        },
-    }
-}
-
-/// The settings of a member: those of a declaration, else none.
-pub(crate) fn settings_of(owned: &Owned) -> &[Setting]
-    ensures { result.now ≡ settings_of_member (Some owned.now) }
-{
-    match owned {
-        Owned::Nested(_, _, _) => &[],
-        Owned::Plain(member) => match member {
-            Member::Declare(_, _, settings) => settings,
-            _ => &[],
         },
     }
 }

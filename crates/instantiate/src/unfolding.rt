@@ -1,5 +1,6 @@
 //! The call that unfolds the main block.
 
+ghost use Rattle.std.specs.Prelude.{◌≤◌, IfOk, length};
 ghost use Rattle.ar_base.specs.Stages.{Meets};
 ghost use Rattle.hierarchy.specs.Models.{RootedModel, IsKeptTable};
 ghost use Rattle.instantiate.specs.Settled.{IsSettled};
@@ -17,8 +18,9 @@ use unit_walks::{settle, units};
 
 // The units of the main block, where they are within the limits and keep the rules.
 fn settled_units(alloc: Global, classes: &Classes) -> Result<Settled, RuleFault>
-    ensures { (m : RootedModel) → IsKeptTable m classes.now
+    ensures settled { (m : RootedModel) → IsKeptTable m classes.now
         → Meets Instantiates (IsSettled classes.now) m result }
+    ensures few { IfOk result (λ s. length s.outlines.items ≤ 16384) }
 {
     let mut unfolded = units(alloc, classes)?;
     fit(alloc, classes, &unfolded.outlines)?;

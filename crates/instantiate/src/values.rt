@@ -77,7 +77,7 @@ pub(crate) fn outermost(
         target.insert(0, Word::Name(outline.name))?;
         at = owner;
     }
-    Err(Memory {})
+    Ok(found)
 }
 
 /// The value in force of a thing that is set by this target: what the outermost unit sets, else what its own member

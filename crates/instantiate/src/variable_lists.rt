@@ -1,6 +1,6 @@
 //! The variables of a tree.
 
-ghost use Rattle.std.specs.Prelude.{◌≡◌, List, IfOk};
+ghost use Rattle.std.specs.Prelude.{◌≡◌, ◌<◌, ◌^◌, List, length, IfOk, OnOk};
 ghost use Rattle.ar_base.specs.Lists.{Along};
 ghost use Rattle.hierarchy.specs.Models.{RootedModel};
 ghost use Rattle.hierarchy.specs.Units.{UnitPath, Thing};
@@ -11,18 +11,18 @@ ghost use Rattle.hierarchy.specs.Tie.{IsVariableNode};
 ghost use Rattle.hierarchy.specs.Tie.{AreOutlines};
 ghost use Rattle.unit_rules.specs.Typing.{KnowsPlaces};
 ghost use Rattle.instantiate.specs.Nodes.{IsNodeSo};
-ghost use Rattle.instantiate.specs.Values.{KeepsDeclarations, last_of};
+ghost use Rattle.instantiate.specs.Values.{KeepsDeclarations, AddsVariable, last_of};
 
 use crate::domains_of::domain_of;
 use crate::nodes::{Listed, nodes};
-use crate::targets::{settings_of, type_of};
+use crate::targets::type_of;
 use crate::values::value_of;
 use ar_base::Memory;
 use ar_syntax::Word;
 use class_table::Classes;
 use hierarchy::{MemNode, Outline, VarNode};
 use std::alloc::Global;
-use unit_rules::{TypePlaces, is_state, owned_at};
+use unit_rules::{TypePlaces, is_state, owned_at, settings_of};
 
 // The last word of the target of a state variable or a flow.
 fn last_word(is_state: bool) -> Word
@@ -31,38 +31,43 @@ fn last_word(is_state: bool) -> Word
     if is_state { Word::Init } else { Word::Reset }
 }
 
-// The variable of a node.
-fn variable(
+// Adds the variable of a node, where its member declares variables.
+fn add_variable(
     alloc: Global,
     classes: &Classes,
     places: &TypePlaces,
     outlines: &[Outline],
+    variables: &mut Vec<VarNode>,
     node: MemNode,
-) -> Result<VarNode, Memory>
+) -> Result<(), Memory>
     ensures { (m : RootedModel) (units : List UnitPath) (t : Thing)
         → AreOutlines m units classes.now outlines.now
         → KnowsPlaces classes.now.types.items places.now → KeepsDeclarations m units
-        → IsNodeSo m units is_variable t node → IfOk result (IsVariableNode m units t) }
+        → IsNodeSo m units is_variable t node
+        → OnOk result (AddsVariable m units t variables.old.items variables.new.items) }
 {
     let site = (node.source.body, node.source.member);
     let Some(owned) = owned_at(&classes.bodies, site) else {
-        return Err(Memory {});
+        return Ok(());
     };
     let Some(form) = type_of(owned) else {
-        return Err(Memory {});
+        return Ok(());
     };
-    let domain = domain_of(classes, places, form)?;
+    let Some(domain) = domain_of(classes, places, form)? else {
+        return Ok(());
+    };
     let is_state = is_state(settings_of(owned));
     let mut target = Vec::new(alloc);
     target.push(Word::Name(node.name))?;
     target.push(last_word(is_state))?;
     let value = value_of(classes, outlines, node, target, Some(0))?;
-    Ok(VarNode {
+    variables.push(VarNode {
         node,
         domain,
         is_state,
         value,
-    })
+    })?;
+    Ok(())
 }
 
 /// The variables of these units, by unit and member, where each declaration of variables has one setting, called
@@ -72,6 +77,7 @@ pub fn variables(
     classes: &Classes,
     outlines: &[Outline],
 ) -> Result<Vec<VarNode>, Memory>
+    requires { length outlines.now < 2 ^ 32 }
     ensures { (m : RootedModel) (units : List UnitPath)
         → AreOutlines m units classes.now outlines.now
         → KeepsDeclarations m units
@@ -81,7 +87,7 @@ pub fn variables(
     let nodes = nodes(alloc, classes, &places, outlines, Listed::Variables)?;
     let mut variables = Vec::new(alloc);
     for node in &nodes {
-        variables.push(variable(alloc, classes, &places, outlines, *node)?)?;
+        add_variable(alloc, classes, &places, outlines, &mut variables, *node)?;
     }
     Ok(variables)
 }

@@ -185,8 +185,8 @@ alias_form_takes d s (member.Sync y at parts) g o h = none_there g o
 alias_form_takes d s (member.Assert i) g o h = none_there g o
 
 -- a member that stands in a body names its types rightly
-typed_member : {m : RootedModel} → KeepsTextRules m → (s : Site) (w : Member) → owned_at m.declared s ≡ Some (Plain w)
-    → (p : Place) → Misnames m.declared (out-Member w) p → ⊥
+pub typed_member : {m : RootedModel} → KeepsTextRules m → (s : Site) (w : Member) → owned_at m.declared s ≡ Some (Plain
+    w) → (p : Place) → Misnames m.declared (out-Member w) p → ⊥
 typed_member k s w e p h = k.kept.kept 2 p (record { place = 1; stands = refl })
     (l2 (record { body = s.body; member = w; stands = record { place = s.place; stands = e }; misnames = h }))
 

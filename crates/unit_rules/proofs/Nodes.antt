@@ -1,7 +1,8 @@
 -- The members of a unit, as the table keeps them.
 use Rattle.std.proofs.Common.{◌≡◌, ℕ, ◌+◌, ◌<◌, ◌≤◌, List, [], ◌∷◌, ◌++◌, map, take, length, slice_index_or, sym, ap, subst, arith}
 use Rattle.std.specs.Prelude.{unwrap_or}
-use Rattle.std.proofs.lemmas.List.{take_all}
+use Rattle.std.proofs.lemmas.List.{length-map, take_all}
+use Rattle.std.proofs.lemmas.Option.{slice_get_past}
 use Rattle.ar_base.specs.Lists.{Stands, Along, none, one_and}
 use Rattle.ar_base.proofs.Standing.{stands_map, stands_get, along_back, along_length}
 use Rattle.class_table.proofs.Taken.{take_next}
@@ -32,6 +33,13 @@ members_here {m = m} {c = c} u {b = b} t e body s =
     let r : Stands m.members (body_of m u) (sites_kept body) =
     subst (λ (n : ℕ). Stands m.members n (sites_kept body)) e q in
     ap (λ o. unwrap_or o []) r
+
+pub members_past : {m : RootedModel} {c : Classes} (u : UnitPath) {b : ℕ} → IsKeptTable m c → b ≡ body_of m u
+    → length c.bodies.items ≤ b → members_at m u ≡ []
+members_past {m = m} {c = c} u {b = b} t e l =
+    let k = ap length t.table.members in
+    let j = length-map c.bodies.items sites_kept in
+    ap (λ o. unwrap_or o []) (slice_get_past m.members (body_of m u) (omega arith))
 
 -- what was added for the members of a body was added for those of the unit
 pub at_members : {m : RootedModel} {units : List UnitPath} {u : UnitPath} {list : List Entry}

@@ -1,6 +1,6 @@
 //! The first declaration of variables that breaks rule L8.
 
-ghost use Rattle.std.specs.Prelude.{◌≡◌, [], ◌∷◌, List, map, IfOk, Some, Option, option_copied, unwrap_or, slice_get};
+ghost use Rattle.std.specs.Prelude.{◌≡◌, [], ◌∷◌, List, map, IfOk, Some, Option, unwrap_or, slice_get};
 ghost use Rattle.ar_base.specs.Lists.{Along};
 ghost use Rattle.class_table.specs.Declaring.{Declared};
 ghost use Rattle.class_table.specs.Earliest.{IsEarliest};
@@ -17,10 +17,11 @@ ghost use Rattle.unit_rules.specs.Rules.{BreaksDeclaration};
 ghost use Rattle.unit_rules.specs.Searched.{BreaksOne, forms_of, IsFirstIn};
 
 use crate::TypePlaces;
+use crate::sites::owned_at;
 use ar_base::{BodyId, Memory, Place};
 use ar_syntax::{Member, Setting, Word};
 use class_table::earliest::earliest;
-use class_table::{Body, Classes, Owned};
+use class_table::{Classes, Owned};
 use hierarchy::Outline;
 use std::alloc::Global;
 
@@ -67,17 +68,6 @@ fn wrong(owned: &Owned, classes: &Classes, places: &TypePlaces) -> Option<Place>
             }
         }
         _ => None,
-    }
-}
-
-/// The member at a site: the body in which it stands, and its place there. None where there is no such member.
-pub fn owned_at(bodies: &[Body], site: (BodyId, u32)) -> Option<&Owned>
-    ensures { (d : Declared) → Along IsBodyOf bodies.now d.bodies
-        → option_copied result ≡ declared_at d (site_of site) }
-{
-    match bodies.get(site.0.n as usize) {
-        Some(body) => body.own.get(site.1 as usize),
-        None => None,
     }
 }
 

@@ -1,6 +1,6 @@
 //! The units that the names of a unit lead to.
 
-ghost use Rattle.std.specs.Prelude.{ℕ, List, [], ◌∷◌, map, OnOk, IfOk};
+ghost use Rattle.std.specs.Prelude.{◌≡◌, ◌<◌, ◌^◌, ℕ, List, [], ◌∷◌, length, map, OnOk, IfOk};
 ghost use Rattle.std.specs.List.Sorted.{IsPermutation, IsNonDecreasingBy};
 ghost use Rattle.ar_base.specs.Lists.{Stands, Along};
 ghost use Rattle.ar_base.specs.declared.places.Place.{Place as PlaceOf};
@@ -9,7 +9,7 @@ ghost use Rattle.class_table.specs.Declaring.{Declared};
 ghost use Rattle.class_table.specs.Members.{owned_at as declared_at};
 ghost use Rattle.class_table.specs.Tables.{IsBodyOf, site_of};
 ghost use Rattle.hierarchy.specs.Models.{RootedModel, IsKeptTable};
-ghost use Rattle.hierarchy.specs.Units.{UnitPath};
+ghost use Rattle.hierarchy.specs.Units.{UnitPath, body_of, members_at};
 ghost use Rattle.hierarchy.specs.Tie.{AreOutlines, IsOutline, IsUnitNode};
 ghost use Rattle.unit_walks.specs.Settling.{AreOutcomes};
 ghost use Rattle.unit_rules.specs.Naming.{Entry, AddsName, AddsNames, instance_names, inner_names, alias_names, names_if, names_at_sites};
@@ -249,6 +249,17 @@ fn in_order(mut entries: Entries) -> Result<Entries, Memory>
     Ok(entries)
 }
 
+// The members of a unit of this body, inherited ones included.
+fn members_of(classes: &Classes, body: BodyId) -> &[(BodyId, u32)]
+    ensures { (m : RootedModel) (u : UnitPath) → IsKeptTable m classes.now → body.n ≡ body_of m u
+        → members_at m u ≡ map site_of result.now }
+{
+    match classes.bodies.get(body.n as usize) {
+        None => &[],
+        Some(found) => &found.all,
+    }
+}
+
 // A unit with the units that its names lead to.
 fn node_of(
     alloc: Global,
@@ -261,11 +272,9 @@ fn node_of(
         → AreOutcomes m units walks.now → Stands units unit.n u → IsOutline m units u outline.now
         → IfOk result (IsUnitNode m units u) }
 {
-    let Some(body) = classes.bodies.get(outline.body.n as usize) else {
-        return Err(Memory {});
-    };
-    let inner = inner_of(alloc, &classes.bodies, walks, unit, &body.all)?;
-    let aliases = aliases_of(alloc, &classes.bodies, walks, unit, &body.all)?;
+    let all = members_of(classes, outline.body);
+    let inner = inner_of(alloc, &classes.bodies, walks, unit, all)?;
+    let aliases = aliases_of(alloc, &classes.bodies, walks, unit, all)?;
     Ok(UnitNode {
         name: outline.name,
         owner: outline.owner,
@@ -283,6 +292,7 @@ pub fn name_units(
     outlines: &[Outline],
     walks: &Walks,
 ) -> Result<Vec<UnitNode>, Memory>
+    requires { length outlines.now < 2 ^ 32 }
     ensures { (m : RootedModel) (units : List UnitPath)
         → AreOutlines m units classes.now outlines.now
         → AreOutcomes m units walks.now → IfOk result
@@ -290,10 +300,7 @@ pub fn name_units(
 {
     let mut nodes = Vec::new(alloc);
     for (place, outline) in outlines.iter().enumerate() {
-        let Ok(number) = u32::try_from(place) else {
-            return Err(Memory {});
-        };
-        let node = node_of(alloc, classes, walks, UnitId::new(number), outline)?;
+        let node = node_of(alloc, classes, walks, UnitId::new(place as u32), outline)?;
         nodes.push(node)?;
     }
     Ok(nodes)

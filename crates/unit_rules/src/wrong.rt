@@ -1,13 +1,12 @@
 //! The first setting that sets nothing, or what an earlier one sets.
 
-ghost use Rattle.std.specs.Prelude.{◌≡◌, ◌↔◌, ℕ, false, List, IfOk, Some};
+ghost use Rattle.std.specs.Prelude.{◌≡◌, ◌<◌, ◌^◌, ◌↔◌, ℕ, false, List, IfOk, length};
 ghost use Rattle.ar_base.specs.Lists.{Stands};
 ghost use Rattle.ar_syntax.specs.declared.members.Setting.{Setting as SettingOf};
 ghost use Rattle.class_table.specs.Earliest.{IsEarliest};
 ghost use Rattle.class_table.specs.declared.tables.Classes.{Classes as Table};
 ghost use Rattle.hierarchy.specs.Models.{RootedModel};
 ghost use Rattle.hierarchy.specs.Units.{UnitPath};
-ghost use Rattle.hierarchy.specs.Settings.{settings_of as settings_of_member};
 ghost use Rattle.hierarchy.specs.Tie.{AreOutlines, IsOutline};
 ghost use Rattle.unit_rules.specs.Rules.{BreaksSetting};
 ghost use Rattle.unit_walks.specs.Settling.{AreOutcomes};
@@ -17,27 +16,15 @@ ghost use Rattle.unit_rules.specs.Wrong.{IsSetBefore, BreaksAt, BreaksIn, Breaks
 use crate::owned_at;
 use crate::repeats::Targets;
 use crate::settables::Settables;
+use crate::sites::{owned_at, settings_of};
 use crate::targets::is_target;
 use ar_base::{Memory, Place, UnitId};
-use ar_syntax::{Member, Setting};
+use ar_syntax::Setting;
+use class_table::Classes;
 use class_table::earliest::earliest;
-use class_table::{Classes, Owned};
 use hierarchy::Outline;
 use std::alloc::Global;
 use unit_walks::Walks;
-
-// The settings of a member: those of a declaration, else none.
-fn settings_of(owned: &Owned) -> &[Setting]
-    ensures { result.now ≡ settings_of_member (Some owned.now) }
-{
-    match owned {
-        Owned::Nested(_, _, _) => &[],
-        Owned::Plain(member) => match member {
-            Member::Declare(_, _, settings) => settings,
-            _ => &[],
-        },
-    }
-}
 
 // The place of this setting, which holds in the unit, if it is wrong; it is new where no earlier
 // one has its target.
@@ -123,6 +110,7 @@ pub fn first_wrong_setting(
     outlines: &[Outline],
     walks: &Walks,
 ) -> Result<Option<Place>, Memory>
+    requires { length outlines.now < 2 ^ 32 }
     ensures { (m : RootedModel) (units : List UnitPath)
         → AreOutlines m units classes.now outlines.now
         → AreOutcomes m units walks.now → IfOk result (IsEarliest (BreaksSetting m units)) }
@@ -130,10 +118,7 @@ pub fn first_wrong_setting(
     let settables = Settables::new(alloc, classes, outlines)?;
     let mut found = None;
     for (place, outline) in outlines.iter().enumerate() {
-        let Ok(number) = u32::try_from(place) else {
-            return Err(Memory {});
-        };
-        let unit = UnitId::new(number);
+        let unit = UnitId::new(place as u32);
         let wrong = wrong_in(alloc, &settables, classes, outlines, walks, unit, outline)?;
         found = earliest(found, wrong);
     }

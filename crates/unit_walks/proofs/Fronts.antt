@@ -41,7 +41,7 @@ use Rattle.unit_walks.proofs.TableSteps.{IsWider, wider, stands_last, extends_bo
 
 -- What the table says, in the words of the definition
 
-none_followed : (s : RootedModel) (n : ℕ) → AreHigher s [] n
+pub none_followed : (s : RootedModel) (n : ℕ) → AreHigher s [] n
 none_followed s n = record { higher = λ x k u o i d. cc }
 
 pub leads_to : (s : RootedModel) (paths : List UnitPath) (u : UnitPath) (x k : ℕ) (e : EndsAt s paths u x k)

@@ -6,6 +6,7 @@ pub mod TableSteps
 pub mod Stepping
 pub mod Running
 pub mod Fronts
+pub mod Listed
 pub mod ClassNames
 pub mod NameLists
 pub mod Outcomes

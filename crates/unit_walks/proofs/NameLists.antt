@@ -6,7 +6,6 @@ use Rattle.std.proofs.lemmas.Option.{same_Some}
 use Rattle.std.specs.Global.{Global}
 use Rattle.std.specs.HashMap.{get, HashMap}
 use Rattle.ar_base.specs.Lists.{Along, Stands}
-use Rattle.ar_base.specs.Lists as a
 use Rattle.ar_base.specs.Numbers.{NameId, BodyId}
 use Rattle.ar_base.specs.declared.places.Place.{Place}
 use Rattle.ar_base.proofs.Standing.{stands_one, stands_within, stands_none, stands_get}

@@ -1,21 +1,23 @@
 -- What names lead to, by the numbers of the units.
-use Rattle.std.proofs.Common.{◌≡◌, ◌<◌, ◌≤◌, ◌+◌, ◌⊎◌, inl, inr, ℕ, nat_eq, Bool, true, false, List, [], Option, Some, None, option_map, unwrap_or, length, get_or, ne_eqb, refl, sym, ◌∙◌, ap, subst, arith}
+use Rattle.std.proofs.Common.{◌≡◌, ◌<◌, ◌≤◌, ◌+◌, ◌⊎◌, inl, inr, ℕ, Bool, true, false, List, [], ◌∷◌, Option, Some, None, option_map, unwrap_or, length, get_or, refl, sym, ◌∙◌, ap, subst, arith}
 use Rattle.std.proofs.lemmas.Bool.{cases_eq}
 use Rattle.std.proofs.lemmas.Option.{same_Some}
 use Rattle.std.specs.HashMap.{get, HashMap}
-use Rattle.ar_base.specs.Lists.{Stands}
-use Rattle.ar_base.specs.Numbers.{UnitId}
-use Rattle.ar_base.proofs.Standing.{stands_one, stands_within, stands_get, along_back}
+use Rattle.ar_base.specs.Lists.{Stands, IsOneOf, AreDifferent}
+use Rattle.ar_base.specs.Numbers.{UnitId, NameId}
+use Rattle.ar_base.proofs.Standing.{stands_one, stands_within, stands_get, along_back, one_here, at_most}
 use Rattle.class_table.specs.Members.{NamedMember}
 use Rattle.hierarchy.specs.Models.{RootedModel}
-use Rattle.hierarchy.specs.Units.{UnitPath, body_of, names_at, name_at}
+use Rattle.hierarchy.specs.Units.{UnitPath, UnitLevel, body_of, names_at, name_at}
+use Rattle.hierarchy.specs.Listing.{AreUnits}
+use Rattle.hierarchy.specs.Tie.{IsOwner, of_main, of_unit, IsNameOfUnit}
 use Rattle.hierarchy.specs.Walks.{NameLeads, no_unit, absent}
 use Rattle.hierarchy.specs.Walks as leads
-use Rattle.unit_walks.specs.Forms.{may_be_unit, only_units}
-use Rattle.unit_walks.specs.Tables.{paths_of, IsTable, Means, EndsAt, Extends}
+use Rattle.unit_walks.specs.Forms.{AreOnce, may_be_unit, only_units, same_pair}
+use Rattle.unit_walks.specs.Tables.{paths_of, Above, IsTable, Means, EndsAt}
 use Rattle.unit_walks.specs.Walking.{IsRun, IsKnown}
 use Rattle.unit_walks.specs.Growing.{Tied}
-use Rattle.unit_walks.specs.Settling.{IsLed, IsLedBy, kept_at, AreOutcomes, Keeps, AreIds, AreNumbers, IsSettledTo, SettlesUnit}
+use Rattle.unit_walks.specs.Settling.{IsLed, IsLedBy, kept_at, AreOutcomes, Keeps, AreChildrenTo, AreChildren, IsNumber, IsSettledTo, SettlesUnit}
 use Rattle.unit_walks.specs.declared.tables.Table.{Table}
 use Rattle.unit_walks.specs.declared.tables.Known.{Known}
 use Rattle.unit_walks.specs.declared.tables.Known.TheVariants as c
@@ -25,7 +27,8 @@ use Rattle.unit_walks.specs.declared.settling.Led.{Led}
 use Rattle.unit_walks.specs.declared.settling.Led.TheVariants as led
 use Rattle.unit_walks.proofs.LookUps.{named_first, units_there}
 use Rattle.unit_walks.proofs.Stepping.{unitless}
-use Rattle.unit_walks.proofs.TableSteps.{extends_both, extends_none}
+use Rattle.unit_walks.proofs.TableSteps.{extends_both, extends_none, pair_apart}
+use Rattle.unit_walks.proofs.Listed.{one_named, ends_listed}
 use Rattle.unit_walks.proofs.Fronts.{leads_to, leads_nowhere, none_endless}
 
 none_some : {A P : Type 0} {c : A} → None ≡ Some c → P
@@ -33,50 +36,126 @@ none_some e = cc
 
 -- Numbers
 
-pub ids_none : {S : Type 0} (nodes : List Node) (ids : HashMap ℕ UnitId S) → ((n : ℕ) → get nat_eq ids n ≡ None)
-    → AreIds nodes ids
-ids_none nodes ids h = record { each = λ n id e. none_some (sym (h n) ∙ e) }
-
-pub ids_more : {S : Type 0} (nodes : List Node) (old new : HashMap ℕ UnitId S) (i : ℕ) (d : Node) (id : UnitId)
-    → Stands nodes i d → id.n ≡ i → get nat_eq new d.unit ≡ Some id
-    → ((n : ℕ) → nat_eq d.unit n ≡ false → get nat_eq new n ≡ get nat_eq old n) → AreIds nodes old → AreIds nodes new
-ids_more nodes old new i d id p e here other w = record { each = λ n k h. go n k h (cases_eq n d.unit) }
-  where
-    go : (n : ℕ) (k : UnitId) → get nat_eq new n ≡ Some k → (n ≡ d.unit) ⊎ (n ≡ d.unit → ⊥)
-        → (d : Node) × Stands nodes k.n d × (d.unit ≡ n)
-    go n k h (inl q) =
-        let z : id ≡ k = same_Some _ _ (sym here ∙ subst (λ n. get nat_eq new n ≡ Some k) q h) in
-        (d, subst (λ j. Stands nodes j d) (sym e ∙ ap (λ k. k.n) z) p, sym q)
-    go n k h (inr q) = w.each n k (sym (other n (ne_eqb d.unit n (λ e. q (sym e)))) ∙ h)
-
--- the item of a loop
-pub ids_put : {S : Type 0} (nodes : List Node) (old new : HashMap ℕ UnitId S) (i : ℕ) (z : Node) (id : UnitId)
-    → i < length nodes → id.n ≡ i → get nat_eq new (get_or nodes i z).unit ≡ Some id
-    → ((n : ℕ) → nat_eq (get_or nodes i z).unit n ≡ false → get nat_eq new n ≡ get nat_eq old n) → AreIds nodes old
-    → AreIds nodes new
-ids_put nodes old new i z id l e here other w =
-    ids_more nodes old new i (get_or nodes i z) id (stands_get nodes i z l) e here other w
-
-pub numbers_of : {S : Type 0} (m : RootedModel) (units paths : List UnitPath) (nodes : List Node)
-    (ids : HashMap ℕ UnitId S) → Tied m units paths units nodes → AreIds nodes ids → AreNumbers units paths ids
-numbers_of m units paths nodes ids t w = record {
-  each = λ n id e.
-      let d = w.each n id e in
-      let u = along_back units nodes t id.n d.0 d.1 in
-      (u.0, subst (λ n. Stands paths n u.0) d.2 u.2.unit, u.1);
+pub children_none : {S : Type 0} (units : List UnitPath) (children : HashMap (ℕ × ℕ) UnitId S)
+    → ((q : ℕ × ℕ) → get same_pair children q ≡ None) → AreChildrenTo units 0 children
+children_none units children h = record {
+  right = λ a x id e. none_some (sym (h (a, x)) ∙ e);
+  all = λ a n l above b p q. absurd (omega (arith, b));
 }
 
-numbers_wide : {S : Type 0} {units : List UnitPath} {old new : Table} {ids : HashMap ℕ UnitId S} → Extends old new
-    → AreNumbers units (paths_of old) ids → AreNumbers units (paths_of new) ids
-numbers_wide x w = record { each = λ n id e. let v = w.each n id e in (v.0, x.units n v.0 v.1, v.2) }
+no_more : (above : UnitPath) (l : UnitLevel) → [] ≡ l ∷ above → ⊥
+no_more above l e = cc
 
-pub led_unit : {S : Type 0} (m : RootedModel) (units paths : List UnitPath) (u : UnitPath) (x k : ℕ) (id : UnitId)
-    (ids : HashMap ℕ UnitId S) → AreNumbers units paths ids → get nat_eq ids k ≡ Some id → EndsAt m paths u x k
-    → IsLed m units u x (led.Unit id)
-led_unit m units paths u x k id ids w e d =
-    let v = w.each k id e in
-    let same = stands_one paths k v.0 d.path v.1 d.stands in
-    (d.path, subst (λ v. Stands units id.n v) same v.2, leads_to m paths u x k d)
+-- the main block has no unit above it
+pub children_main : {S : Type 0} (units : List UnitPath) (n : ℕ) (children : HashMap (ℕ × ℕ) UnitId S)
+    → Stands units n [] → AreChildrenTo units n children → AreChildrenTo units (n + 1) children
+children_main units n children s w = record {
+  right = w.right;
+  all = λ a k l above b p q. elim (at_most k n b) [
+    | inl i ↦ w.all a k l above i p q
+    | inr e ↦ absurd (no_more above l (stands_one units n [] (l ∷ above) s
+        (subst (λ (k : ℕ). Stands units k (l ∷ above)) e q)))
+  ];
+}
+
+pub children_more : {S : Type 0} (units : List UnitPath) (n owner x : ℕ) (id : UnitId) (l : UnitLevel)
+    (above : UnitPath) (old new : HashMap (ℕ × ℕ) UnitId S) → AreDifferent units → id.n ≡ n → Stands units n (l ∷ above)
+    → Stands units owner above → x ≡ l.name → get same_pair new (owner, x) ≡ Some id
+    → ((q : ℕ × ℕ) → same_pair (owner, x) q ≡ false → get same_pair new q ≡ get same_pair old q)
+    → AreChildrenTo units n old → AreChildrenTo units (n + 1) new
+children_more units n owner x id l above old new apart e s t named here other w = record {
+  right = λ a y k h. right a y k h (cases_eq a owner) (cases_eq y x);
+  all = λ a j k up b p q. elim (at_most j n b) [
+    | inl i ↦ let r = w.all a j k up i p q in kept a k.name r.0 r.1 (cases_eq a owner) (cases_eq k.name x)
+    | inr i ↦ last a j k up i p q
+  ];
+}
+  where
+    apart_key : (a y : ℕ) → ((a ≡ owner) × (y ≡ x) → ⊥) → get same_pair new (a, y) ≡ get same_pair old (a, y)
+    apart_key a y d = other (a, y) (pair_apart owner x a y d)
+
+    here_at : (a y : ℕ) → a ≡ owner → y ≡ x → get same_pair new (a, y) ≡ Some id
+    here_at a y i j = subst (λ (a : ℕ). get same_pair new (a, y) ≡ Some id) (sym i)
+        (subst (λ (y : ℕ). get same_pair new (owner, y) ≡ Some id) (sym j) here)
+
+    right : (a y : ℕ) (k : UnitId) → get same_pair new (a, y) ≡ Some k → (a ≡ owner) ⊎ (a ≡ owner → ⊥)
+        → (y ≡ x) ⊎ (y ≡ x → ⊥)
+        → (l : UnitLevel) × (above : UnitPath) × Stands units a above × Stands units k.n (l ∷ above) × (l.name ≡ y)
+    right a y k h (inl i) (inl j) =
+        let z : id ≡ k = same_Some _ _ (sym (here_at a y i j) ∙ h) in
+        let number : n ≡ k.n = sym e ∙ ap (λ (k : UnitId). k.n) z in (
+          l,
+          above,
+          subst (λ (a : ℕ). Stands units a above) (sym i) t,
+          subst (λ (n : ℕ). Stands units n (l ∷ above)) number s,
+          sym named ∙ sym j,
+        )
+    right a y k h (inl i) (inr j) = w.right a y k (sym (apart_key a y (λ z. j z.1)) ∙ h)
+    right a y k h (inr i) j = w.right a y k (sym (apart_key a y (λ z. i z.0)) ∙ h)
+
+    kept : (a y : ℕ) (k : UnitId) → get same_pair old (a, y) ≡ Some k → (a ≡ owner) ⊎ (a ≡ owner → ⊥)
+        → (y ≡ x) ⊎ (y ≡ x → ⊥) → (k : UnitId) × (get same_pair new (a, y) ≡ Some k)
+    kept a y k h (inl i) (inl j) = (id, here_at a y i j)
+    kept a y k h (inl i) (inr j) = (k, apart_key a y (λ z. j z.1) ∙ h)
+    kept a y k h (inr i) j = (k, apart_key a y (λ z. i z.0) ∙ h)
+
+    last : (a j : ℕ) (k : UnitLevel) (up : UnitPath) → j ≡ n → Stands units a up → Stands units j (k ∷ up)
+        → (id : UnitId) × (get same_pair new (a, k.name) ≡ Some id)
+    last a j k up i p q =
+        let is : k ∷ up ≡ l ∷ above = stands_one units n (k ∷ up) (l ∷ above)
+        (subst (λ (j : ℕ). Stands units j (k ∷ up)) i q) s in
+        let level : k ≡ l = cc in
+        let same : up ≡ above = cc in
+        let number : a ≡ owner = apart.one a owner above (subst (λ (u : UnitPath). Stands units a u) same p) t in
+        (id, here_at a k.name number (ap (λ (l : UnitLevel). l.name) level ∙ sym named))
+
+-- the outline of a unit with one above it
+pub outline_some : (units : List UnitPath) (u : UnitPath) (o : Option UnitId) (name : NameId) (id : UnitId)
+    → IsOwner units u o → IsNameOfUnit u name → o ≡ Some id
+    → (l : UnitLevel) × (above : UnitPath) × (u ≡ l ∷ above) × Stands units id.n above × (name.n ≡ l.name)
+outline_some units u o name id of_main q e = cc
+outline_some units u o name id (of_unit {l = l} {above = above} {id = k} s) q e =
+    let same : k ≡ id = cc in (l, above, refl, subst (λ (k : UnitId). Stands units k.n above) same s, q)
+
+pub outline_none : (units : List UnitPath) (u : UnitPath) (o : Option UnitId) → IsOwner units u o → o ≡ None → u ≡ []
+outline_none units u o of_main e = refl
+outline_none units u o (of_unit s) e = cc
+
+-- what the table has above a unit
+pub above_none : (paths : List UnitPath) (u : UnitPath) (o : Option ℕ) → Above paths u o → o ≡ None → u ≡ []
+above_none paths [] o h e = refl
+above_none paths (l ∷ above) o (n, i, h) e = none_some (sym e ∙ i)
+
+pub above_some : (paths : List UnitPath) (u : UnitPath) (o : Option ℕ) (k : ℕ) → Above paths u o → o ≡ Some k
+    → (l : UnitLevel) × (above : UnitPath) × (u ≡ l ∷ above) × Stands paths k above
+above_some paths [] o k h e = none_some (sym h ∙ e)
+above_some paths (l ∷ above) o k (n, i, h) e =
+    (l, above, refl, subst (λ (n : ℕ). Stands paths n above) (same_Some _ _ (sym i ∙ e)) h)
+
+-- the number of a unit is that which is found by the unit above it
+pub child_found : {S : Type 0} (m : RootedModel) (units : List UnitPath) (children : HashMap (ℕ × ℕ) UnitId S)
+    (l : UnitLevel) (above : UnitPath) (a x : ℕ) (o : Option UnitId) → AreOnce m → AreUnits m units
+    → AreChildren units children → IsOneOf units (l ∷ above) → Stands units a above → x ≡ l.name
+    → o ≡ get same_pair children (a, x) → IsNumber units (l ∷ above) o
+child_found m units children l above a x None once are w j s e h =
+    let within = stands_within units j.place (l ∷ above) j.stands in
+    let r = w.all a j.place l above within s j.stands in
+    none_some (h ∙ (ap (λ (x : ℕ). get same_pair children (a, x)) e ∙ r.1))
+child_found m units children l above a x (Some id) once are w j s e h =
+    let r = w.right a x id (sym h) in
+    let same : r.1 ≡ above = stands_one units a r.1 above r.2 s in
+    let found : Stands units id.n (r.0 ∷ above) =
+    subst (λ (u : UnitPath). Stands units id.n (r.0 ∷ u)) same r.3 in
+    subst (λ (u : UnitPath). Stands units id.n u)
+    (one_named m units are once r.0 l above (one_here units id.n (r.0 ∷ above) found) j (r.4 ∙ e)) found
+
+pub led_unit : (m : RootedModel) (units paths : List UnitPath) (u : UnitPath) (x k : ℕ) (id : UnitId)
+    (d : EndsAt m paths u x k) → Stands units id.n d.path → IsLed m units u x (led.Unit id)
+led_unit m units paths u x k id d s = (d.path, s, leads_to m paths u x k d)
+
+pub ends_there : (m : RootedModel) (units paths : List UnitPath) (u : UnitPath) (x k : ℕ) → AreUnits m units
+    → IsOneOf units u → (d : EndsAt m paths u x k) → IsOneOf units d.path
+ends_there m units paths u x k are j d = ends_listed m units are d.ends refl j d.path refl
 
 pub led_nowhere : (m : RootedModel) (units paths : List UnitPath) (a x : ℕ) (u : UnitPath)
     → Means m paths [] a u x c.Nothing → IsLed m units u x led.Nothing
@@ -86,30 +165,24 @@ pub led_loops : (m : RootedModel) (units paths : List UnitPath) (a x : ℕ) (u :
     → Means m paths [] a u x c.Loops → IsLed m units u x led.Loops
 led_loops m units paths a x u d = d.loops [] (none_endless m)
 
-pub led_known : {S : Type 0} (m : RootedModel) (units : List UnitPath) (old new : Table) (a x : ℕ) (u : UnitPath)
-    (k : Known) (r : Led) (ids : HashMap ℕ UnitId S) → IsKnown m old new a x k → Stands (paths_of old) a u
-    → AreNumbers units (paths_of old) ids
-    → ((m : RootedModel) (units paths : List UnitPath) (a x : ℕ) (u : UnitPath) → AreNumbers units paths ids
-    → Means m paths [] a u x k → IsLed m units u x r) → IsLedBy m units old new u x r
-led_known m units old new a x u k r ids i p w f = record {
+pub led_known : (m : RootedModel) (units : List UnitPath) (old new : Table) (a x : ℕ) (u : UnitPath) (k : Known)
+    (r : Led) → IsKnown m old new a x k → Stands (paths_of old) a u
+    → (IsTable m [] new → Means m (paths_of new) [] a u x k → IsLed m units u x r) → IsLedBy m units old new u x r
+led_known m units old new a x u k r i p f = record {
   run = record { table = i.table; extends = i.extends };
-  is_led = f m units (paths_of new) a x u (numbers_wide i.extends w) (i.known u (i.extends.units a u p));
+  is_led = f i.table (i.known u (i.extends.units a u p));
 }
 
 -- Answers that are kept
 
 -- those of the first i names of the unit of number n, and of all units before it
-pub record Settling {S : Type 0} (m : RootedModel) (units : List UnitPath) (n i : ℕ) (old new : Table)
-    (ids : HashMap ℕ UnitId S) (w : Walks) : Type 0 where
+pub record Settling (m : RootedModel) (units : List UnitPath) (n i : ℕ) (old new : Table) (w : Walks) : Type 0 where
   pub run : IsRun m old new
-  pub numbers : AreNumbers units (paths_of new) ids
   pub settled : IsSettledTo m units n i w
 
-pub settling_start : {S : Type 0} (m : RootedModel) (units : List UnitPath) (n i : ℕ) (t : Table)
-    (ids : HashMap ℕ UnitId S) (w : Walks) → IsTable m [] t → AreNumbers units (paths_of t) ids
-    → IsSettledTo m units n i w → Settling m units n i t t ids w
-settling_start m units n i t ids w k a s =
-    record { run = record { table = k; extends = extends_none t }; numbers = a; settled = s }
+pub settling_start : (m : RootedModel) (units : List UnitPath) (n i : ℕ) (t : Table) (w : Walks) → IsTable m [] t
+    → IsSettledTo m units n i w → Settling m units n i t t w
+settling_start m units n i t w k s = record { run = record { table = k; extends = extends_none t }; settled = s }
 
 pub settled_none : (m : RootedModel) (units : List UnitPath) (w : Walks) → ((k x : ℕ) → kept_at w k x ≡ None)
     → IsSettledTo m units 0 0 w
@@ -162,14 +235,12 @@ settled_more m units n i x old new u g r w k d p q named =
       | inr e ↦ before j l v h s t (inr (o.0, omega (arith, o.1, e))) (cases_eq j n) (cases_eq h.name x)
     ]
 
-pub settling_more : {S : Type 0} (m : RootedModel) (units : List UnitPath) (n i x : ℕ) (first now next : Table)
-    (ids : HashMap ℕ UnitId S) (old new : Walks) (u : UnitPath) (g : NamedMember) (r : Led)
-    → Settling m units n i first now ids old
+pub settling_more : (m : RootedModel) (units : List UnitPath) (n i x : ℕ) (first now next : Table) (old new : Walks)
+    (u : UnitPath) (g : NamedMember) (r : Led) → Settling m units n i first now old
     → IsLedBy m units now next u x r → Keeps old new n x r → Stands units n u → Stands (only_units (names_at m u)) i g
-    → g.name ≡ x → Settling m units n (i + 1) first next ids new
-settling_more m units n i x first now next ids old new u g r w d k p q named = record {
+    → g.name ≡ x → Settling m units n (i + 1) first next new
+settling_more m units n i x first now next old new u g r w d k p q named = record {
   run = record { table = d.run.table; extends = extends_both w.run.extends d.run.extends };
-  numbers = numbers_wide d.run.extends w.numbers;
   settled = settled_more m units n i x old new u g r w.settled k d.is_led p q named;
 }
 
@@ -194,36 +265,33 @@ settled_unit m units n i u w p l s =
     go k j v g q t o (inl e) = s.all k j v g q t (inr (e, inside k j v g q t e))
     go k j v g q t o (inr e) = s.all k j v g q t (inl (omega arith))
 
-pub settles_unit : {S : Type 0} (m : RootedModel) (units : List UnitPath) (n i : ℕ) (first now : Table)
-    (ids : HashMap ℕ UnitId S) (u : UnitPath) (w : Walks) → Stands units n u → length (only_units (names_at m u)) ≤ i
-    → Settling m units n i first now ids w → SettlesUnit m units (n + 1) first now w
-settles_unit m units n i first now ids u w p l s =
+pub settles_unit : (m : RootedModel) (units : List UnitPath) (n i : ℕ) (first now : Table) (u : UnitPath) (w : Walks)
+    → Stands units n u → length (only_units (names_at m u)) ≤ i
+    → Settling m units n i first now w → SettlesUnit m units (n + 1) first now w
+settles_unit m units n i first now u w p l s =
     record { run = s.run; settled = settled_unit m units n i u w p l s.settled }
 
-pub settling_next : {S : Type 0} (m : RootedModel) (units : List UnitPath) (n : ℕ) (first now next : Table)
-    (ids : HashMap ℕ UnitId S) (old new : Walks) → Settling m units n 0 first now ids old
-    → SettlesUnit m units (n + 1) now next new
-    → Settling m units (n + 1) 0 first next ids new
-settling_next m units n first now next ids old new w s = record {
+pub settling_next : (m : RootedModel) (units : List UnitPath) (n : ℕ) (first now next : Table) (old new : Walks)
+    → Settling m units n 0 first now old → SettlesUnit m units (n + 1) now next new
+    → Settling m units (n + 1) 0 first next new
+settling_next m units n first now next old new w s = record {
   run = record { table = s.run.table; extends = extends_both w.run.extends s.run.extends };
-  numbers = numbers_wide s.run.extends w.numbers;
   settled = s.settled;
 }
 
 -- a unit more of a loop
-pub settled_step : {S : Type 0} (m : RootedModel) (units : List UnitPath) (first now next : Table) (nodes : List Node)
-    (i n : ℕ) (z : Node) (ids : HashMap ℕ UnitId S) (old new : Walks) → i < length nodes → n ≡ i
-    → Tied m units (paths_of first) units nodes
+pub settled_step : (m : RootedModel) (units : List UnitPath) (first now next : Table) (nodes : List Node) (i n : ℕ)
+    (z : Node) (old new : Walks) → i < length nodes → n ≡ i → Tied m units (paths_of first) units nodes
     → ((u : UnitPath) → Stands (paths_of now) (get_or nodes i z).unit u
-    → (get_or nodes i z).outline.body.n ≡ body_of m u → Stands units n u → AreNumbers units (paths_of now) ids
+    → (get_or nodes i z).outline.body.n ≡ body_of m u → Stands units n u
     → IsSettledTo m units n 0 old → SettlesUnit m units (n + 1) now next new)
-    → Settling m units i 0 first now ids old → Settling m units (i + 1) 0 first next ids new
-settled_step m units first now next nodes i n z ids old new l e t call w =
+    → Settling m units i 0 first now old → Settling m units (i + 1) 0 first next new
+settled_step m units first now next nodes i n z old new l e t call w =
     let u = along_back units nodes t i (get_or nodes i z) (stands_get nodes i z l) in
     let at = subst (λ n. Stands units n u.0) (sym e) u.1 in
-    let s = call u.0 (w.run.extends.units (get_or nodes i z).unit u.0 u.2.unit) u.2.outline.body at w.numbers
+    let s = call u.0 (w.run.extends.units (get_or nodes i z).unit u.0 u.2.unit) u.2.outline.body at
     (subst (λ n. IsSettledTo m units n 0 old) (sym e) w.settled) in
-    settling_next m units i first now next ids old new w (subst (λ n. SettlesUnit m units (n + 1) now next new) e s)
+    settling_next m units i first now next old new w (subst (λ n. SettlesUnit m units (n + 1) now next new) e s)
 
 -- each name of each unit is answered
 pub outcomes : (m : RootedModel) (units : List UnitPath) (n : ℕ) (w : Walks) → length units ≤ n

@@ -9,7 +9,7 @@ use Rattle.hierarchy.specs.Models.{RootedModel}
 use Rattle.hierarchy.specs.Units.{UnitPath, start_of, kind_at, numbers}
 use Rattle.unit_walks.specs.Ends.{NameEnds, NamesEnd, Reached, IsStatement, nowhere, arrives}
 use Rattle.unit_walks.specs.Forms.{kind_in, IsFormsFor, IsLookedUp, form_at}
-use Rattle.unit_walks.specs.Tables.{known_at, level_of, paths_of, StandsIf, EndsAt, Means, IsTable, IsSet, IsEntered, Extends}
+use Rattle.unit_walks.specs.Tables.{known_at, level_of, paths_of, StandsIf, EndsAt, Means, IsTable, IsSet, IsForgotten, IsEntered, Extends}
 use Rattle.unit_walks.specs.Walking.{IsFrame, Chain, bottom, above, IsWalking, IsAnswered, After, Steps, weight, Weighs, IsRun, IsKnown, IsReady}
 use Rattle.unit_walks.specs.declared.forms.Forms.{Forms}
 use Rattle.unit_walks.specs.declared.forms.UnitForm.{UnitForm}
@@ -24,7 +24,7 @@ use Rattle.unit_walks.specs.declared.walking.Step.TheVariants.{On, Into, Done}
 use Rattle.ar_base.proofs.Standing.{stands_one}
 use Rattle.ar_base.proofs.Items.{last_one}
 use Rattle.unit_walks.proofs.LookUps.{looked_up}
-use Rattle.unit_walks.proofs.TableSteps.{extends_both, extends_none, set_wide, set_extends, grown_wide, grown_extends, grown_stands, frame_wide, table_set, table_grown, met_there}
+use Rattle.unit_walks.proofs.TableSteps.{extends_both, extends_none, extends_forgotten, table_forgotten, means_forgotten, set_wide, set_extends, grown_wide, grown_extends, grown_stands, frame_wide, table_set, table_grown, met_there}
 use Rattle.unit_walks.proofs.Stepping.{looked_none, looked_inner, looked_clone, looked_alias, entered_level, starts_none, starts_some, none_ends}
 
 -- the walk of the top frame is under way, and what was known stays known
@@ -130,6 +130,15 @@ run_missing s old mid new a x d i r h = let k = r.extends.known a x d i.here in 
 pub known_before : (s : RootedModel) (t : Table) (a x : ℕ) (c : Known) → IsTable s [] t → Some c ≡ known_at t a x
     → IsKnown s t t a x c
 known_before s t a x c k h = found s t t a x c k (extends_none t) h
+
+-- it was found, and is forgotten
+pub known_forgotten : (s : RootedModel) (old mid new : Table) (a x : ℕ) (c : Known) → None ≡ known_at old a x
+    → IsKnown s old mid a x c → IsForgotten mid new a x → IsKnown s old new a x c
+known_forgotten s old mid new a x c not_yet k i = record {
+  table = table_forgotten [] k.table i;
+  extends = extends_forgotten (sym not_yet) k.extends i;
+  known = λ u p. means_forgotten s u c i k.known p;
+}
 
 -- what the forms have of the name
 module _ (s : RootedModel) (forms : Forms) (t : Table) (a : ℕ) (u : UnitPath) (d : Met) (x : ℕ) (f : IsFormsFor s forms)

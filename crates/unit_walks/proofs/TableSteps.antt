@@ -12,7 +12,7 @@ use Rattle.hierarchy.specs.Models.{RootedModel}
 use Rattle.hierarchy.specs.Units.{UnitPath, UnitLevel, body_of, bodies_of, has_number, start_of}
 use Rattle.hierarchy.specs.Tie.{IsSetAt, none, some}
 use Rattle.unit_walks.specs.Forms.{same_pair}
-use Rattle.unit_walks.specs.Tables.{known_at, level_of, path_below, path_met, paths_from, paths_of, Above, StandsIf, HasFrame, EndsAt, Means, IsMet, IsTable, IsSet, IsGrown, Extends}
+use Rattle.unit_walks.specs.Tables.{known_at, level_of, path_below, path_met, paths_from, paths_of, Above, StandsIf, HasFrame, EndsAt, Means, IsMet, IsTable, IsSet, IsForgotten, IsGrown, Extends}
 use Rattle.unit_walks.specs.Walking.{IsFrame, Chain, bottom, above}
 use Rattle.unit_walks.specs.declared.tables.Table.{Table}
 use Rattle.unit_walks.specs.declared.tables.Met.{Met}
@@ -150,6 +150,71 @@ set_extends {old = old} {new = new} {a = a} {x = x} {c = c} i =
     )
     go b y d q (inl g) (inr l) = (d, i.other b y (λ z. l z.1) ∙ q)
     go b y d q (inr g) l = (d, i.other b y (λ z. g z.0) ∙ q)
+
+-- an entry is forgotten
+
+forgotten_paths : {old new : Table} {a x : ℕ} → IsForgotten old new a x → paths_of new ≡ paths_of old
+forgotten_paths i = ap (paths_from []) i.units
+
+forgotten_wide : {old new : Table} {a x : ℕ} → IsForgotten old new a x → IsWider (paths_of old) (paths_of new)
+forgotten_wide i = record { keeps = λ n w p. subst (λ paths. Stands paths n w) (sym (forgotten_paths i)) p }
+
+kept_before : {old new : Table} {a x : ℕ} → IsForgotten old new a x → (b y : ℕ) (d : Known)
+    → known_at new b y ≡ Some d → known_at old b y ≡ Some d
+kept_before {old = old} {new = new} {a = a} {x = x} i b y d q = go (cases_eq b a) (cases_eq y x)
+  where
+    gone : None ≡ Some d → known_at old b y ≡ Some d
+    gone e = cc
+
+    go : (b ≡ a) ⊎ (b ≡ a → ⊥) → (y ≡ x) ⊎ (y ≡ x → ⊥) → known_at old b y ≡ Some d
+    go (inl g) (inl l) =
+        gone (sym i.here ∙ subst (λ y. known_at new a y ≡ Some d) l (subst (λ b. known_at new b y ≡ Some d) g q))
+    go (inl g) (inr l) = sym (i.other b y (λ z. l z.1)) ∙ q
+    go (inr g) l = sym (i.other b y (λ z. g z.0)) ∙ q
+
+pub table_forgotten : {s : RootedModel} {old new : Table} {a x : ℕ} (frames : List Frame) → IsTable s frames old
+    → IsForgotten old new a x → IsTable s frames new
+table_forgotten {s = s} {old = old} {new = new} frames t i = record {
+  main = (forgotten_wide i).keeps 0 [] t.main;
+  units = λ n d w p q. met_wide (forgotten_wide i)
+      (t.units n d w (subst (λ ds. Stands ds n d) i.units p) (old_at n w q));
+  known = λ b y d w p q. subst (λ paths. Means s paths frames b w y d) (sym (forgotten_paths i))
+      (t.known b y d w (old_at b w p) (kept_before i b y d q));
+  within = λ b y d q. subst (λ ds. b < length ds) (sym i.units) (t.within b y d (kept_before i b y d q));
+}
+  where
+    old_at : (n : ℕ) (w : UnitPath) → Stands (paths_of new) n w → Stands (paths_of old) n w
+    old_at n w p = subst (λ paths. Stands paths n w) (forgotten_paths i) p
+
+-- where nothing was known of it before, all that was known stays known
+pub extends_forgotten : {old mid new : Table} {a x : ℕ} → known_at old a x ≡ None → Extends old mid
+    → IsForgotten mid new a x → Extends old new
+extends_forgotten {old = old} {new = new} {a = a} {x = x} not_yet e i = record {
+  units = λ n u p. (forgotten_wide i).keeps n u (e.units n u p);
+  known = λ b y d q. go b y d q (cases_eq b a) (cases_eq y x);
+}
+  where
+    gone : (b y : ℕ) (d : Known) → None ≡ Some d → (k : Known) × (known_at new b y ≡ Some k)
+    gone b y d e = cc
+
+    apart : (b y : ℕ) (d : Known) → known_at old b y ≡ Some d → ((b ≡ a) × (y ≡ x) → ⊥)
+        → (k : Known) × (known_at new b y ≡ Some k)
+    apart b y d q n = let w = e.known b y d q in (w.0, i.other b y n ∙ w.1)
+
+    go : (b y : ℕ) (d : Known) → known_at old b y ≡ Some d → (b ≡ a) ⊎ (b ≡ a → ⊥) → (y ≡ x) ⊎ (y ≡ x → ⊥)
+        → (k : Known) × (known_at new b y ≡ Some k)
+    go b y d q (inl g) (inl l) = gone b y d
+        (sym not_yet ∙ subst (λ y. known_at old a y ≡ Some d) l (subst (λ b. known_at old b y ≡ Some d) g q))
+    go b y d q (inl g) (inr l) = apart b y d q (λ z. l z.1)
+    go b y d q (inr g) l = apart b y d q (λ z. g z.0)
+
+pub means_forgotten : (s : RootedModel) {old new : Table} {a x : ℕ} (u : UnitPath) (c : Known)
+    → IsForgotten old new a x
+    → ((v : UnitPath) → Stands (paths_of old) a v → Means s (paths_of old) [] a v x c) → Stands (paths_of new) a u
+    → Means s (paths_of new) [] a u x c
+means_forgotten s {a = a} {x = x} u c i f p =
+    subst (λ paths. Means s paths [] a u x c) (sym (forgotten_paths i))
+    (f u (subst (λ paths. Stands paths a u) (forgotten_paths i) p))
 
 pub extends_none : (t : Table) → Extends t t
 extends_none t = record { units = λ n u p. p; known = λ a x c p. (c, p) }

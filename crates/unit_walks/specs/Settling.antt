@@ -1,16 +1,15 @@
 -- What each name leads to in each unit, by the numbers of the units.
-use Rattle.std.specs.Prelude.{◌≡◌, ◌<◌, ◌⊎◌, ℕ, nat_eq, List, Option, Some, unwrap_or}
+use Rattle.std.specs.Prelude.{◌≡◌, ◌<◌, ◌⊎◌, ℕ, List, ◌∷◌, length, Option, Some, None, unwrap_or}
 use Rattle.std.specs.HashMap.{get, HashMap}
 use Rattle.ar_base.specs.Lists.{Stands}
 use Rattle.ar_base.specs.Numbers.{UnitId}
 use Rattle.class_table.specs.Members.{NamedMember}
 use Rattle.hierarchy.specs.Models.{RootedModel}
-use Rattle.hierarchy.specs.Units.{UnitPath, names_at}
+use Rattle.hierarchy.specs.Units.{UnitPath, UnitLevel, names_at}
 use Rattle.hierarchy.specs.Walks.{Reaches, Nothing, Loops, LeadsFrom}
 use Rattle.unit_walks.specs.Forms.{same_pair, only_units}
 use Rattle.unit_walks.specs.Walking.{IsRun}
 use Rattle.unit_walks.specs.declared.tables.Table.{Table}
-use Rattle.unit_walks.specs.declared.growing.Node.{Node}
 use Rattle.unit_walks.specs.declared.settling.Walks.{Walks}
 use Rattle.unit_walks.specs.declared.settling.Led.{Led}
 use Rattle.unit_walks.specs.declared.settling.Led.TheVariants as led
@@ -44,14 +43,22 @@ pub record Keeps (old new : Walks) (n x : ℕ) (r : Led) : Type 0 where
   pub here : kept_at new n x ≡ Some r
   pub other : (k y : ℕ) → ((k ≡ n) × (y ≡ x) → ⊥) → kept_at new k y ≡ kept_at old k y
 
--- a unit's number is that of a node that has the number in the table
-pub record AreIds {S : Type 0} (nodes : List Node) (ids : HashMap ℕ UnitId S) : Type 0 where
-  pub each : (n : ℕ) (id : UnitId) → get nat_eq ids n ≡ Some id → (d : Node) × Stands nodes id.n d × (d.unit ≡ n)
+-- the first i of these units, but for the main block, are found by the number of the unit above and by their name
+pub record AreChildrenTo {S : Type 0} (units : List UnitPath) (i : ℕ) (children : HashMap (ℕ × ℕ) UnitId S) : Type
+    0 where
+  pub right : (a x : ℕ) (id : UnitId) → get same_pair children (a, x) ≡ Some id
+      → (l : UnitLevel) × (above : UnitPath) × Stands units a above × Stands units id.n (l ∷ above) × (l.name ≡ x)
+  pub all : (a n : ℕ) (l : UnitLevel) (above : UnitPath) → n < i → Stands units a above → Stands units n (l ∷ above)
+      → (id : UnitId) × (get same_pair children (a, l.name) ≡ Some id)
 
--- a number in the table and the number that is found for it stand for one unit
-pub record AreNumbers {S : Type 0} (units paths : List UnitPath) (ids : HashMap ℕ UnitId S) : Type 0 where
-  pub each : (n : ℕ) (id : UnitId) → get nat_eq ids n ≡ Some id
-      → (v : UnitPath) × Stands paths n v × Stands units id.n v
+-- all of them are
+abbrev pub AreChildren : {S : Type 0} → List UnitPath → HashMap (ℕ × ℕ) UnitId S → Type 0
+AreChildren units children = AreChildrenTo units (length units) children
+
+-- the number is there, and is the unit's
+abbrev pub IsNumber : List UnitPath → UnitPath → Option UnitId → Type 0
+IsNumber units v None = ⊥
+IsNumber units v (Some id) = Stands units id.n v
 
 -- for the first i names of the unit of number n, and for each name of a unit before it, an answer is kept, and each
 -- that is kept is right

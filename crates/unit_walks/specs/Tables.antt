@@ -99,6 +99,12 @@ pub record IsSet (old new : Table) (a x : ℕ) (c : Known) (k : ℕ) : Type 0 wh
   pub here : known_at new a x ≡ Some c
   pub other : (b y : ℕ) → ((b ≡ a) × (y ≡ x) → ⊥) → known_at new b y ≡ known_at old b y
 
+-- one entry is taken away
+pub record IsForgotten (old new : Table) (a x : ℕ) : Type 0 where
+  pub units : new.units.items ≡ old.units.items
+  pub here : known_at new a x ≡ None
+  pub other : (b y : ℕ) → ((b ≡ a) × (y ≡ x) → ⊥) → known_at new b y ≡ known_at old b y
+
 -- a unit is added, with this number
 pub record IsGrown (old new : Table) (d : Met) (n : ℕ) : Type 0 where
   pub units : new.units.items ≡ old.units.items ++ d ∷ []

@@ -32,7 +32,7 @@ pub(crate) struct Forms<'a> {
     /// By body, the names in member order.
     pub lists: Vec<Vec<UnitName<'a>>>,
     /// By body and name, the name's place in its list.
-    pub places: HashMap<(u32, u32), u32>,
+    pub places: HashMap<(usize, u32), usize>,
 }
 
 impl<'a> Forms<'a> {
@@ -45,10 +45,10 @@ impl<'a> Forms<'a> {
     }
 
     // The place of the name in the list of the body.
-    fn place(&self, body: BodyId, name: NameId) -> Option<u32>
+    fn place(&self, body: BodyId, name: NameId) -> Option<usize>
         ensures { result ≡ place_at self.now body.n name.n }
     {
-        self.places.get(&(body.n, name.n)).copied()
+        self.places.get(&(body.n as usize, name.n)).copied()
     }
 
     /// What the name may be a unit by in the body.
@@ -56,7 +56,7 @@ impl<'a> Forms<'a> {
         ensures { result ≡ form_at self.now body.n name.n }
     {
         let place = self.place(body, name)?;
-        let named = self.list(body)?.get(place as usize)?;
+        let named = self.list(body)?.get(place)?;
         Some(named.form)
     }
 }

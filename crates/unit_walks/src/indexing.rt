@@ -15,7 +15,7 @@ ghost use Rattle.unit_walks.specs.Forms.{IsFormsFor, IsUnitName, IsUnitList, Add
 ghost use Rattle.unit_walks.specs.declared.forms.UnitName.{UnitName as Named};
 
 use crate::forms::{Forms, UnitForm, UnitName};
-use ar_base::{BodyId, Memory, NameId, Place};
+use ar_base::{BodyId, Cap, Memory, NameId, Place};
 use ar_syntax::{Member, TypeForm};
 use class_table::{Body, Classes, Owned, TypeBody};
 use std::alloc::Global;
@@ -28,7 +28,7 @@ const MOST_NAMES: usize = 16_777_216;
 type ClassBodies = HashMap<u32, Option<BodyId>>;
 
 /// The places of names in lists, by body and name.
-type Places = HashMap<(u32, u32), u32>;
+type Places = HashMap<(usize, u32), usize>;
 
 // The body of a class.
 fn class_of(body: &TypeBody) -> Option<BodyId>
@@ -206,7 +206,7 @@ fn list_body<'a>(
     for site in all {
         add_site(&mut list, classes, bodies, *site)?;
         if list.len() > room {
-            return Err(Memory {});
+            return Err(Memory::from(Cap::WalkEntries));
         }
     }
     Ok(list)
@@ -237,14 +237,8 @@ fn index_list(places: &mut Places, body: usize, list: &[UnitName]) -> Result<(),
         → l.items ≡ list.now → AreIndexed lists body 0 places.old
         → OnOk result (AreIndexed lists (body + 1) 0 places.new) }
 {
-    let Ok(number) = u32::try_from(body) else {
-        return Err(Memory {});
-    };
     for (place, named) in list.iter().enumerate() {
-        let Ok(place) = u32::try_from(place) else {
-            return Err(Memory {});
-        };
-        places.insert((number, named.name.n), place)?;
+        places.insert((body, named.name.n), place)?;
     }
     Ok(())
 }

@@ -1,8 +1,9 @@
 //! The units of a model's main block, depth first, and what each name leads to in each of them.
 //!
 //! A path of a clone or an alias is walked name by name. What a name in a unit leads to is found
-//! once and kept in a table, so that the cost is linear in the statements and the names on their
-//! paths, whatever the paths share, and nothing but the depth of units is on the stack.
+//! once for all walks and kept in a table; what leads to nothing is found anew where it is asked for
+//! again. So the cost is linear in the statements and the names on their paths, whatever the paths
+//! share, and nothing but the depth of units is on the stack.
 #![tactic(auto)]
 
 mod forms;

@@ -1,19 +1,22 @@
 //! What each name leads to in each unit of the tree.
 
 ghost use Rattle.std.specs.Prelude.{◌≡◌, ◌+◌, ◌≤◌, ℕ, List, [], length, IfOk, OnOk};
-ghost use Rattle.ar_base.specs.Lists.{Stands};
+ghost use Rattle.ar_base.specs.Lists.{Stands, IsOneOf};
 ghost use Rattle.hierarchy.specs.Models.{RootedModel};
 ghost use Rattle.hierarchy.specs.Units.{UnitPath, body_of};
-ghost use Rattle.unit_walks.specs.Forms.{IsFormsFor};
+ghost use Rattle.hierarchy.specs.Listing.{AreUnits};
+ghost use Rattle.hierarchy.specs.Tie.{IsOutline};
+ghost use Rattle.unit_walks.specs.Forms.{AreOnce, IsFormsFor};
 ghost use Rattle.unit_walks.specs.Tables.{paths_of, IsTable, Means};
 ghost use Rattle.unit_walks.specs.Growing.{IsUnfolded, Tied};
-ghost use Rattle.unit_walks.specs.Settling.{IsLed, IsLedBy, Keeps, AreIds, AreNumbers, AreOutcomes, IsSettledTo, SettlesUnit};
+ghost use Rattle.unit_walks.specs.Settling.{IsLed, IsLedBy, Keeps, AreChildrenTo, AreChildren, IsNumber, AreOutcomes, IsSettledTo, SettlesUnit};
 
 use crate::forms::Forms;
 use crate::growing::{Node, Unfolded};
 use crate::tables::{Known, Table};
 use crate::walking::known;
 use ar_base::{Memory, NameId, UnitId};
+use hierarchy::Outline;
 use std::alloc::Global;
 use std::collections::HashMap;
 
@@ -35,8 +38,8 @@ pub struct Walks {
     pub(crate) led: HashMap<(u32, u32), Led>,
 }
 
-/// The numbers of units depth first, by their numbers in the table of walks.
-type Ids = HashMap<u32, UnitId>;
+/// The numbers of units depth first, by the number of the unit above and by their name.
+type Children = HashMap<(u32, u32), UnitId>;
 
 impl Walks {
     /// What the name leads to in the unit. Takes no memory.
@@ -59,32 +62,64 @@ impl Walks {
     }
 }
 
-// The numbers of these units, by their numbers in the table of walks.
-fn ids_of(alloc: Global, nodes: &[Node]) -> Result<Ids, Memory>
-    requires { length nodes.now ≤ 16384 }
-    ensures { IfOk result (AreIds nodes.now) }
+// Keeps the number of a unit, where there is one above it.
+fn add_child(children: &mut Children, outline: Outline, id: UnitId) -> Result<(), Memory>
+    ensures { (m : RootedModel) (units : List UnitPath) (u : UnitPath) → AreOnce m
+        → AreUnits m units → Stands units id.n u → IsOutline m units u outline
+        → AreChildrenTo units id.n children.old
+        → OnOk result (AreChildrenTo units (id.n + 1) children.new) }
 {
-    let mut ids = HashMap::new(alloc);
+    let Some(owner) = outline.owner else {
+        return Ok(());
+    };
+    children.insert((owner.n, outline.name.n), id)?;
+    Ok(())
+}
+
+// The numbers of these units by the numbers of those above them and by their names.
+fn children_of(alloc: Global, nodes: &[Node]) -> Result<Children, Memory>
+    requires { length nodes.now ≤ 16384 }
+    ensures { (m : RootedModel) (units paths : List UnitPath) → AreOnce m → AreUnits m units
+        → Tied m units paths units nodes.now → IfOk result (AreChildren units) }
+{
+    let mut children = HashMap::new(alloc);
     for (place, node) in nodes.iter().enumerate() {
-        ids.insert(node.unit, UnitId::new(place as u32))?;
+        add_child(&mut children, node.outline, UnitId::new(place as u32))?;
     }
-    Ok(ids)
+    Ok(children)
+}
+
+// The number depth first of a unit of the table, which is found from that of the unit above.
+fn id_of(table: &Table, children: &Children, number: u32) -> Option<UnitId>
+    ensures { (m : RootedModel) (units : List UnitPath) (v : UnitPath) → AreOnce m
+        → AreUnits m units → IsTable m [] table.now → AreChildren units children.now
+        → Stands (paths_of table.now) number v → IsOneOf units v → IsNumber units v result }
+{
+    let met = table.unit(number)?;
+    let Some(owner) = met.owner else {
+        return Some(UnitId::new(0));
+    };
+    if owner >= number {
+        return None;
+    }
+    let above = id_of(table, children, owner)?;
+    children.get(&(above.n, met.name.n)).copied()
 }
 
 // What is known of a name, by the numbers of units depth first.
-fn led_by(ids: &Ids, known: Known) -> Result<Led, Memory>
-    ensures { IfOk result (λ r. (m : RootedModel) (units paths : List UnitPath) (a x : ℕ)
-        (u : UnitPath)
-        → AreNumbers units paths ids.now → Means m paths [] a u x known → IsLed m units u x r) }
+fn led_by(table: &Table, children: &Children, known: Known) -> Led
+    ensures { (m : RootedModel) (units : List UnitPath) (a x : ℕ) (u : UnitPath) → AreOnce m
+        → AreUnits m units → IsTable m [] table.now → AreChildren units children.now
+        → IsOneOf units u → Means m (paths_of table.now) [] a u x known → IsLed m units u x result }
 {
     match known {
-        Known::ToUnit(number) => match ids.get(&number) {
-            None => Err(Memory {}),
-            Some(id) => Ok(Led::Unit(*id)),
+        Known::ToUnit(number) => match id_of(table, children, number) {
+            None => Led::Nothing,
+            Some(id) => Led::Unit(id),
         },
-        Known::Nothing => Ok(Led::Nothing),
-        Known::Loops => Ok(Led::Loops),
-        Known::Following => Ok(Led::Loops),
+        Known::Nothing => Led::Nothing,
+        Known::Loops => Led::Loops,
+        Known::Following => Led::Loops,
     }
 }
 
@@ -93,17 +128,17 @@ fn led_from(
     alloc: Global,
     forms: &Forms,
     table: &mut Table,
-    ids: &Ids,
+    children: &Children,
     unit: u32,
     name: NameId,
 ) -> Result<Led, Memory>
     ensures { (m : RootedModel) (units : List UnitPath) (u : UnitPath) → IsFormsFor m forms.now
-        → IsTable m [] table.old → Stands (paths_of table.old) unit u
-        → AreNumbers units (paths_of table.old) ids.now
+        → AreUnits m units → IsTable m [] table.old → Stands (paths_of table.old) unit u
+        → IsOneOf units u → AreChildren units children.now
         → IfOk result (IsLedBy m units table.old table.new u name.n) }
 {
     let known = known(alloc, forms, table, unit, name)?;
-    led_by(ids, known)
+    Ok(led_by(table, children, known))
 }
 
 // Keeps what each name of a unit leads to.
@@ -111,22 +146,22 @@ fn settle_unit(
     alloc: Global,
     forms: &Forms,
     table: &mut Table,
-    ids: &Ids,
+    children: &Children,
     walks: &mut Walks,
     at: UnitId,
     node: Node,
 ) -> Result<(), Memory>
     ensures { (m : RootedModel) (units : List UnitPath) (u : UnitPath) → IsFormsFor m forms.now
-        → IsTable m [] table.old → Stands (paths_of table.old) node.unit u
+        → AreUnits m units → IsTable m [] table.old → Stands (paths_of table.old) node.unit u
         → node.outline.body.n ≡ body_of m u → Stands units at.n u
-        → AreNumbers units (paths_of table.old) ids.now → IsSettledTo m units at.n 0 walks.old
+        → AreChildren units children.now → IsSettledTo m units at.n 0 walks.old
         → OnOk result (SettlesUnit m units (at.n + 1) table.old table.new walks.new) }
 {
     let Some(names) = forms.list(node.outline.body) else {
         return Ok(());
     };
     for named in names {
-        let led = led_from(alloc, forms, table, ids, node.unit, named.name)?;
+        let led = led_from(alloc, forms, table, children, node.unit, named.name)?;
         walks.keep(at, named.name, led)?;
     }
     Ok(())
@@ -141,16 +176,16 @@ fn settle_all(
 ) -> Result<Walks, Memory>
     requires { length nodes.now ≤ 16384 }
     ensures { (m : RootedModel) (units : List UnitPath) → IsFormsFor m forms.now
-        → IsTable m [] table.old → Tied m units (paths_of table.old) units nodes.now
+        → AreUnits m units → IsTable m [] table.old → Tied m units (paths_of table.old) units nodes.now
         → IfOk result (AreOutcomes m units) }
 {
-    let ids = ids_of(alloc, nodes)?;
+    let children = children_of(alloc, nodes)?;
     let mut walks = Walks {
         led: HashMap::new(alloc),
     };
     for (place, node) in nodes.iter().enumerate() {
         let at = UnitId::new(place as u32);
-        settle_unit(alloc, forms, table, &ids, &mut walks, at, *node)?;
+        settle_unit(alloc, forms, table, &children, &mut walks, at, *node)?;
     }
     Ok(walks)
 }

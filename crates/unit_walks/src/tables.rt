@@ -5,15 +5,15 @@ ghost use Rattle.hierarchy.specs.Models.{RootedModel};
 ghost use Rattle.hierarchy.specs.Units.{UnitPath, bodies_of, has_number, start_of};
 ghost use Rattle.ar_base.specs.Lists.{Stands};
 ghost use Rattle.unit_walks.specs.declared.tables.Frame.{Frame as Walk};
-ghost use Rattle.unit_walks.specs.Tables.{known_at, paths_of, StandsIf, IsTable, IsSet, IsGrown};
+ghost use Rattle.unit_walks.specs.Tables.{known_at, paths_of, StandsIf, IsTable, IsSet, IsForgotten, IsGrown};
 
-use ar_base::{BodyId, Memory, NameId};
+use ar_base::{BodyId, Cap, Memory, NameId};
 use ar_syntax::PathStart;
 use std::alloc::Global;
 use std::collections::HashMap;
 
-/// How many names in units are looked at, at most, and how many units are met but for the main block. A model within
-/// the limits has fewer.
+/// How many names in units are known at a time, at most, and how many units are met but for the main block. A model
+/// within the limits has fewer.
 const MOST_KNOWN: u32 = 16_777_216;
 
 /// A unit that a walk has come to.
@@ -49,7 +49,7 @@ pub(crate) struct Table {
     pub units: Vec<Met>,
     /// What is known, by unit and name.
     pub known: HashMap<(u32, u32), Known>,
-    /// How many names were looked at.
+    /// How many names in units are known.
     pub count: u32,
 }
 
@@ -109,11 +109,20 @@ impl Table {
     {
         let count = self.count;
         if count >= MOST_KNOWN {
-            return Err(Memory {});
+            return Err(Memory::from(Cap::WalkEntries));
         }
         self.set(unit, name, known)?;
         self.count = count + 1;
         Ok(())
+    }
+
+    /// Forgets what is known of a name.
+    pub(crate) fn forget(&mut self, unit: u32, name: NameId)
+        ensures { IsForgotten self.old self.new unit name.n }
+    {
+        if self.known.remove(&(unit, name.n)).is_some() {
+            self.count = self.count.saturating_sub(1);
+        }
     }
 
     /// Adds a unit, and gives its number.
@@ -122,7 +131,7 @@ impl Table {
     {
         let place = self.units.len();
         if place > MOST_KNOWN as usize {
-            return Err(Memory {});
+            return Err(Memory::from(Cap::WalkEntries));
         }
         self.units.push(unit)?;
         Ok(place as u32)

@@ -277,7 +277,8 @@ fn discover(
     }
 }
 
-/// What the name leads to in the unit.
+/// What the name leads to in the unit. That it is nothing is not kept in the table: a clone or an alias that names
+/// nothing may stand in far more units than a tree has nodes, and no unit hangs from it.
 pub(crate) fn known(
     alloc: Global,
     forms: &Forms,
@@ -291,6 +292,12 @@ pub(crate) fn known(
 {
     match table.at(unit, name) {
         Some(known) => Ok(known),
-        None => discover(alloc, forms, table, unit, name),
+        None => match discover(alloc, forms, table, unit, name)? {
+            Known::Nothing => {
+                table.forget(unit, name);
+                Ok(Known::Nothing)
+            }
+            found => Ok(found),
+        },
     }
 }

@@ -4,6 +4,21 @@ use Rattle.hierarchy.specs.Listing.{variables, events}
 use Rattle.instantiate.proofs.Joined.{declarations_kept}
 use Rattle.instantiate.proofs.listing.tree_of.Goals as goal
 
+pub name_units-requires : goal.name_units-requires
+name_units-requires c = rw c.deref.ensures.value c.requires
+
+pub variables-requires : goal.variables-requires
+variables-requires c = rw c.deref-2.ensures.value c.requires
+
+pub parameters-requires : goal.parameters-requires
+parameters-requires c = rw c.deref-3.ensures.value c.requires
+
+pub events-requires : goal.events-requires
+events-requires c = rw c.deref-4.ensures.value c.requires
+
+pub observers-requires : goal.observers-requires
+observers-requires c = rw c.deref-5.ensures.value c.requires
+
 pub returns : goal.returns
 returns c = λ t s.
     let o = s.outlines in
@@ -28,7 +43,7 @@ returns c = λ t s.
       events_are = events_are;
       observers_are = observers_are;
       parameters_few = omega (arith, c.if-len.false, c.len.ensures);
-      observers_few = omega (arith, c.if-len-2.false, c.len-else-len.ensures);
+      observers_few = omega (arith, c.if-len-2.false, c.len-2.ensures);
       units_few = omega (arith, nu, fu);
       variables_few = omega (arith, nv, fv);
       events_few = omega (arith, ne, fe);

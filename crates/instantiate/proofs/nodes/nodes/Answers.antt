@@ -1,4 +1,4 @@
-use Rattle.std.proofs.Common.{◌≡◌, ◌<◌, ℕ, ◌++◌, ◌∷◌, [], List, length, None, take, sym, ◌∙◌, ap, subst, arith}
+use Rattle.std.proofs.Common.{◌≡◌, ◌<◌, ℕ, ◌++◌, ◌∷◌, [], List, length, None, take, sym, ◌∙◌, ap, subst, arith, rules}
 use Rattle.std.specs.List.{flat_map}
 use Rattle.std.proofs.lemmas.List.{take_all, append-nil}
 use Rattle.std.proofs.lemmas.List.Concat.{flat_map-append}
@@ -29,7 +29,7 @@ loop-place-preserved c = λ m units h known.
     } in
     let s = stands_get c.args.outlines.now c.loop-place.place none l in
     let w = along_back units c.args.outlines.now h.along c.loop-place.place _ s in
-    let n : c.new.result.n ≡ c.loop-place.place = omega (arith, c.in-Ok.ensures, c.new.ensures) in
+    let n : c.new.result.n ≡ c.loop-place.place = search (rules, c.new.ensures) in
     let test = test_of c.args.listed in
     let there = subst (λ (k : ℕ). Stands units k w.0) (sym n) w.1 in
     let grown = c.in_ok-add_unit.ensures m w.0 h.table.table known w.2.body in

@@ -6,6 +6,7 @@ use Rattle.hierarchy.specs.Units.{names_at}
 use Rattle.hierarchy.specs.Settings.{Named, target_word_of, target_in, declared_in}
 use Rattle.hierarchy.specs.Tie.{HasParameterDomain, HasAttributeOf}
 use Rattle.hierarchy.proofs.Apart.{named_back}
+use Rattle.instantiate.proofs.Parametered.{parameter_domain}
 use Rattle.instantiate.proofs.parameter_lists.typed.Goals as goal
 
 pub returns : goal.returns
@@ -20,7 +21,8 @@ returns c = λ m units t g value h known node k.
       given = g;
       node = node;
       domain = subst (λ (z : MemberKind). HasParameterDomain m.declared z c.in_ok-domain.domain) (sym k)
-          (c.in_ok-domain.ensures m.declared value h.table.table.holds known);
+          (parameter_domain h.table.kept t.unit t.name g _ value _ node.is k
+          (c.in_ok-domain.ensures m.declared h.table.table.holds known));
       value = subst (λ (z : MemberKind). HasAttributeOf m units t z c.in_ok-value.value) (sym k)
           (c.in_ok-value.ensures m units t g value h node target
           (ap (λ (z : MemberKind). declared_in t.unit g.site z) k));

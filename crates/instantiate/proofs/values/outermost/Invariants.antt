@@ -10,4 +10,4 @@ use Rattle.instantiate.proofs.values.outermost.Given as goal
 abbrev pub invariant-loop-level : goal.invariant-loop-level
 invariant-loop-level l = (m : RootedModel) (units : List UnitPath) (u : UnitPath)
     → AreOutlines m units l.classes l.outlines → Stands units l.fn.unit.n u
-    → IsOn m units u (map target_word_of l.fn.target.items) l.at.n (map target_word_of l.target.items) l.found
+    → IsOn m units u (map target_word_of l.fn.target.items) l.at.n l._level (map target_word_of l.target.items) l.found

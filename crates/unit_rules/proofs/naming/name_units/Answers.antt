@@ -12,7 +12,7 @@ loop-place-init c = λ m units o a. subst (λ (ns : List UnitNode). Along (IsUni
 pub loop-place-preserved : goal.loop-place-preserved
 loop-place-preserved c = λ m units o a.
     let at = outline_at o c.loop-place.place c.loop-place-test.true _ in
-    let number : c.new.result.n ≡ c.loop-place.place = search (rules, c.new.ensures, c.in-Ok.ensures) in
+    let number : c.new.result.n ≡ c.loop-place.place = search (rules, c.new.ensures) in
     along_next units c.loop-place.place at.0 c.loop-place.nodes.items c.push.new.self.items c.in_ok-node.node at.1
     (c.in_ok-node.ensures m units at.0 o.table a (subst (λ (n : ℕ). Stands units n at.0) (sym number) at.1) at.2)
     c.in_ok-push.ensures.items (c.loop-place.invariant m units o a)

@@ -1,4 +1,4 @@
-use Rattle.std.proofs.Common.{◌≡◌, ◌<◌, ℕ, length, None, sym, subst, arith}
+use Rattle.std.proofs.Common.{◌≡◌, ◌<◌, ℕ, length, None, sym, subst, arith, rules}
 use Rattle.ar_base.specs.Lists.{Stands}
 use Rattle.ar_base.proofs.Standing.{stands_get, along_back}
 use Rattle.class_table.proofs.Looping.{loop_start, loop_next, loop_end}
@@ -20,7 +20,7 @@ loop-place-preserved c = λ m units o a.
     } in
     let s = stands_get c.args.outlines.now c.loop-place.place none l in
     let w = along_back units c.args.outlines.now o.along c.loop-place.place _ s in
-    let n : c.new-unit.result.n ≡ c.loop-place.place = omega (arith, c.in-Ok.ensures, c.new-unit.ensures) in
+    let n : c.new-unit.result.n ≡ c.loop-place.place = search (rules, c.new-unit.ensures) in
     let there = subst (λ (k : ℕ). Stands units k w.0) (sym n) w.1 in
     loop_next _ _ _ _ _ _ _ s (c.loop-place.invariant m units o a)
     (at_unit m units _ o.along c.loop-place.place _ w.0 _ w.1

@@ -1,4 +1,4 @@
-use Rattle.std.proofs.Common.{length, sym, ap, subst, arith}
+use Rattle.std.proofs.Common.{length, refl, sym, ap, subst, arith}
 use Rattle.ar_base.specs.Lists.{Stands}
 use Rattle.class_table.proofs.Taken.{item_stands}
 use Rattle.unit_walks.proofs.NameLists.{index_put, index_next}
@@ -10,8 +10,8 @@ loop-place-preserved c = λ lists v p e h.
     let at = subst (λ ns. Stands ns c.loop-place.place n) (sym e)
     (item_stands c.args.list.now c.loop-place.place n c.loop-place-test.true c.index-list-place.is) in
     let u = c.in_ok-insert.ensures.updates in
-    index_put lists c.args.body c.loop-place.place c.in-Ok.number c.in-Ok-try_from.place v n c.loop-place.places
-    c.insert.new.self c.in-Ok.ensures.1 c.in-Ok-try_from.ensures.1 p at (c.loop-place.invariant lists v p e h) u.1
+    index_put lists c.args.body c.loop-place.place c.args.body c.loop-place.place v n c.loop-place.places
+    c.insert.new.self refl refl p at (c.loop-place.invariant lists v p e h) u.1
     u.2
 
 pub returns : goal.returns

@@ -13,7 +13,6 @@ ghost use Rattle.unit_walks.specs.Settling.{AreOutcomes};
 ghost use Rattle.unit_rules.specs.Settables.{AreSettables};
 ghost use Rattle.unit_rules.specs.Wrong.{IsSetBefore, BreaksAt, BreaksIn, BreaksUnit};
 
-use crate::owned_at;
 use crate::repeats::Targets;
 use crate::settables::Settables;
 use crate::sites::{owned_at, settings_of};

@@ -16,10 +16,11 @@ pub returns : goal.returns
 returns c = λ d done lists is.
     let e = same_Some _ _ (c.in-Some.ensures d lists.known ∙ is.is_named) in
     let lt = subst (λ (k : ℕ). k < length c.args.bodies.now) (sym e) (lists.listed.there _ is.is_done) in
+    let body = get_or c.args.bodies.now c.in-Some.class.n c.index-bodies-class.result in
     let s = stands_get c.args.bodies.now c.in-Some.class.n c.index-bodies-class.result lt in
     record {
       class = is.class;
       is_named = is.is_named;
-      are_members = rw c.deref.ensures.value (lists.listed.members is.class _ is.is_done
-          (subst (λ (k : ℕ). Stands c.args.bodies.now k _) e s));
+      are_members = rw c.deref.ensures.value (lists.listed.members is.class body is.is_done
+          (subst (λ (k : ℕ). Stands c.args.bodies.now k body) e s));
     }

@@ -1,14 +1,14 @@
 -- Where no body is inside itself, an order has all bodies.
-use Rattle.std.proofs.Common.{◌≡◌, ℕ, zero, suc, ◌+◌, ◌<◌, ◌≤◌, ◌⊎◌, inl, inr, Vec, Global, List, [], ◌∷◌, length, Option, Some, None, refl, sym, ap, ◌∙◌, subst, arith}
+use Rattle.std.proofs.Common.{ℕ, zero, suc, ◌+◌, ◌<◌, ◌≤◌, ◌⊎◌, inl, inr, Vec, Global, List, [], ◌∷◌, length, subst, arith}
 use Rattle.std.proofs.lemmas.Bool.{cases_eq}
 use Rattle.ar_base.specs.Lists.{Stands, IsOneOf}
 use Rattle.ar_base.specs.declared.places.Place.{Place}
-use Rattle.ar_base.proofs.Standing.{stands_within, one_here, one_none, one_first, one_rest, one_cases}
+use Rattle.ar_base.proofs.Standing.{stands_within, one_none, one_first, one_rest, one_cases}
 use Rattle.ar_base.proofs.Few.{AllDiffer, nothing, new, few}
 use Rattle.ar_syntax.specs.declared.items.Model.{Model}
 use Rattle.class_table.specs.Declaring.{Declared, IsDeclared}
 use Rattle.class_table.specs.Rules.{HasInside, class, block, IsWithin, itself, further, BreaksContainment}
-use Rattle.class_table.specs.Rows.{IsInRow, AreInside}
+use Rattle.class_table.specs.Rows.{AreInside}
 use Rattle.class_table.specs.Ordering.{IsOrder, IsComplete}
 use Rattle.class_table.proofs.Nesting.{block_later, inside_there}
 

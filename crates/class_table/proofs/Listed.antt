@@ -93,7 +93,7 @@ none_listed d bodies shown = record {
 pub extends_inside : (d : Declared) (a : ℕ) (o : Owned) (x c : ℕ) → IsOneOf (own_at d a) o → extended o ≡ Some x
     → class_named d x ≡ Some c → HasInside d a c
 extends_inside d a (Nested y p id) x c i e f = cc
-extends_inside d a (Plain m) x c i e f = let n = named (out-Member m) e in inside_class m i n.1
+extends_inside d a (Plain m) x c i e f = let n = named (out-Member m) e in inside_class {p = n.0} m i n.1
   where
     named : (g : MemberForm) → name_extended g ≡ Some x → (p : Place) × NamesClass d g c p
     named (member.Extends y at) e = let s : y.n ≡ x = same_Some _ _ e in (at, extends (ap (class_named d) s ∙ f))

@@ -3,15 +3,15 @@ use Rattle.std.proofs.Common.{◌≡◌, ℕ, zero, suc, ◌+◌, ◌≤◌, ◌
 use Rattle.ar_base.specs.Lists.{Stands, IsOneOf}
 use Rattle.ar_base.specs.Numbers.{NameId, BodyId}
 use Rattle.ar_base.specs.declared.places.Place.{Place}
-use Rattle.ar_base.proofs.Standing.{stands_none, stands_split, stands_within, one_cases, one_none}
+use Rattle.ar_base.proofs.Standing.{stands_none, stands_split, one_cases, one_none}
 use Rattle.ar_syntax.specs.declared.items.Item.{Item}
 use Rattle.ar_syntax.specs.declared.items.Model.{Model}
-use Rattle.ar_syntax.specs.declared.members.Member.{Member, out-Member}
+use Rattle.ar_syntax.specs.declared.members.Member.{Member}
 use Rattle.class_table.specs.Declaring.{MemberForm, TextBody, NamedType, DomainType, ClassType, Declared, Lays, Lays_one, Lays_items, IsDeclared}
 use Rattle.class_table.specs.Declaring.Lays.{none, one_and}
 use Rattle.class_table.specs.Declaring.Lays_one.{plain, block}
 use Rattle.class_table.specs.Declaring.Lays_items.{none as no_items, domain, class as item_class, block as item_block}
-use Rattle.class_table.specs.Members.{own_of, own_at, type_in, class_body, class_named}
+use Rattle.class_table.specs.Members.{own_of, own_at, type_in, class_body}
 use Rattle.class_table.specs.Rules.{NamesClass, extends, instances, HasInside, class as inside_class, block as inside_block}
 use Rattle.class_table.specs.declared.tables.Owned.{Owned}
 use Rattle.class_table.specs.declared.tables.Owned.TheVariants.{Nested}

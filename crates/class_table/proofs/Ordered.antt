@@ -1,5 +1,5 @@
 -- How a state of sorting changes.
-use Rattle.std.proofs.Common.{◌≡◌, ℕ, zero, suc, ◌+◌, ◌<◌, ◌≤◌, ◌⊎◌, inl, inr, Bool, true, false, List, [], ◌∷◌, ◌++◌, Vec, Global, length, set, get_or, replicate, refl, sym, ap, ◌∙◌, subst, arith, length-append}
+use Rattle.std.proofs.Common.{◌≡◌, ℕ, zero, suc, ◌+◌, ◌<◌, ◌≤◌, ◌⊎◌, inl, inr, Bool, true, false, List, [], ◌∷◌, ◌++◌, Vec, Global, length, set, get_or, refl, sym, ap, ◌∙◌, subst, arith, length-append}
 use Rattle.std.proofs.lemmas.Bool.{cases_eq, cases_lt}
 use Rattle.std.proofs.lemmas.List.{length-set}
 use Rattle.std.specs.Vec.{with_item}
@@ -7,7 +7,7 @@ use Rattle.ar_base.specs.Lists.{Stands, IsOneOf}
 use Rattle.ar_base.proofs.Standing.{stands_none, stands_one, stands_get, stands_left, stands_split, stands_within, one_here, one_left, one_right, one_split, one_first, one_rest, one_cases, one_none, only_item}
 use Rattle.class_table.specs.Searching.{marked, IsSeen, OpensOne}
 use Rattle.class_table.specs.Rows.{IsInRow}
-use Rattle.class_table.specs.Ordering.{IsAfter, IsStuck, IsOrder, WaitsFor, IsSorting}
+use Rattle.class_table.specs.Ordering.{IsAfter, IsOrder, WaitsFor, IsSorting}
 use Rattle.class_table.specs.declared.order.Sorting.{Sorting}
 use Rattle.class_table.proofs.Taken.{set_there, set_kept}
 use Rattle.class_table.proofs.Listed.{stands_set_same, stands_set_other}

@@ -1,5 +1,5 @@
 -- The bodies inside each body, row by row.
-use Rattle.std.proofs.Common.{◌≡◌, ℕ, ◌+◌, Vec, Global, List, [], ◌∷◌, ◌++◌, length, Option, Some, None, refl, sym, ap, ◌∙◌, subst, inl, inr, arith}
+use Rattle.std.proofs.Common.{◌≡◌, ℕ, ◌+◌, Vec, Global, List, [], ◌∷◌, ◌++◌, length, Option, Some, sym, ap, ◌∙◌, subst, inl, inr, arith}
 use Rattle.std.proofs.lemmas.Option.{same_Some}
 use Rattle.ar_base.specs.Lists.{Stands, IsOneOf, Along}
 use Rattle.ar_base.specs.declared.places.Place.{Place}
@@ -7,7 +7,7 @@ use Rattle.ar_base.proofs.Standing.{stands_none, stands_one, stands_some, stands
 use Rattle.class_table.specs.Declaring.{Declared}
 use Rattle.class_table.specs.Shown.{inside}
 use Rattle.class_table.specs.Tables.{IsBodyOf}
-use Rattle.class_table.specs.Rows.{IsInRow, AreInside, IsRowOf, AddsInside}
+use Rattle.class_table.specs.Rows.{AreInside, IsRowOf, AddsInside}
 use Rattle.class_table.specs.Rows.AddsInside.{nothing, body as adds_body}
 use Rattle.class_table.specs.declared.tables.Body.{Body}
 use Rattle.class_table.specs.declared.tables.Owned.{Owned}

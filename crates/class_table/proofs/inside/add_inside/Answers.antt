@@ -1,5 +1,4 @@
 use Rattle.std.proofs.Common.{sym}
-use Rattle.class_table.specs.Rows.{AddsInside}
 use Rattle.class_table.specs.Rows.AddsInside.{nothing, body}
 use Rattle.class_table.proofs.inside.add_inside.Goals as goal
 

@@ -1,5 +1,5 @@
-use Rattle.std.proofs.Common.{◌∙◌, ap, arith, length, refl, length-append}
-use Rattle.class_table.proofs.Taken.{item_stands}
+use Rattle.std.proofs.Common.{ap, arith, length}
+use Rattle.class_table.proofs.Taken.{item_stands, length_next}
 use Rattle.class_table.proofs.Rowed.{rows_start, rows_next, rows_end}
 use Rattle.class_table.proofs.inside.all_inside.Goals as goal
 
@@ -13,7 +13,7 @@ pub loop-body-preserved : goal.loop-body-preserved
 loop-body-preserved c =
     let s = item_stands c.args.bodies.now c.loop-body.body-index c.body-item.result (omega arith) c.body-item.is in
     record {
-      long = (let a = ap length c.in_ok-push.ensures.items in let b = length-append c.loop-body.rows.items _ in let h = c.loop-body.invariant.long in omega (arith, a, b, h));
+      long = (let e = length_next _ _ _ c.in_ok-push.ensures.items in omega (arith, e, c.loop-body.invariant.long));
       each = λ d shown. rows_next d _ _ _ _ _ _ c.loop-body.invariant.long s (c.loop-body.invariant.each d shown)
           (rw c.deref.ensures.value at (c.in_ok-row.ensures d shown.known)) c.in_ok-push.ensures.items;
     }

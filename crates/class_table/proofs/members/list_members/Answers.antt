@@ -1,4 +1,4 @@
-use Rattle.std.proofs.Common.{ℕ, List, take, subst, sym, arith, get_or, length}
+use Rattle.std.proofs.Common.{take, subst, sym, arith}
 use Rattle.std.proofs.lemmas.List.{take_all}
 use Rattle.ar_base.proofs.Standing.{stands_get, one_here, along_length}
 use Rattle.class_table.specs.Listing.{AreListed}

@@ -1,4 +1,4 @@
-use Rattle.std.proofs.Common.{ℕ, map, get_or, sym, ◌∙◌, subst, arith}
+use Rattle.std.proofs.Common.{sym, ◌∙◌, subst}
 use Rattle.ar_base.proofs.Standing.{stands_get}
 use Rattle.class_table.specs.Listing.{AreDone}
 use Rattle.class_table.proofs.OwnAt.{own_shown}

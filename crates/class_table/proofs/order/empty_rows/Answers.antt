@@ -1,4 +1,4 @@
-use Rattle.std.proofs.Common.{◌≡◌, ℕ, ◌+◌, [], ◌∷◌, length, ap, ◌∙◌, arith, length-append}
+use Rattle.std.proofs.Common.{◌≡◌, ◌+◌, [], ◌∷◌, length, ap, ◌∙◌, arith, length-append}
 use Rattle.class_table.proofs.Ordered.{no_rows, empty_more}
 use Rattle.class_table.proofs.order.empty_rows.Goals as goal
 

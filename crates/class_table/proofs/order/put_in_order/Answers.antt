@@ -1,6 +1,5 @@
-use Rattle.std.proofs.Common.{◌≡◌, ℕ, ◌<◌, List, [], length, sym, subst, ◌∙◌, arith}
+use Rattle.std.proofs.Common.{ℕ, List, sym, subst, ◌∙◌, arith}
 use Rattle.ar_base.specs.Lists.{IsOneOf}
-use Rattle.class_table.specs.Ordering.{IsSorting}
 use Rattle.class_table.proofs.order.put_in_order.Goals as goal
 
 pub settle_all-requires : goal.settle_all-requires

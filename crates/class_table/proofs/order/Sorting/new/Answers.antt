@@ -1,4 +1,4 @@
-use Rattle.std.proofs.Common.{◌≡◌, Bool, false, List, length, replicate, sym, ap, ◌∙◌, arith, rules, refl}
+use Rattle.std.proofs.Common.{◌≡◌, false, length, replicate, ap, ◌∙◌, rules, refl}
 use Rattle.std.proofs.lemmas.List.{length-replicate}
 use Rattle.class_table.proofs.Searches.{none_open}
 use Rattle.class_table.proofs.Ordered.{sorting_start}

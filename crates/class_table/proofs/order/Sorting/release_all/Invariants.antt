@@ -1,4 +1,4 @@
-use Rattle.std.proofs.Common.{◌≡◌, ℕ, List, Vec, Global, [], length}
+use Rattle.std.proofs.Common.{ℕ, List, Vec, Global, []}
 use Rattle.class_table.specs.Ordering.{IsSorting}
 use Rattle.class_table.proofs.order.Sorting.release_all.Given as goal
 

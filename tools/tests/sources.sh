@@ -17,8 +17,14 @@ at_most() {
   [ -n "$count" ] && [ "$count" -le "$most" ] || { echo "$count, and at most $most were left"; return 1; }
 }
 
-point "no further place answers want of memory by itself" at_most 66 tools/memory_places
-point "no further body of a function is in two files" at_most 26 tools/twins
+point "no further place answers want of memory by itself" at_most 40 tools/memory_places
+point "no further body of a function is in two files" at_most 22 tools/twins
+# Memory that is refused call by call, and in a small room; every 97th call here, and by hand each.
+if command -v cc >/dev/null; then
+  point "where memory is refused a run ends soon, with its answer or with status 9" tools/short_memory "$ALTARICA" 97
+else
+  echo "skipped: runs where memory is refused (apt-get install gcc)"
+fi
 point "mutated models end with a status, and none for want of memory" tools/mutate "$ALTARICA" 3000
 
 # Each name of a definition that must be believed has one meaning, and PROMISES names their files and counts their lines.

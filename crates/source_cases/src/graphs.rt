@@ -1,5 +1,5 @@
-//! Every graph on up to four bodies, by where they stand in each other and by what they extend and have instances of: the
-//! program must say that a body contains itself exactly where the graph says so, and show the first type name from which
+//! Every graph on up to four bodies, by where they stand in each other and by what they extend or have instances of; with up
+//! to nine names of types also those that have both. The program must say that a body contains itself exactly where the graph says so, and show the first type name from which
 //! the body that has it is reached again.
 
 use ar_base::{Place, RuleFault};

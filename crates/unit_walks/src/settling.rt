@@ -190,8 +190,8 @@ fn settle_all(
     Ok(walks)
 }
 
-/// Walks every clone and alias of every unit, once, and tells what each name leads to. Takes memory
-/// linear in the names of the units. The outlines stay as they are.
+/// Walks every clone and alias of every unit, and tells what each name leads to. Takes memory linear
+/// in the names of the units. The outlines stay as they are.
 pub fn settle(alloc: Global, unfolded: &mut Unfolded) -> Result<Walks, Memory>
     requires { length unfolded.old.nodes.items ≤ 16384 }
     ensures walks { (m : RootedModel) (units : List UnitPath) → IsUnfolded m units unfolded.old

@@ -102,7 +102,7 @@ impl Table {
         Ok(())
     }
 
-    /// Sets what is known of a name that is looked at for the first time.
+    /// Sets what is known of a name of which nothing is kept.
     pub(crate) fn add(&mut self, unit: u32, name: NameId, known: Known) -> Result<(), Memory>
         ensures set { OnOk result (IsSet self.old self.new unit name.n known 1) }
         ensures room { OnOk result (self.old.count < 16777216) }

@@ -1,4 +1,5 @@
-//! Walks along paths. What each name in a unit leads to is found once.
+//! Walks along paths. What each name in a unit leads to is found once; what leads to nothing is found anew where it is
+//! asked for again.
 
 ghost use Rattle.std.specs.Prelude.{◌≡◌, List, [], ◌∷◌, true, IfOk, OnOk, Some};
 ghost use Rattle.ar_base.specs.Lists.{Stands};
@@ -79,7 +80,7 @@ fn enter(table: &mut Table, unit: u32, met: Met) -> Result<u32, Memory>
     Ok(number)
 }
 
-// A clone or an alias that is met for the first time.
+// A clone or an alias of which nothing is kept.
 fn follow<'a>(
     table: &mut Table,
     top: &Frame<'a>,
@@ -189,7 +190,7 @@ fn run<'a>(
     }
 }
 
-// Walks a statement that is met for the first time.
+// Walks a statement of which nothing is kept.
 fn walk<'a>(
     alloc: Global,
     forms: &Forms<'a>,

@@ -1,5 +1,5 @@
 -- Families made over modes are those of the operands, and what an answer by them says.
-use Rattle.std.proofs.Common.{◌≡◌, ◌≤◌, ℕ, Bool, List, [], length, get_or, filter, Result, Ok, Err, Option, Some, None, refl, sym, ap, ◌∙◌, subst, arith}
+use Rattle.std.proofs.Common.{◌≡◌, ◌≤◌, ℕ, Bool, List, [], length, get_or, filter, Result, Ok, Err, IfOk, refl, sym, ap, ◌∙◌, subst, arith}
 use Rattle.std.specs.List.{All}
 use Rattle.std.proofs.lemmas.List.Elements.{All-nil, All-get_or}
 use Rattle.ar_base.proofs.Standing.{stands_one, stands_within, stands_get}
@@ -21,6 +21,8 @@ use Rattle.mode_nodes.specs.Diagrams as modes
 use Rattle.mode_diagrams.specs.declared.trees.NumberedTree.{NumberedTree}
 use Rattle.mode_diagrams.specs.Trees.{edges_of}
 use Rattle.mode_diagrams.specs.Agreement.{Agrees, AreClosed}
+use Rattle.mode_diagrams.specs.declared.drawing.Undrawn.{Undrawn}
+use Rattle.mode_diagrams.specs.declared.drawing.Undrawn.TheVariants as Undrawn
 use Rattle.mode_diagrams.specs.Numbers.{HasFewEdges, IsByModes}
 use Rattle.mode_diagrams.specs.Sets.{AreSmall, HasSets, IsTrueFrom}
 use Rattle.mode_diagrams.specs.declared.listing.Listed.{Listed}
@@ -30,8 +32,10 @@ use Rattle.gate_diagrams.specs.Needed.IsNeeded.{of_signed}
 use Rattle.gate_diagrams.specs.declared.answer.Drawn.{Drawn}
 use Rattle.gate_diagrams.specs.declared.answer.Drawn.TheVariants.{Conflicts, Cuts}
 use Rattle.gate_diagrams.specs.declared.answer.Family.{Family as Answered}
+use Rattle.gate_diagrams.specs.declared.by_modes.Unanswered.{Unanswered}
+use Rattle.gate_diagrams.specs.declared.by_modes.Unanswered.TheVariants.{Beyond, Nodes}
 use Rattle.gate_diagrams.specs.Drawing.{AreMarks}
-use Rattle.gate_diagrams.specs.ByModes.{IsListed, AnswersByModes}
+use Rattle.gate_diagrams.specs.ByModes.{IsListed, AnswersByModes, unanswered_of}
 use Rattle.gate_diagrams.proofs.Answering.{least_drawn, needed_conflict, full_conflict, sets_conflict, needed_both, full_both, sets_top}
 use Rattle.gate_diagrams.proofs.Filters.{of_members}
 use Rattle.gate_diagrams.proofs.FirableSets.{listed_one}
@@ -82,7 +86,7 @@ module _ (ns : List NumberedTree) (gates : List Gate) (o : Operand) (s : modes.S
   family_is forest b all l = listed_one f (filter (value_at gates o) all) (lists_listed (lists_true forest b))
       (lists_listed (true_lists forest (value_at gates o) (of_members gates o) all l))
 
-pub is_listed : (ns : List NumberedTree) (gates : List Gate) (o : Operand) (s : modes.Stored) (n : ℕ) (l : Listed)
+is_listed : (ns : List NumberedTree) (gates : List Gate) (o : Operand) (s : modes.Stored) (n : ℕ) (l : Listed)
     → Agrees ns gates o s n → IsSoundStore l.store → IsNumber l.store l.root.n
     → HasSets (IsTrueFrom ns 0 s n) (family l.store l.root.n) → IsListed ns gates o l
 is_listed ns gates o s n l a sound in_store h = record {
@@ -90,6 +94,13 @@ is_listed ns gates o s n l a sound in_store h = record {
   in_store = in_store;
   is = family_is ns gates o s n a (family l.store l.root.n) (sound.families l.root.n in_store) h;
 }
+
+pub listed_or_not : (ns : List NumberedTree) (gates : List Gate) (o : Operand) (s : modes.Stored) (n : ℕ)
+    → Agrees ns gates o s n → (r : Result Listed Undrawn) → IfOk r (λ l. IsSoundStore l.store)
+    → IfOk r (λ l. IsNumber l.store l.root.n) → IfOk r (λ l. HasSets (IsTrueFrom ns 0 s n) (family l.store l.root.n))
+    → IfOk r (λ l. IsListed ns gates o l)
+listed_or_not ns gates o s n a (Ok l) sound in_store h = is_listed ns gates o s n l a sound in_store h
+listed_or_not ns gates o s n a (Err e) sound in_store h = tt
 
 -- ---- the minimal sets
 module _ (all : Family) (gates : List Gate) (o : Operand) (whole : Family) (is : whole ≡ family_at all gates o)
@@ -112,14 +123,18 @@ module _ (all : Family) (gates : List Gate) (o : Operand) (whole : Family) (is :
 -- ---- the answer
 module _ (trees : List ModeTree) (table : Table) (all : Family) (is_all : AreListed (IsFirableOf trees) all) (limit : ℕ)
   where
-    abbrev Right : Result (Option Drawn) NodeFault → Type 0
+    abbrev Right : Result Drawn Unanswered → Type 0
     Right r = AnswersByModes trees table all limit r
 
-    pub none_right : Right (Ok None)
-    none_right = record { sets = tt; needed = tt; within = tt; full = λ e. let w : ⊥ = cc in absurd w }
+    pub beyond_right : Right (Err Beyond)
+    beyond_right = record { sets = tt; needed = tt; within = tt; full = λ e. let w : ⊥ = cc in absurd w }
 
-    pub memory_right : Right (Err OutOfMemory)
+    pub memory_right : Right (Err (Nodes OutOfMemory))
     memory_right = record { sets = tt; needed = tt; within = tt; full = λ e. let w : ⊥ = cc in absurd w }
+
+    pub undrawn_right : (u : Undrawn) → Right (Err (unanswered_of u))
+    undrawn_right Undrawn.Beyond = beyond_right
+    undrawn_right Undrawn.Memory = memory_right
 
     abbrev DrawsConflict : Stored → Stored → Result NodeId NodeFault → Type 0
     DrawsConflict s t r = Draws (IsNeeded all table.gates table.conflict)
@@ -135,7 +150,7 @@ module _ (trees : List ModeTree) (table : Table) (all : Family) (is_all : AreLis
       is_family : IsFamily all
       is_family = (listed_lists is_all).is_family
 
-      pub conflict_refused : (e : NodeFault) → DrawsConflict s0 s1 (Err e) → Right (Err e)
+      pub conflict_refused : (e : NodeFault) → DrawsConflict s0 s1 (Err e) → Right (Err (Nodes e))
       conflict_refused e d = record {
         sets = tt;
         needed = tt;
@@ -148,7 +163,7 @@ module _ (trees : List ModeTree) (table : Table) (all : Family) (is_all : AreLis
 
       module _ (n : NodeId) (d : DrawsConflict s0 s1 (Ok n)) where
         pub conflicts_right : (f : Answered) → f.store ≡ s1 → f.root ≡ n → IsSoundStore s1 → (n.n ≡ 0 → ⊥)
-            → Right (Ok (Some (Conflicts f)))
+            → Right (Ok (Conflicts f))
         conflicts_right f e i k some =
             let x = sets_conflict table all is_family s0 s1 stored n d k some trees is_all in
             let y = subst (λ z. IsNumber z n.n
@@ -165,7 +180,7 @@ module _ (trees : List ModeTree) (table : Table) (all : Family) (is_all : AreLis
             }
 
         module _ (s2 : Stored) (zero_is : n.n ≡ 0) where
-          pub top_refused : (e : NodeFault) → DrawsTop s1 s2 (Err e) → Right (Err e)
+          pub top_refused : (e : NodeFault) → DrawsTop s1 s2 (Err e) → Right (Err (Nodes e))
           top_refused e t = record {
             sets = tt;
             needed = tt;
@@ -178,7 +193,7 @@ module _ (trees : List ModeTree) (table : Table) (all : Family) (is_all : AreLis
           }
 
           pub cuts_right : (m : NodeId) (f : Answered) → f.store ≡ s2 → f.root ≡ m → IsSoundStore s2 → DrawsTop s1 s2 (Ok m)
-              → Right (Ok (Some (Cuts f)))
+              → Right (Ok (Cuts f))
           cuts_right m f e i k t =
               let x = sets_top table all is_family s0 s1 stored n d s2 m zero_is t trees is_all in
               let y = subst (λ z. IsNumber z m.n

@@ -1,6 +1,6 @@
 //! The least firable sets, drawn over the modes of the trees.
 
-ghost use Rattle.std.specs.Prelude.{◌≡◌, ◌≤◌, List, length, true};
+ghost use Rattle.std.specs.Prelude.{◌≤◌, List, length};
 ghost use Rattle.std.specs.List.{All};
 ghost use Rattle.ar_firing.specs.Forest.{ModeTree};
 ghost use Rattle.ar_firing.specs.Listed.{AreListed};
@@ -16,21 +16,68 @@ ghost use Rattle.gate_diagrams.specs.ByModes.{AnswersByModes};
 
 use crate::answer::{Drawn, Family};
 use crate::listed::{least_listed, listed_at};
+use ar_base::Memory;
 use eq_core::Equations;
-use mode_diagrams::{NumberedTree, numbered};
+use mode_diagrams::{NumberedTree, Undrawn, in_order, numbered};
 use mode_trees::Forest;
 use std::alloc::Global;
 use zdd_nodes::NodeFault;
 use zdd_ops::Ops;
 
-/// The answer by mode diagrams; None where they do not suffice, or where the trees do not stand in the order of their
-/// events, so that families would not be made node by node.
+/// Why there is no answer by mode diagrams.
+#[derive(Clone, Copy)]
+pub(crate) enum Unanswered {
+    /// Mode diagrams do not suffice, or the events of trees stand in turn, so that families would not be made node by
+    /// node.
+    Beyond,
+    /// The store of the answer got no node.
+    Nodes(NodeFault),
+}
+
+impl From<NodeFault> for Unanswered {
+    ghost use Rattle.std.specs.Prelude.{◌≡◌};
+    ghost use Rattle.gate_diagrams.specs.declared.by_modes.Unanswered.TheVariants as why;
+
+    ghost from_gives = { λ fault e. e ≡ why.Nodes fault };
+
+    fn from(fault: NodeFault) -> Self {
+        Unanswered::Nodes(fault)
+    }
+}
+
+impl From<Undrawn> for Unanswered {
+    ghost use Rattle.std.specs.Prelude.{◌≡◌};
+    ghost use Rattle.gate_diagrams.specs.ByModes.{unanswered_of};
+
+    ghost from_gives = { λ undrawn e. e ≡ unanswered_of undrawn };
+
+    fn from(undrawn: Undrawn) -> Self {
+        match undrawn {
+            Undrawn::Beyond => Unanswered::Beyond,
+            Undrawn::Memory => Unanswered::Nodes(NodeFault::Memory),
+        }
+    }
+}
+
+impl From<Memory> for Unanswered {
+    ghost use Rattle.std.specs.Prelude.{◌≡◌};
+    ghost use Rattle.zdd_nodes.specs.declared.NodeFault.TheVariants as fault;
+    ghost use Rattle.gate_diagrams.specs.declared.by_modes.Unanswered.TheVariants as why;
+
+    ghost from_gives = { λ _ e. e ≡ why.Nodes fault.Memory };
+
+    fn from(memory: Memory) -> Self {
+        Unanswered::Nodes(memory.into())
+    }
+}
+
+/// The answer by mode diagrams, over the trees in the order of their events.
 pub(crate) fn by_modes(
     alloc: Global,
     equations: &Equations,
     forest: &Forest,
     limit: u32,
-) -> Result<Option<Drawn>, NodeFault>
+) -> Result<Drawn, Unanswered>
     requires limit { limit ≤ 16777216 }
     requires table { IsOrderedTable (table_of equations.now) }
     requires trees { AreTrees (trees_of (λ n. n) forest.now) }
@@ -38,11 +85,14 @@ pub(crate) fn by_modes(
         → AnswersByModes (trees_of (λ n. n) forest.now) (table_of equations.now) all limit
         result }
 {
-    let Some(trees) = numbered(alloc, &forest.trees)? else {
-        return Ok(None);
+    let Some(numbers) = numbered(alloc, &forest.trees)? else {
+        return Err(Unanswered::Beyond);
     };
-    if !suit(&trees) {
-        return Ok(None);
+    let Some(trees) = in_order(numbers)? else {
+        return Err(Unanswered::Beyond);
+    };
+    if trees.len() > u32::MAX as usize {
+        return Err(Unanswered::Beyond);
     }
     answer_by_modes(alloc, equations, &trees, limit)
 }
@@ -53,7 +103,7 @@ fn answer_by_modes(
     equations: &Equations,
     trees: &[NumberedTree],
     limit: u32,
-) -> Result<Option<Drawn>, NodeFault>
+) -> Result<Drawn, Unanswered>
     requires limit { limit ≤ 16777216 }
     requires table { IsOrderedTable (table_of equations.now) }
     requires few { length trees.now ≤ 4294967295 }
@@ -64,57 +114,19 @@ fn answer_by_modes(
         → AreListed (IsFirableOf forest) all
         → AnswersByModes forest (table_of equations.now) all limit result }
 {
-    let Some(conflicts) = listed_at(alloc, trees, &equations.gates, equations.conflict)? else {
-        return Ok(None);
-    };
+    let conflicts = listed_at(alloc, trees, &equations.gates, equations.conflict)?;
     let mut ops = Ops::new(alloc, limit);
     let conflict = least_listed(alloc, &mut ops, &conflicts)?;
     if conflict.n != 0 {
-        return Ok(Some(Drawn::Conflicts(Family {
+        return Ok(Drawn::Conflicts(Family {
             store: ops.into_store(),
             root: conflict,
-        })));
+        }));
     }
-    let Some(cuts) = listed_at(alloc, trees, &equations.gates, equations.top)? else {
-        return Ok(None);
-    };
+    let cuts = listed_at(alloc, trees, &equations.gates, equations.top)?;
     let top = least_listed(alloc, &mut ops, &cuts)?;
-    Ok(Some(Drawn::Cuts(Family {
+    Ok(Drawn::Cuts(Family {
         store: ops.into_store(),
         root: top,
-    })))
-}
-
-// Whether drawing by modes takes few nodes: the trees stand in the order of their events.
-fn suit(trees: &[NumberedTree]) -> bool
-    ensures { result ≡ true → length trees.now ≤ 4294967295 }
-{
-    trees.len() <= u32::MAX as usize && follow_each_other(trees)
-}
-
-// Whether all events of a tree are below those of the trees after it.
-fn follow_each_other(trees: &[NumberedTree]) -> bool {
-    let mut start = 0;
-    for tree in trees {
-        let Some(end) = end_from(tree, start) else {
-            return false;
-        };
-        start = end;
-    }
-    true
-}
-
-// One more than the greatest event of the tree, or `start` where it has none; None where it has an event below `start`.
-fn end_from(tree: &NumberedTree, start: u64) -> Option<u64> {
-    let mut end = start;
-    for edge in &tree.edges {
-        let event = u64::from(edge.event.n);
-        if event < start {
-            return None;
-        }
-        if event >= end {
-            end = event + 1;
-        }
-    }
-    Some(end)
+    }))
 }

@@ -12,9 +12,10 @@ ghost use Rattle.gate_diagrams.specs.NodeLimits.{NodesMay};
 ghost use Rattle.gate_diagrams.specs.Answers.{IsAnswer, AreNeeded, store_of};
 
 use crate::answer::{Drawn, answer};
-use crate::by_modes::by_modes;
+use crate::by_modes::{Unanswered, by_modes};
 use crate::firable::firable_sets;
 use crate::paths::forest_paths;
+use ar_base::{Cap, Memory};
 use eq_core::Equations;
 use mode_trees::Forest;
 use std::alloc::Global;
@@ -48,14 +49,28 @@ pub fn diagrams(
         → NodesMay (trees_of (λ n. n) forest.now) (table_of equations.now) limit }
 {
     let mut trees = Ops::new(alloc, MOST_NODES);
-    let Ok(paths) = forest_paths(alloc, &mut trees, &forest.trees) else {
-        return Err(NodeFault::Memory);
+    let paths = match forest_paths(alloc, &mut trees, &forest.trees) {
+        Ok(paths) => paths,
+        Err(fault) => return Err(by_cap(fault)),
     };
     let trees = trees.into_store();
-    if let Some(drawn) = by_modes(alloc, equations, forest, limit)? {
-        return Ok(drawn);
+    match by_modes(alloc, equations, forest, limit) {
+        Ok(drawn) => return Ok(drawn),
+        Err(Unanswered::Nodes(fault)) => return Err(fault),
+        Err(Unanswered::Beyond) => {}
     }
     let mut ops = Ops::new(alloc, limit);
     let firable = firable_sets(alloc, &mut ops, &trees, paths)?;
     answer(alloc, ops, equations, firable)
+}
+
+// Why the paths were not drawn. Their store is a table of a walk over the trees of all units, and its limit a cap of the
+// program's own, which stands for no caller's limit.
+fn by_cap(fault: NodeFault) -> NodeFault
+    ensures { result ≡ NodeFault.Memory }
+{
+    match fault {
+        NodeFault::Full => Memory::from(Cap::WalkEntries).into(),
+        NodeFault::Memory => NodeFault::Memory,
+    }
 }

@@ -1,6 +1,6 @@
 //! The family of an operand, made over the modes of the trees.
 
-ghost use Rattle.std.specs.Prelude.{◌≡◌, ◌≤◌, IfOk, IfSome, OnOk, List, length, map};
+ghost use Rattle.std.specs.Prelude.{◌≡◌, ◌≤◌, IfOk, OnOk, List, length, map};
 ghost use Rattle.std.specs.List.{All};
 ghost use Rattle.zdd_families.specs.Families.{Family as Sets, minimal};
 ghost use Rattle.zdd_nodes.specs.Nodes.{family, IsNumber, IsSoundStore, Draws};
@@ -14,7 +14,6 @@ ghost use Rattle.gate_diagrams.specs.Needed.{family_at, IsNeeded};
 ghost use Rattle.gate_diagrams.specs.ByModes.{IsListed};
 
 use crate::cone::cone;
-use ar_base::Memory;
 use eq_core::{Gate, Operand};
 use mode_diagrams::{Listed, NumberedTree, Undrawn, copied, draw, list_sets};
 use mode_nodes::Diagrams;
@@ -25,35 +24,26 @@ use zdd_ops::Ops;
 // The most nodes of mode diagrams. They stand for no family, and no caller's limit counts them.
 const MOST_DIAGRAMS: u32 = 4_194_304;
 
-/// The family of the firable sets at which the operand is true, in a store of its own; None where mode diagrams do not
-/// suffice for it.
+/// The family of the firable sets at which the operand is true, in a store of its own.
 pub(crate) fn listed_at(
     alloc: Global,
     trees: &[NumberedTree],
     gates: &[Gate],
     root: Operand,
-) -> Result<Option<Listed>, Memory>
+) -> Result<Listed, Undrawn>
     requires few { length trees.now ≤ 4294967295 }
     requires numbered { AreNumbered trees.now }
     requires apart { AreApart trees.now }
     requires small { All HasFewEdges trees.now }
     requires ordered { AreOrdered (map gate_of gates.now) }
     requires root_in { IsBelow (length gates.now) (operand_of root) }
-    ensures { IfOk result (λ found. IfSome found
-        (λ l. IsListed trees.now (map gate_of gates.now) (operand_of root) l)) }
+    ensures { IfOk result
+        (λ l. IsListed trees.now (map gate_of gates.now) (operand_of root) l) }
 {
     let marks = cone(alloc, gates, root)?;
     let mut diagrams = Diagrams::new(alloc, MOST_DIAGRAMS);
-    let drawn = match draw(alloc, &mut diagrams, trees, gates, &marks, root) {
-        Ok(drawn) => drawn,
-        Err(Undrawn::Beyond) => return Ok(None),
-        Err(Undrawn::Memory) => return Err(Memory {}),
-    };
-    match list_sets(alloc, trees, &diagrams, drawn) {
-        Ok(listed) => Ok(Some(listed)),
-        Err(NodeFault::Full) => Ok(None),
-        Err(NodeFault::Memory) => Err(Memory {}),
-    }
+    let drawn = draw(alloc, &mut diagrams, trees, gates, &marks, root)?;
+    list_sets(alloc, trees, &diagrams, drawn)
 }
 
 /// The minimal sets of a family that stands in a store of its own. Of its nodes none but those of the family come into

@@ -10,7 +10,7 @@ use Rattle.firable_families.specs.Firable.{LeadsToMode, root, edge, IsFirableOf}
 use Rattle.mode_nodes.specs.Diagrams.{mode_of}
 use Rattle.mode_diagrams.specs.declared.trees.NumberedTree.{NumberedTree}
 use Rattle.mode_diagrams.specs.Trees.{edges_of, HasEvent, IsSetFrom}
-use Rattle.mode_diagrams.specs.Numbers.{AreNumbersOf, none, passed, one_and, IsNumberOf, IsByModes, FirableByModes}
+use Rattle.mode_diagrams.specs.Numbers.{AreNumbersOf, none, passed, one_and, IsNumberOf, IsByModes}
 use Rattle.mode_diagrams.proofs.Ends.{IsPathTo, number_of, path_of, number_within, is_numbered}
 
 abbrev AreTreesEach : List ModeTree → Type 0
@@ -136,7 +136,7 @@ collect _ _ each (one_and {tree = tree} {n = n} {trees = trees} {ns = ns} is res
     by q p more (suc j) other st l o = let x = more.back j other st l o in
         record { place = suc x.place; n = x.n; stands = x.stands; to = x.to }
 
-mode_end : (ms : List ℕ) (k : ℕ) → length ms ≤ k → mode_of ms k ≡ 0
+pub mode_end : (ms : List ℕ) (k : ℕ) → length ms ≤ k → mode_of ms k ≡ 0
 mode_end [] k h = refl
 mode_end (m ∷ ms) zero h = let wrong : ⊥ = omega (arith, h) in absurd wrong
 mode_end (m ∷ ms) (suc k) h = mode_end ms k (omega (arith, h))
@@ -260,7 +260,7 @@ module _ (trees : List ModeTree) (ns : List NumberedTree) (t : AreTrees trees) (
       let row = stands_some b.0.edges j (omega (arith, b.2.long, stands_within (edges_of n) j h.edge h.one.stands)) in
       (b.0, row.0, b.1, record { place = j; stands = row.1 }, sym (b.2.event j row.0 h.edge row.1 h.one.stands) ∙ h.is)
 
-  by_modes : IsByModes trees ns
+  pub by_modes : IsByModes trees ns
   by_modes = record {
     numbered = record {
       each = λ k n st. let b = stands_at are k n st in is_numbered b.0 (t.each (place_of are k) b.0 b.1) n b.2;
@@ -274,6 +274,3 @@ module _ (trees : List ModeTree) (ns : List NumberedTree) (t : AreTrees trees) (
     modes = modes_of;
     firable = firable_of;
   }
-
-pub firable_by_modes : FirableByModes
-firable_by_modes trees ns t are = by_modes trees ns t are

@@ -1,3 +1,4 @@
+pub mod Arranging
 pub mod Copying
 pub mod Ends
 pub mod Firable
@@ -7,6 +8,8 @@ pub mod Holding
 pub mod Laws
 pub mod Making
 pub mod Pathing
+pub mod Placing
 pub mod Putting
 pub mod Stepping
 pub mod Tabling
+pub mod TreeOrder

@@ -1,14 +1,14 @@
 -- A tree's edges by number, one after the other.
-use Rattle.std.proofs.Common.{◌≡◌, ⊎_elim, ℕ, zero, suc, ◌+◌, ◌==◌, true, List, [], ◌∷◌, ◌++◌, length, length-append, refl, sym, ap, ◌∙◌, subst, arith}
-use Rattle.ar_base.specs.Lists.{Stands}
-use Rattle.ar_base.proofs.Standing.{stands_one, stands_none, stands_split}
+use Rattle.std.proofs.Common.{◌≡◌, ⊎_elim, ℕ, zero, suc, ◌+◌, ◌≤◌, ◌==◌, true, List, [], ◌∷◌, ◌++◌, length, length-append, refl, sym, ap, ◌∙◌, subst, arith}
+use Rattle.ar_base.specs.Lists.{Stands, IsOneOf}
+use Rattle.ar_base.proofs.Standing.{one_none, one_cases, stands_one, stands_none, stands_split}
 use Rattle.ar_firing.specs.Forest.{Row, ModeTree}
 use Rattle.mode_diagrams.specs.declared.trees.NumberedEdge.{NumberedEdge}
 use Rattle.mode_diagrams.specs.declared.trees.NumberedTree.{NumberedTree}
 use Rattle.mode_diagrams.specs.Trees.{edges_of}
 use Rattle.std.specs.List.{All}
-use Rattle.std.proofs.lemmas.List.Elements.{All-push}
-use Rattle.mode_diagrams.specs.Numbers.{AreNumbersOf, none, passed, one_and, HasFewEdges, IsModeNumber, IsNumberOf}
+use Rattle.std.proofs.lemmas.List.Elements.{All-head, All-push, All-tail}
+use Rattle.mode_diagrams.specs.Numbers.{AreNumbersOf, none, passed, one_and, HasFewEdges, IsWide, IsModeNumber, IsNumberOf}
 
 -- the first trees with their modes by number
 pub record AreMade (trees : List ModeTree) (ns : List NumberedTree) : Type 0 where
@@ -97,3 +97,20 @@ so_far_all tree k n es same all f = record {
   event = λ j r e st so. f.event j r e st (subst (λ z. Stands z j e) same so);
   from = λ j r e st so. f.from j r e st (subst (λ z. Stands z j e) same so);
 }
+
+-- the trees that were numbered have few edges
+pub none_wide : (trees : List ModeTree) (ns : List NumberedTree) → AreNumbersOf trees ns → All HasFewEdges ns
+    → (tree : ModeTree) → IsOneOf trees tree → IsWide tree → ⊥
+none_wide _ _ none few tree o w = one_none tree o
+none_wide _ _ (passed {tree = first} {trees = trees} {ns = ns} e are) few tree o w = ⊎_elim
+    (λ p. let here : tree.edges ≡ [] = ap (λ (t : ModeTree). t.edges) (sym p) ∙ e in
+    let long = ap length here in omega (arith, long, w))
+    (λ p. none_wide trees ns are few tree p w)
+    (one_cases first trees tree o)
+none_wide _ _ (one_and {tree = first} {n = n} {trees = trees} {ns = ns} is are) few tree o w = ⊎_elim
+    (λ p. let h : length (edges_of n) ≤ 64 = All-head HasFewEdges n ns few in
+    let long = is.long in
+    let here = ap (λ (t : ModeTree). length t.edges) p in
+    omega (arith, h, long, here, w))
+    (λ p. none_wide trees ns are (All-tail HasFewEdges n ns few) tree p w)
+    (one_cases first trees tree o)

@@ -1,5 +1,7 @@
 pub mod Agreement
 pub mod Kept
+pub mod Lacking
 pub mod Numbers
+pub mod Order
 pub mod Sets
 pub mod Trees

@@ -1,12 +1,14 @@
 -- Trees and their numbered forms.
-use Rattle.std.specs.Prelude.{◌≡◌, ℕ, ◌≤◌, List, [], ◌∷◌, length, map}
-use Rattle.ar_base.specs.Lists.{Stands}
+use Rattle.std.specs.Prelude.{◌≡◌, ◌⊎◌, ℕ, ◌<◌, ◌≤◌, List, [], ◌∷◌, length, map}
+use Rattle.std.specs.List.Sorted.{IsPermutation}
+use Rattle.ar_base.specs.Lists.{Stands, IsOneOf}
 use Rattle.domains.specs.declared.Value.{Value}
 use Rattle.ar_firing.specs.Forest.{Row, ModeTree}
 use Rattle.ar_firing.specs.Trees.{AreTrees}
 use Rattle.firable_families.specs.Firable.{IsFirableOf}
 use Rattle.mode_diagrams.specs.declared.trees.NumberedEdge.{NumberedEdge}
 use Rattle.mode_diagrams.specs.declared.trees.NumberedTree.{NumberedTree}
+use Rattle.mode_diagrams.specs.Order.{Ascend}
 use Rattle.mode_diagrams.specs.Trees.{edges_of, AreNumbered, AreApart, IsSetFrom}
 
 -- a tree's modes by number: its first is 0, and then come those that its edges enter
@@ -17,6 +19,11 @@ modes_in tree = tree.first ∷ map (λ (r : Row). r.to) tree.edges
 pub record IsModeNumber (tree : ModeTree) (place : ℕ) (mode : Value) (n : ℕ) : Type 0 where
   pub early : n ≤ place
   pub stands : Stands (modes_in tree) n mode
+
+-- the mode is the first, or one of the first so many edges enters it
+abbrev pub IsEnteredBefore : ModeTree → ℕ → Value → Type 0
+IsEnteredBefore tree place mode =
+    (mode ≡ tree.first) ⊎ ((j : ℕ) × (q : Row) × (j < place) × Stands tree.edges j q × (q.to ≡ mode))
 
 -- each edge has its event, and leaves its mode by number
 pub record IsNumberOf (tree : ModeTree) (n : NumberedTree) : Type 0 where
@@ -29,6 +36,16 @@ pub record IsNumberOf (tree : ModeTree) (n : NumberedTree) : Type 0 where
 -- at most 64 edges
 abbrev pub HasFewEdges : NumberedTree → Type 0
 HasFewEdges n = length (edges_of n) ≤ 64
+
+-- more than 64 edges
+abbrev pub IsWide : ModeTree → Type 0
+IsWide tree = 64 < length tree.edges
+
+-- one of the trees has more than 64 edges
+pub record HasWideTree (trees : List ModeTree) : Type 0 where
+  pub tree : ModeTree
+  pub one : IsOneOf trees tree
+  pub wide : IsWide tree
 
 -- tree by tree, where trees with no edge are passed over
 pub data AreNumbersOf : List ModeTree → List NumberedTree → Type 0 where
@@ -46,5 +63,5 @@ pub record IsByModes (trees : List ModeTree) (ns : List NumberedTree) : Type 0 w
   pub firable : (modes set : List ℕ) → IsSetFrom ns 0 modes set → IsFirableOf trees set
 
 abbrev pub FirableByModes : Type 0
-FirableByModes = (trees : List ModeTree) (ns : List NumberedTree) → AreTrees trees → AreNumbersOf trees ns
-    → IsByModes trees ns
+FirableByModes = (trees : List ModeTree) (numbers ns : List NumberedTree) → AreTrees trees → AreNumbersOf trees numbers
+    → IsPermutation numbers ns → Ascend ns → IsByModes trees ns

@@ -1,10 +1,12 @@
 //! The diagrams of events.
 
-ghost use Rattle.std.specs.Prelude.{◌≡◌, ◌≤◌, ◌<◌, List, IfOk, length, true};
+ghost use Rattle.std.specs.Prelude.{◌≡◌, ◌⊎◌, ◌≤◌, ◌<◌, List, IfOk, OnOk, length, true};
 ghost use Rattle.eq_core.specs.Gates.{Gate, EventIs};
 ghost use Rattle.mode_nodes.specs.Diagrams.{Grows};
-ghost use Rattle.mode_diagrams.specs.Trees.{AreNumbered, AreApart, IsNumbered, HasEvent};
+ghost use Rattle.mode_diagrams.specs.Trees.{AreNumbered, AreApart, IsNumbered};
 ghost use Rattle.mode_diagrams.specs.Agreement.{Agrees, AreTold, IsToldAt};
+ghost use Rattle.mode_diagrams.specs.Lacking.{ArePlaced, Puts, HasNoTree, IsFull};
+ghost use Rattle.mode_diagrams.specs.Sets.{AreSmall};
 
 use crate::drawing::Undrawn;
 use crate::trees::{NumberedEdge, NumberedTree};
@@ -13,13 +15,13 @@ use mode_nodes::{DiagramId, Diagrams};
 use std::alloc::Global;
 use std::collections::HashMap;
 
-/// For each event the place of the tree that has an edge of it. It is looked up and then seen to be so, and nothing is
-/// promised of it.
+/// For each event that a tree has the place of such a tree.
 pub(crate) type TreePlaces = HashMap<EventId, u32>;
 
 /// The places of the trees of all events.
 pub(crate) fn places(alloc: Global, trees: &[NumberedTree]) -> Result<TreePlaces, Memory>
     requires { length trees.now ≤ 4294967295 }
+    ensures { IfOk result (λ places. ArePlaced trees.now (length trees.now) places) }
 {
     let mut places = HashMap::new(alloc);
     for (place, tree) in trees.iter().enumerate() {
@@ -29,23 +31,13 @@ pub(crate) fn places(alloc: Global, trees: &[NumberedTree]) -> Result<TreePlaces
 }
 
 // Puts the place for the events of these edges.
-fn put_all(places: &mut TreePlaces, edges: &[NumberedEdge], place: u32) -> Result<(), Memory> {
+fn put_all(places: &mut TreePlaces, edges: &[NumberedEdge], place: u32) -> Result<(), Memory>
+    ensures { OnOk result (Puts edges.now place places.old places.new) }
+{
     for edge in edges {
         places.insert(edge.event, place)?;
     }
     Ok(())
-}
-
-// Whether an edge of the tree is one of the event.
-fn has_event(tree: &NumberedTree, event: EventId) -> bool
-    ensures { result ≡ true → HasEvent tree.now event.n }
-{
-    for edge in &tree.edges {
-        if edge.event.n == event.n {
-            return true;
-        }
-    }
-    false
 }
 
 // For each mode of the tree 1 where the event is on the path to it, else 0.
@@ -74,10 +66,7 @@ fn told_at(told: &[DiagramId], edge: NumberedEdge, event: EventId) -> DiagramId
     }
 }
 
-// The most edges of a tree whose events are drawn: each event asks for each mode below it.
-const MOST_EDGES: usize = 64;
-
-/// The diagram of an event.
+/// The diagram of an event. Beyond comes where the store is full, or where no tree has the event.
 pub(crate) fn event_diagram(
     alloc: Global,
     store: &mut Diagrams,
@@ -87,21 +76,19 @@ pub(crate) fn event_diagram(
 ) -> Result<DiagramId, Undrawn>
     requires numbered { AreNumbered trees.now }
     requires apart { AreApart trees.now }
+    requires small { AreSmall trees.now }
+    requires placed { ArePlaced trees.now (length trees.now) places.now }
     ensures grows { Grows store.old store.new }
     ensures agrees { IfOk result (λ n. (gates : List Gate)
         → Agrees trees.now gates (EventIs event.n true) store.new n.n) }
+    ensures beyond { result ≡ Err Undrawn.Beyond
+        → IsFull store.new ⊎ HasNoTree trees.now event.n }
+    ensures known { IfOk result (λ _. HasNoTree trees.now event.n → ⊥) }
 {
     let Some(place) = places.get(&event).copied() else {
         return Err(Undrawn::Beyond);
     };
-    if place as usize >= trees.len() {
-        return Err(Undrawn::Beyond);
-    }
-    let tree = &trees[place as usize];
-    if tree.edges.len() > MOST_EDGES || !has_event(tree, event) {
-        return Err(Undrawn::Beyond);
-    }
-    let told = told(alloc, tree, event)?;
+    let told = told(alloc, &trees[place as usize], event)?;
     let drawn = store.choice(place, &told)?;
     Ok(drawn)
 }

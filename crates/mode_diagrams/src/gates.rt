@@ -1,6 +1,6 @@
 //! The diagrams of operands and gates.
 
-ghost use Rattle.std.specs.Prelude.{◌<◌, List, IfOk, length, map};
+ghost use Rattle.std.specs.Prelude.{◌≡◌, ◌⊎◌, ◌<◌, List, IfOk, length, map};
 ghost use Rattle.eq_core.specs.Gates.{Gate as GateOf};
 ghost use Rattle.eq_core.specs.Ordered.{AreBelow};
 ghost use Rattle.eq_core.specs.Values.{IsBelow};
@@ -8,6 +8,8 @@ ghost use Rattle.eq_core.specs.Views.{all_needed, gate_of, operand_of};
 ghost use Rattle.mode_nodes.specs.Diagrams.{IsNumber, Grows};
 ghost use Rattle.mode_diagrams.specs.Trees.{AreNumbered, AreApart};
 ghost use Rattle.mode_diagrams.specs.Agreement.{Agrees, AgreesJoint, IsNeutral, IsSigned, IsJoined, IsReady, AreReady, AreTabled};
+ghost use Rattle.mode_diagrams.specs.Lacking.{ArePlaced, IsFull, Lacks, LacksOne};
+ghost use Rattle.mode_diagrams.specs.Sets.{AreSmall};
 
 use crate::drawing::Undrawn;
 use crate::events::{TreePlaces, event_diagram};
@@ -21,6 +23,7 @@ fn signed(store: &mut Diagrams, plain: DiagramId, sign: bool) -> Result<DiagramI
     requires { IsNumber store.old plain.n }
     ensures grows { Grows store.old store.new }
     ensures signed { IfOk result (λ n. IsSigned store.old plain.n sign store.new n.n) }
+    ensures beyond { result ≡ Err Undrawn.Beyond → IsFull store.new }
 {
     if sign {
         return Ok(plain);
@@ -40,6 +43,8 @@ pub(crate) fn operand_diagram(
 ) -> Result<DiagramId, Undrawn>
     requires numbered { AreNumbered trees.now }
     requires apart { AreApart trees.now }
+    requires small { AreSmall trees.now }
+    requires placed { ArePlaced trees.now (length trees.now) places.now }
     requires table { AreTabled table.now store.old }
     requires below { IsBelow (length table.now) (operand_of operand) }
     ensures grows { Grows store.old store.new }
@@ -47,6 +52,9 @@ pub(crate) fn operand_diagram(
     ensures agrees { IfOk result (λ n. (gates : List GateOf)
         → IsReady trees.now gates table.now store.old (operand_of operand)
         → Agrees trees.now gates (operand_of operand) store.new n.n) }
+    ensures beyond { result ≡ Err Undrawn.Beyond
+        → IsFull store.new ⊎ Lacks trees.now (operand_of operand) }
+    ensures known { IfOk result (λ _. Lacks trees.now (operand_of operand) → ⊥) }
 {
     match operand {
         Operand::Always => Ok(DiagramId::new(1)),
@@ -73,6 +81,7 @@ fn joined(
     requires g_in { IsNumber store.old g.n }
     ensures grows { Grows store.old store.new }
     ensures joined { IfOk result (λ n. IsJoined (all_needed joint) store.old f.n g.n store.new n.n) }
+    ensures beyond { result ≡ Err Undrawn.Beyond → IsFull store.new }
 {
     let drawn = match joint {
         Joint::And => store.and(f, g)?,
@@ -93,6 +102,8 @@ pub(crate) fn gate_diagram(
 ) -> Result<DiagramId, Undrawn>
     requires numbered { AreNumbered trees.now }
     requires apart { AreApart trees.now }
+    requires small { AreSmall trees.now }
+    requires placed { ArePlaced trees.now (length trees.now) places.now }
     requires table { AreTabled table.now store.old }
     requires below { AreBelow (length table.now) (map operand_of gate.now.operands.items) }
     ensures grows { Grows store.old store.new }
@@ -101,6 +112,10 @@ pub(crate) fn gate_diagram(
         → AreReady trees.now gates table.now store.old (map operand_of gate.now.operands.items)
         → AgreesJoint trees.now gates (all_needed gate.now.joint)
         (map operand_of gate.now.operands.items) store.new n.n) }
+    ensures beyond { result ≡ Err Undrawn.Beyond
+        → IsFull store.new ⊎ LacksOne trees.now (map operand_of gate.now.operands.items) }
+    ensures known { IfOk result
+        (λ _. LacksOne trees.now (map operand_of gate.now.operands.items) → ⊥) }
 {
     let mut so_far = neutral(gate.joint);
     let mut left = gate.operands.len();

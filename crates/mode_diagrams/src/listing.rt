@@ -8,6 +8,7 @@ ghost use Rattle.mode_diagrams.specs.Sets.{AreSmall, Extends, HasSets, IsTrueFro
 ghost use Rattle.mode_diagrams.specs.Kept.{AreHeld};
 
 use crate::NumberedTree;
+use crate::drawing::Undrawn;
 use crate::held::{Held, State};
 use crate::paths::with_path;
 use mode_nodes::{DiagramId, Diagrams};
@@ -86,14 +87,14 @@ pub struct Listed {
 // The most nodes that a store may have.
 const MOST_NODES: u32 = 16_777_216;
 
-/// The family of the sets of events on paths at whose modes the diagram is true. Full comes where more nodes were made on
-/// the way than a store may have, which says nothing of the family.
+/// The family of the sets of events on paths at whose modes the diagram is true. Beyond comes where more nodes were made
+/// on the way than a store may have, which says nothing of the family.
 pub fn list_sets(
     alloc: Global,
     trees: &[NumberedTree],
     diagrams: &Diagrams,
     f: DiagramId,
-) -> Result<Listed, NodeFault>
+) -> Result<Listed, Undrawn>
     requires few { length trees.now ≤ 4294967295 }
     requires numbered { AreNumbered trees.now }
     requires small { AreSmall trees.now }

@@ -1,9 +1,10 @@
 //! The modes of trees by number.
 
-ghost use Rattle.std.specs.Prelude.{◌≡◌, ◌≤◌, IfOk, IfSome, length, map};
+ghost use Rattle.std.specs.Prelude.{◌≡◌, ◌≤◌, IfOk, IfNone, IfSome, length, map};
 ghost use Rattle.std.specs.List.{All};
+ghost use Rattle.ar_firing.specs.Trees.{IsTree, AreTrees};
 ghost use Rattle.mode_trees.specs.Views.{tree_of};
-ghost use Rattle.mode_diagrams.specs.Numbers.{AreNumbersOf, HasFewEdges, IsNumberOf, IsModeNumber};
+ghost use Rattle.mode_diagrams.specs.Numbers.{AreNumbersOf, HasFewEdges, HasWideTree, IsWide, IsNumberOf, IsModeNumber, IsEnteredBefore};
 
 use crate::{NumberedEdge, NumberedTree};
 use ar_base::Memory;
@@ -14,11 +15,16 @@ use std::alloc::Global;
 // The most edges of a tree that is numbered: each mode is looked for among those before.
 const MOST_EDGES: usize = 64;
 
-/// The trees that have an edge, with their modes by number; None where a tree has more than 64 edges.
+/// The trees that have an edge, with their modes by number; None exactly where a tree has more than 64 edges.
 pub fn numbered(alloc: Global, trees: &[ModeTree]) -> Result<Option<Vec<NumberedTree>>, Memory>
+    requires trees { AreTrees (map (tree_of (λ n. n)) trees.now) }
     ensures numbers { IfOk result (λ made. IfSome made
         (λ ns. AreNumbersOf (map (tree_of (λ n. n)) trees.now) ns.items)) }
     ensures few { IfOk result (λ made. IfSome made (λ ns. All HasFewEdges ns.items)) }
+    ensures none { IfOk result (λ made. IfNone made
+        (HasWideTree (map (tree_of (λ n. n)) trees.now))) }
+    ensures some { IfOk result (λ made. IfSome made
+        (λ _. HasWideTree (map (tree_of (λ n. n)) trees.now) → ⊥)) }
 {
     let mut made = Vec::new(alloc);
     for tree in trees {
@@ -32,11 +38,13 @@ pub fn numbered(alloc: Global, trees: &[ModeTree]) -> Result<Option<Vec<Numbered
     Ok(Some(made))
 }
 
-// One tree with its modes by number.
+// One tree with its modes by number; None where it has more than 64 edges.
 fn numbered_tree(alloc: Global, tree: &ModeTree) -> Result<Option<NumberedTree>, Memory>
+    requires tree { IsTree (tree_of (λ n. n) tree.now) }
     ensures number { IfOk result (λ made. IfSome made
         (λ n. IsNumberOf (tree_of (λ n. n) tree.now) n)) }
     ensures few { IfOk result (λ made. IfSome made (λ n. HasFewEdges n)) }
+    ensures none { IfOk result (λ made. IfNone made (IsWide (tree_of (λ n. n) tree.now))) }
 {
     if tree.edges.len() > MOST_EDGES {
         return Ok(None);
@@ -44,9 +52,7 @@ fn numbered_tree(alloc: Global, tree: &ModeTree) -> Result<Option<NumberedTree>,
     let mut edges = Vec::new(alloc);
     for place in 0..tree.edges.len() {
         let edge = tree.edges[place];
-        let Some(from) = mode_number(tree, place, edge.from) else {
-            return Ok(None);
-        };
+        let from = mode_number(tree, place, edge.from);
         edges.push(NumberedEdge {
             event: edge.event,
             from,
@@ -56,18 +62,19 @@ fn numbered_tree(alloc: Global, tree: &ModeTree) -> Result<Option<NumberedTree>,
 }
 
 // The number of a mode that is the first or that one of the first so many edges enters.
-fn mode_number(tree: &ModeTree, place: usize, mode: Value) -> Option<u32>
+fn mode_number(tree: &ModeTree, place: usize, mode: Value) -> u32
     requires place { place ≤ length tree.now.edges.items }
     requires few { place ≤ 64 }
-    ensures { IfSome result (λ n. IsModeNumber (tree_of (λ n. n) tree.now) place mode n) }
+    requires known { IsEnteredBefore (tree_of (λ n. n) tree.now) place mode }
+    ensures { IsModeNumber (tree_of (λ n. n) tree.now) place mode result }
 {
     if tree.first == mode {
-        return Some(0);
+        return 0;
     }
     for k in 0..place {
         if tree.edges[k].to == mode {
-            return Some(k as u32 + 1);
+            return k as u32 + 1;
         }
     }
-    None
+    unreachable!()
 }

@@ -6,6 +6,9 @@
 //! paths of the trees, the families of operands and of the first so many operands of each gate, their sections, and what
 //! the least sets of an operand need. For the unit that wears and dies it was counted by hand too: the firable sets, their
 //! two sections with an event, and the one cut.
+//!
+//! Where a unit declares the events of its second state first, the trees are drawn by modes all the same, and what is stored
+//! is the two families of the cut. Where it declares them in turn, the walk stores all that is needed.
 #![tactic(auto)]
 
 mod analysing;
@@ -26,12 +29,14 @@ use stepping::show_steps;
 use stored::stored_families;
 
 /// The models, the number of the observer of each, and the words for it.
-const MODELS: [(&str, u32); 5] = [
+const MODELS: [(&str, u32); 7] = [
     ("wear-and-die", 0),
     ("two-states", 0),
     ("two-pumps", 0),
     ("two-pumps-two-observers", 1),
     ("conflict", 0),
+    ("states-declared-backwards", 0),
+    ("states-in-turn", 0),
 ];
 
 // The families that are needed to draw what was drawn.

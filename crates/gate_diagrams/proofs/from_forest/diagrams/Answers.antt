@@ -1,42 +1,41 @@
-use Rattle.std.proofs.Common.{◌≡◌, ◌≤◌, length, IfOk, IfSome, Err, sym, ap, ◌∙◌, subst}
+use Rattle.std.proofs.Common.{◌≡◌, ◌≤◌, length, IfOk, Err, sym, ap, ◌∙◌, subst}
 use Rattle.std.proofs.lemmas.Result.{err_from_is_err_and}
 use Rattle.mode_trees.specs.Views.{trees_of}
 use Rattle.zdd_nodes.specs.declared.NodeFault.{NodeFault}
 use Rattle.zdd_nodes.specs.declared.NodeFault.TheVariants.{Full}
 use Rattle.eq_core.specs.Views.{table_of}
 use Rattle.gate_diagrams.specs.NodeLimits.{NodesMay}
-use Rattle.gate_diagrams.specs.Answers.{IsAnswer, store_of}
+use Rattle.gate_diagrams.specs.Answers.{store_of}
+use Rattle.gate_diagrams.specs.declared.by_modes.Unanswered.{Unanswered}
+use Rattle.gate_diagrams.specs.declared.by_modes.Unanswered.TheVariants.{Nodes}
 use Rattle.gate_diagrams.proofs.Whole.{in_forest, all_listed, a_walk, walk_full, firable_listed, firable_in, firable_stored, limit_kept, answer_needed}
 use Rattle.gate_diagrams.proofs.from_forest.diagrams.Goals as goal
 
-pub returns-in_err-drawn-clause-full : goal.returns-in_err-drawn-clause-full
-returns-in_err-drawn-clause-full c = λ e.
+pub returns-in-Ok-by_modes-clause-sets : goal.returns-in-Ok-by_modes-clause-sets
+returns-in-Ok-by_modes-clause-sets c =
     let families =
     in_forest c.args.forest.now c.deref.result.now c.forest_paths.new.ops c.into_store-trees.result c.in-Ok.paths.items
     c.deref.ensures.value c.into_store-trees.ensures.same c.in-Ok.ensures.listed in
     let all = all_listed c.into_store-trees.result c.in-Ok.paths.items families c.requires.trees.apart in
-    let p = err_from_is_err_and c.from_residual.result c.from_residual.ensures.1 in
-    let x = sym p.1 ∙ e in
-    let y : p.0 ≡ Full = cc in
-    (c.in_err-drawn.ensures all.0 all.1).full (ap (λ (z : NodeFault). Err z) (sym p.2 ∙ y))
+    (c.in-Ok-by_modes.ensures all.0 all.1).sets
 
-pub returns-in-Some-clause-sets : goal.returns-in-Some-clause-sets
-returns-in-Some-clause-sets c =
+pub returns-in-Ok-by_modes-clause-within : goal.returns-in-Ok-by_modes-clause-within
+returns-in-Ok-by_modes-clause-within c =
     let families =
     in_forest c.args.forest.now c.deref.result.now c.forest_paths.new.ops c.into_store-trees.result c.in-Ok.paths.items
     c.deref.ensures.value c.into_store-trees.ensures.same c.in-Ok.ensures.listed in
     let all = all_listed c.into_store-trees.result c.in-Ok.paths.items families c.requires.trees.apart in
-    subst (λ o. IfSome o (λ d. IsAnswer (trees_of (λ n. n) c.args.forest.now) (table_of c.args.equations.now) d))
-    c.in-Some.is (c.in_ok-drawn.ensures all.0 all.1).sets
+    (c.in-Ok-by_modes.ensures all.0 all.1).within
 
-pub returns-in-Some-clause-within : goal.returns-in-Some-clause-within
-returns-in-Some-clause-within c =
+pub returns-in-Err-Nodes-clause-full : goal.returns-in-Err-Nodes-clause-full
+returns-in-Err-Nodes-clause-full c = λ e.
     let families =
     in_forest c.args.forest.now c.deref.result.now c.forest_paths.new.ops c.into_store-trees.result c.in-Ok.paths.items
     c.deref.ensures.value c.into_store-trees.ensures.same c.in-Ok.ensures.listed in
     let all = all_listed c.into_store-trees.result c.in-Ok.paths.items families c.requires.trees.apart in
-    subst (λ o. IfSome o (λ d. length (store_of d).families ≤ c.args.limit)) c.in-Some.is
-    (c.in_ok-drawn.ensures all.0 all.1).within
+    let y : c.in-Err-Nodes.fault ≡ Full = cc in
+    (c.in-Err-Nodes.ensures all.0 all.1).full
+    (ap (λ (z : Unanswered). Err z) c.in-Err-Nodes.field-0-is ∙ ap (λ (z : NodeFault). Err (Nodes z)) y)
 
 pub returns-in_err-firable-clause-full : goal.returns-in_err-firable-clause-full
 returns-in_err-firable-clause-full c = λ e.
@@ -46,7 +45,7 @@ returns-in_err-firable-clause-full c = λ e.
     let walk =
     a_walk c.into_store-trees.result c.in-Ok.paths.items families c.requires.trees.apart c.new-ops.ensures.families
     c.new-ops.ensures.limit c.in_err-firable.ensures.drawn in
-    let p = err_from_is_err_and c.from_residual-in_err-firable.result c.from_residual-in_err-firable.ensures.1 in
+    let p = err_from_is_err_and c.from_residual.result c.from_residual.ensures.1 in
     let x = sym p.1 ∙ e in
     let y : p.0 ≡ Full = cc in
     walk_full (table_of c.args.equations.now) walk (ap (λ (z : NodeFault). Err z) (sym p.2 ∙ y))

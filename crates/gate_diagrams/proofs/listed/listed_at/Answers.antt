@@ -3,7 +3,7 @@ use Rattle.std.proofs.lemmas.List.{length-map}
 use Rattle.eq_core.specs.Values.{IsBelow}
 use Rattle.eq_core.specs.Views.{gate_of, operand_of}
 use Rattle.mode_diagrams.specs.Agreement.{AreClosed}
-use Rattle.gate_diagrams.proofs.ByModes.{few_small, marks_closed, is_listed}
+use Rattle.gate_diagrams.proofs.ByModes.{few_small, marks_closed, listed_or_not}
 use Rattle.gate_diagrams.proofs.listed.listed_at.Goals as goal
 
 pub draw-requires-clause-closed : goal.draw-requires-clause-closed
@@ -14,11 +14,14 @@ draw-requires-clause-closed c =
     (subst (λ n. IsBelow n (operand_of c.args.root)) (sym (length-map c.args.gates.now gate_of)) c.requires.root_in)
     c.in_ok-marks.ensures)
 
+pub draw-requires-clause-small : goal.draw-requires-clause-small
+draw-requires-clause-small c = few_small c.args.trees.now c.requires.small
+
 pub list_sets-requires-clause-small : goal.list_sets-requires-clause-small
 list_sets-requires-clause-small c = few_small c.args.trees.now c.requires.small
 
-pub returns-in-Ok-list_sets : goal.returns-in-Ok-list_sets
-returns-in-Ok-list_sets c =
-    is_listed c.args.trees.now (map gate_of c.args.gates.now) (operand_of c.args.root) c.draw.new.store c.in-Ok.drawn.n
-    c.in-Ok-list_sets.listed c.in-Ok.ensures.agrees c.in-Ok-list_sets.ensures.sound c.in-Ok-list_sets.ensures.in_store
-    c.in-Ok-list_sets.ensures.sets
+pub returns : goal.returns
+returns c =
+    listed_or_not c.args.trees.now (map gate_of c.args.gates.now) (operand_of c.args.root) c.draw.new.store
+    c.in_ok-drawn.drawn.n c.in_ok-drawn.ensures.agrees c.list_sets.result c.list_sets.ensures.sound
+    c.list_sets.ensures.in_store c.list_sets.ensures.sets

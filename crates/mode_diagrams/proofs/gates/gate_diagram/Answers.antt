@@ -1,32 +1,39 @@
-use Rattle.std.proofs.Common.{◌≡◌, ◌+◌, ◌-◌, ◌<◌, length, map, refl, subst, arith}
+use Rattle.std.proofs.Common.{◌≡◌, ◌+◌, ◌-◌, ◌<◌, ⊎_elim, inl, inr, Err, length, map, refl, sym, ap, ◌∙◌, subst, arith}
 use Rattle.std.proofs.lemmas.List.{length-map}
 use Rattle.std.proofs.lemmas.Option.{slice_get_read}
+use Rattle.std.proofs.lemmas.Result.{err_from_is_err_and}
 use Rattle.ar_base.specs.Lists.{Stands}
 use Rattle.ar_base.proofs.Standing.{stands_map}
 use Rattle.eq_core.specs.Views.{all_needed, operand_of}
 use Rattle.mode_nodes.proofs.Growing.{still}
 use Rattle.mode_diagrams.proofs.Folding.{IsFolded, folded_none, folded_more, folded_all}
 use Rattle.mode_diagrams.proofs.Laws.{tabled_kept}
+use Rattle.mode_diagrams.proofs.Placing.{none_past, none_more, none_lacks}
 use Rattle.mode_diagrams.proofs.gates.gate_diagram.Goals as goal
 
 pub loop-left-init : goal.loop-left-init
 loop-left-init c =
     let items = c.args.gate.now.operands.items in
-    folded_none c.args.trees.now c.args.table.now c.args.store.now (all_needed c.args.gate.now.joint)
-    (map operand_of items) c.len-left.result c.neutral-so_far.result.n
-    (omega (arith, c.len-left.ensures, c.args.gate.now.operands.ok, length-map items operand_of))
-    c.neutral-so_far.ensures
+    let whole : c.len-left.result ≡ length (map operand_of items) =
+    omega (arith, c.len-left.ensures, c.args.gate.now.operands.ok, length-map items operand_of) in
+    record {
+      known = none_past c.args.trees.now (map operand_of items) c.len-left.result whole;
+      folded = folded_none c.args.trees.now c.args.table.now c.args.store.now (all_needed c.args.gate.now.joint)
+          (map operand_of items) c.len-left.result c.neutral-so_far.result.n
+          (omega (arith, c.len-left.ensures, c.args.gate.now.operands.ok, length-map items operand_of))
+          c.neutral-so_far.ensures;
+    }
 
 pub operand_diagram-requires-clause-table : goal.operand_diagram-requires-clause-table
 operand_diagram-requires-clause-table c =
-    tabled_kept c.args.table.now c.args.store.now c.loop-left.store c.loop-left.invariant.grows c.requires.table
+    tabled_kept c.args.table.now c.args.store.now c.loop-left.store c.loop-left.invariant.folded.grows c.requires.table
 
 pub operand_diagram-requires-clause-below : goal.operand_diagram-requires-clause-below
 operand_diagram-requires-clause-below c =
     let items = c.args.gate.now.operands.items in
     let k = c.loop-left.left - 1 in
     let inside : k < length items =
-    omega (arith, c.loop-left-test.true, c.loop-left.invariant.left_in, length-map items operand_of) in
+    omega (arith, c.loop-left-test.true, c.loop-left.invariant.folded.left_in, length-map items operand_of) in
     let at : Stands items k c.index.result.now =
     slice_get_read items (length items) k c.index.result.now refl inside c.index.ensures in
     c.requires.below.each (operand_of c.index.result.now)
@@ -35,28 +42,57 @@ operand_diagram-requires-clause-below c =
 pub joined-requires-clause-g_in : goal.joined-requires-clause-g_in
 joined-requires-clause-g_in c =
     still c.loop-left.store c.operand_diagram.new.store c.loop-left.so_far.n c.in_ok-next.ensures.grows
-    c.loop-left.invariant.number
+    c.loop-left.invariant.folded.number
 
 pub loop-left-preserved : goal.loop-left-preserved
 loop-left-preserved c =
     let items = c.args.gate.now.operands.items in
     let k = c.loop-left.left - 1 in
     let inside : k < length items =
-    omega (arith, c.loop-left-test.true, c.loop-left.invariant.left_in, length-map items operand_of) in
+    omega (arith, c.loop-left-test.true, c.loop-left.invariant.folded.left_in, length-map items operand_of) in
     let at : Stands items k c.index.result.now =
     slice_get_read items (length items) k c.index.result.now refl inside c.index.ensures in
     let up : c.loop-left.left ≡ k + 1 = omega (arith, c.loop-left-test.true) in
     let before = subst (λ z. IsFolded c.args.trees.now c.args.table.now c.args.store.now
     (all_needed c.args.gate.now.joint) (map operand_of items) z c.loop-left.store c.loop-left.so_far.n) up
-    c.loop-left.invariant in
-    folded_more c.args.trees.now c.args.table.now c.args.store.now (all_needed c.args.gate.now.joint)
-    (map operand_of items) k c.loop-left.store c.operand_diagram.new.store c.joined.new.store c.loop-left.so_far.n
-    c.in_ok-next.next.n c.in_ok-so_far.so_far.n (operand_of c.index.result.now)
-    (stands_map operand_of items k c.index.result.now at) before c.in_ok-next.ensures.grows
-    c.in_ok-so_far.ensures.grows c.in_ok-next.ensures.agrees c.in_ok-so_far.ensures.joined
+    c.loop-left.invariant.folded in
+    let here = stands_map operand_of items k c.index.result.now at in
+    record {
+      known = none_more c.args.trees.now (map operand_of items) k c.loop-left.left
+          (operand_of c.index.result.now) here up c.in_ok-next.ensures.known c.loop-left.invariant.known;
+      folded =
+          folded_more c.args.trees.now c.args.table.now c.args.store.now (all_needed c.args.gate.now.joint)
+          (map operand_of items) k c.loop-left.store c.operand_diagram.new.store c.joined.new.store c.loop-left.so_far.n
+          c.in_ok-next.next.n c.in_ok-so_far.so_far.n (operand_of c.index.result.now)
+          (stands_map operand_of items k c.index.result.now at) before c.in_ok-next.ensures.grows
+          c.in_ok-so_far.ensures.grows c.in_ok-next.ensures.agrees c.in_ok-so_far.ensures.joined;
+    }
 
 pub returns-clause-agrees : goal.returns-clause-agrees
 returns-clause-agrees c =
     folded_all c.args.trees.now c.args.table.now c.args.store.now (all_needed c.args.gate.now.joint)
     (map operand_of c.args.gate.now.operands.items) c.loop-left.left c.loop-left.store c.loop-left.so_far.n
-    (omega (arith, c.loop-left-test.false)) c.loop-left.invariant
+    (omega (arith, c.loop-left-test.false)) c.loop-left.invariant.folded
+
+pub returns-in_err-next-clause-beyond : goal.returns-in_err-next-clause-beyond
+returns-in_err-next-clause-beyond c = λ e.
+    let items = c.args.gate.now.operands.items in
+    let k = c.loop-left.left - 1 in
+    let inside : k < length items =
+    omega (arith, c.loop-left-test.true, c.loop-left.invariant.folded.left_in, length-map items operand_of) in
+    let at : Stands items k c.index.result.now =
+    slice_get_read items (length items) k c.index.result.now refl inside c.index.ensures in
+    let p = err_from_is_err_and c.from_residual.result c.from_residual.ensures.1 in
+    ⊎_elim
+    (λ f. inl f)
+    (λ l. inr (record {
+      operand = operand_of c.index.result.now;
+      one = record { place = k; stands = stands_map operand_of items k c.index.result.now at };
+      lacks = l;
+    }))
+    (c.in_err-next.ensures.beyond (ap Err (sym p.2) ∙ sym p.1 ∙ e))
+
+pub returns-clause-known : goal.returns-clause-known
+returns-clause-known c = λ l.
+    none_lacks c.args.trees.now (map operand_of c.args.gate.now.operands.items) c.loop-left.left
+    (omega (arith, c.loop-left-test.false)) c.loop-left.invariant.known l

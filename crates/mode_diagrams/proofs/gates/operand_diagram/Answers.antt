@@ -1,4 +1,5 @@
-use Rattle.std.proofs.Common.{◌<◌, [], length, get_or, sym, ap, subst}
+use Rattle.std.proofs.Common.{◌<◌, ⊎_elim, inl, inr, Err, [], length, get_or, sym, ap, ◌∙◌, subst}
+use Rattle.std.proofs.lemmas.Result.{err_from_is_err_and}
 use Rattle.ar_base.proofs.Results.{ok_map}
 use Rattle.ar_base.proofs.Standing.{stands_get}
 use Rattle.eq_core.specs.Values.{IsBelow}
@@ -6,6 +7,7 @@ use Rattle.eq_core.specs.Views.{operand_of}
 use Rattle.mode_nodes.specs.Diagrams.{DiagramId}
 use Rattle.mode_diagrams.specs.Agreement.{Agrees}
 use Rattle.mode_diagrams.proofs.Laws.{agrees_always, agrees_never, agrees_event, agrees_gate}
+use Rattle.mode_diagrams.proofs.Placing.{lacks_event}
 use Rattle.mode_diagrams.proofs.gates.operand_diagram.Goals as goal
 
 abbrev false_number : DiagramId
@@ -60,3 +62,39 @@ returns-in-Gate-clause-agrees c =
 
 pub returns-in-Gate-clause-number : goal.returns-in-Gate-clause-number
 returns-in-Gate-clause-number c = ok_map c.signed-in-Gate.result (λ n i. i.number) c.signed-in-Gate.ensures.signed
+
+pub returns-in-Always-clause-known : goal.returns-in-Always-clause-known
+returns-in-Always-clause-known c = λ l. let w = sym (ap operand_of c.in-Always.is) ∙ l.is in let x : ⊥ = cc in x
+
+pub returns-in-Never-clause-known : goal.returns-in-Never-clause-known
+returns-in-Never-clause-known c = λ l. let w = sym (ap operand_of c.in-Never.is) ∙ l.is in let x : ⊥ = cc in x
+
+pub returns-in_err-plain-in-Event-clause-beyond : goal.returns-in_err-plain-in-Event-clause-beyond
+returns-in_err-plain-in-Event-clause-beyond c = λ e.
+    let p = err_from_is_err_and c.from_residual.result c.from_residual.ensures.1 in
+    ⊎_elim
+    (λ f. inl f)
+    (λ n. inr (record {
+      event = c.in-Event.event.n;
+      sign = c.in-Event.sign;
+      is = ap operand_of c.in-Event.is;
+      none = n;
+    }))
+    (c.in_err-plain-in-Event.ensures.beyond (ap Err (sym p.2) ∙ sym p.1 ∙ e))
+
+pub returns-in_ok-plain-in-Event-clause-beyond : goal.returns-in_ok-plain-in-Event-clause-beyond
+returns-in_ok-plain-in-Event-clause-beyond c = λ e. inl (c.signed.ensures.beyond e)
+
+pub returns-in_ok-plain-in-Event-clause-known : goal.returns-in_ok-plain-in-Event-clause-known
+returns-in_ok-plain-in-Event-clause-known c = ok_map c.signed.result
+    (λ n i. lacks_event c.args.trees.now (operand_of c.args.operand) c.in-Event.event.n c.in-Event.sign
+    (ap operand_of c.in-Event.is) c.in_ok-plain-in-Event.ensures.known)
+    c.signed.ensures.signed
+
+pub returns-in-Gate-clause-beyond : goal.returns-in-Gate-clause-beyond
+returns-in-Gate-clause-beyond c = λ e. inl (c.signed-in-Gate.ensures.beyond e)
+
+pub returns-in-Gate-clause-known : goal.returns-in-Gate-clause-known
+returns-in-Gate-clause-known c = ok_map c.signed-in-Gate.result
+    (λ n i. λ l. let w = sym (ap operand_of c.in-Gate.is) ∙ l.is in let x : ⊥ = cc in x)
+    c.signed-in-Gate.ensures.signed

@@ -1,9 +1,10 @@
-use Rattle.std.proofs.Common.{◌≡◌, ◌+◌, [], ◌∷◌, ◌++◌, map, take, IfSome, arith, sym, ap, ◌∙◌, subst}
-use Rattle.std.proofs.lemmas.List.{take_more, map-append, nil_from_length}
+use Rattle.std.proofs.Common.{◌≡◌, ◌+◌, [], ◌∷◌, ◌++◌, map, take, IfNone, IfSome, arith, sym, ap, ◌∙◌, subst}
+use Rattle.std.proofs.lemmas.List.{take_all, take_more, map-append, nil_from_length}
 use Rattle.std.proofs.lemmas.List.Elements.{All-nil}
+use Rattle.ar_base.proofs.Standing.{stands_item, stands_map}
 use Rattle.mode_trees.specs.Views.{row_of, tree_of}
-use Rattle.mode_diagrams.specs.Numbers.{none, HasFewEdges, IsNumberOf}
-use Rattle.mode_diagrams.proofs.Making.{AreMade, made_passed, made_more, zero_from}
+use Rattle.mode_diagrams.specs.Numbers.{none, HasFewEdges, IsNumberOf, IsWide}
+use Rattle.mode_diagrams.proofs.Making.{AreMade, made_passed, made_more, none_wide, zero_from}
 use Rattle.mode_diagrams.proofs.numbering.numbered.Goals as goal
 use Rattle.mode_diagrams.proofs.numbering.numbered.Goals.{then-not-is_empty+in_ok-next+in-Some+in_ok-push, else-not-is_empty}
 
@@ -32,3 +33,36 @@ loop-tree-preserved c =
           (ap (map (row_of (λ n. n)))
           (nil_from_length tree.edges.items (let z = zero_from _ (sym w.if-not-is_empty.ensures) in omega (arith, z, tree.edges.ok)))) c.loop-tree.invariant)
     ])
+
+pub numbered_tree-requires : goal.numbered_tree-requires
+numbered_tree-requires c =
+    let trees = c.args.trees.now in
+    let k = c.loop-tree.tree-index in
+    let tree = c.tree-item.result in
+    let view = tree_of (λ n. n) in
+    record {
+      tree = c.requires.trees.each k (view tree) (stands_map view trees k tree
+          (stands_item trees k tree c.loop-tree-test.true c.tree-item.is));
+    }
+
+pub returns-in_default-clause-none : goal.returns-in_default-clause-none
+returns-in_default-clause-none c =
+    let trees = c.args.trees.now in
+    let k = c.loop-tree.tree-index in
+    let tree = c.tree-item.result in
+    let view = tree_of (λ n. n) in
+    record {
+      tree = view tree;
+      one = record {
+        place = k;
+        stands = stands_map view trees k tree (stands_item trees k tree c.loop-tree-test.true c.tree-item.is);
+      };
+      wide = subst (λ o. IfNone o (IsWide (view tree))) c.in_default.is c.in_ok-next.ensures.none;
+    }
+
+pub returns-clause-some : goal.returns-clause-some
+returns-clause-some c = λ w.
+    let trees = c.args.trees.now in
+    let all : take c.loop-tree.tree-index trees ≡ trees = take_all c.loop-tree.tree-index trees c.loop-tree-test.false in
+    let made = subst (λ z. AreMade (map (tree_of (λ n. n)) z) c.loop-tree.made.items) all c.loop-tree.invariant in
+    none_wide (map (tree_of (λ n. n)) trees) c.loop-tree.made.items made.numbers made.few w.tree w.one w.wide

@@ -21,5 +21,15 @@ loop-place-preserved c =
     let at : Stands items k found = slice_get_read items (length items) k found refl inside c.index-edge.ensures in
     subst (IsSoFar tree (k + 1)) (sym c.in_ok-push.ensures.items)
     (so_far_more tree k c.loop-place.edges.items (row_of (λ n. n) found)
-    (record { event = found.event; from = c.in-Some.from })
-    (stands_map (row_of (λ n. n)) items k found at) c.loop-place.invariant refl c.in-Some.ensures)
+    (record { event = found.event; from = c.mode_number-from.result })
+    (stands_map (row_of (λ n. n)) items k found at) c.loop-place.invariant refl c.mode_number-from.ensures)
+
+pub mode_number-from-requires-clause-known : goal.mode_number-from-requires-clause-known
+mode_number-from-requires-clause-known c =
+    let tree = tree_of (λ n. n) c.args.tree.now in
+    let items = c.args.tree.now.edges.items in
+    let k = c.loop-place.place in
+    let found = c.index-edge.result.now in
+    let inside : k < length items = omega (arith, c.loop-place-test.true, c.len-place-end.ensures, c.args.tree.now.edges.ok) in
+    let at : Stands items k found = slice_get_read items (length items) k found refl inside c.index-edge.ensures in
+    c.requires.tree.from k (row_of (λ n. n) found) (stands_map (row_of (λ n. n)) items k found at)

@@ -18,6 +18,9 @@ const LAYOUTS: [&str; 22] = [
 /// The most names of types for which the graphs with `extends` and instances side by side are made too.
 const MOST_MIXED: usize = 9;
 
+/// The room for a text, in bytes.
+const ROOM: usize = 65_536;
+
 /// The column of the type in ` extends A;`.
 const EXTENDED: u32 = 10;
 
@@ -41,6 +44,7 @@ enum Edges {
 }
 
 // The name of a class as it may stand in a body.
+#[derive(Drop)]
 struct Cell {
     from: char,
     to: char,
@@ -48,12 +52,14 @@ struct Cell {
 }
 
 // A body, and the one in which it stands.
+#[derive(Drop)]
 struct Standing {
     body: char,
     owner: Option<char>,
 }
 
 // A text, and the first type name from which the body that has it is reached again.
+#[derive(Drop)]
 struct Made {
     text: String,
     breach: Option<Place>,
@@ -278,6 +284,9 @@ fn has(seen: &[char], body: char) -> bool {
 
 // Whether the program says of a text what the graph says of it.
 fn is_right(alloc: Global, made: &Made) -> bool {
+    if made.text.len() > ROOM {
+        return false;
+    }
     let Ok(model) = parse(alloc, made.text.as_bytes()) else {
         return false;
     };

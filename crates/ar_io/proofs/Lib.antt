@@ -1,4 +1,2 @@
 mod Holding
 pub mod Writing
-mod Walks
-mod Gathering

@@ -1,4 +1,3 @@
 pub mod Outside
 pub mod Writing
 pub mod Memories
-pub mod Gathering

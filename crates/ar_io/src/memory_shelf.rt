@@ -158,9 +158,6 @@ impl Shelf for MemoryShelf {
         if bytes.len() > most {
             return Err(LoadFault::TooLong);
         }
-        match Vec::from_slice(alloc, bytes) {
-            Ok(copy) => Ok(copy),
-            Err(_) => Err(LoadFault::Memory),
-        }
+        Ok(Vec::from_slice(alloc, bytes)?)
     }
 }

@@ -4,7 +4,7 @@ ghost use Rattle.std.specs.Prelude.{◌≡◌, ℕ, ◌^◌, ◌<◌, ◌≤◌,
 ghost use Rattle.ar_io.specs.Outside.{Told, Bytes, Absent, Rose};
 ghost use Rattle.ar_io.specs.Writing.{SinkState, Writes};
 
-use std::alloc::Global;
+use std::alloc::{AllocError, Global};
 
 /// Why a text was not loaded.
 #[derive(Clone, Copy)]
@@ -15,6 +15,17 @@ pub enum LoadFault {
     TooLong,
     /// Memory was refused.
     Memory,
+}
+
+impl From<AllocError> for LoadFault {
+    ghost use Rattle.std.specs.Prelude.{◌≡◌};
+    ghost use Rattle.ar_io.specs.declared.outside.LoadFault.TheVariants.{Memory};
+
+    ghost from_gives = { λ _ e. e ≡ Memory };
+
+    fn from(_error: AllocError) -> Self {
+        LoadFault::Memory
+    }
 }
 
 /// A piece was not written, or not all of it: the sink's count of faults rose.

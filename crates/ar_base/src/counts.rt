@@ -6,7 +6,8 @@ ghost use Rattle.ar_base.specs.Counts.{limit_of};
 /// The most nodes that may be asked for.
 pub const MOST_NODES: u32 = 16_777_216;
 
-/// How many nodes there may be where no number is asked for.
+/// How many nodes there may be where no number is asked for, by each command but `make`, which may
+/// have the most.
 pub const USUAL_NODES: u32 = 1_000_000;
 
 /// What is counted and limited, in the order in which the limits are listed.

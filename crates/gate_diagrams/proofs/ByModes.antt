@@ -22,7 +22,6 @@ use Rattle.mode_diagrams.specs.declared.trees.NumberedTree.{NumberedTree}
 use Rattle.mode_diagrams.specs.Trees.{edges_of}
 use Rattle.mode_diagrams.specs.Agreement.{Agrees, AreClosed}
 use Rattle.mode_diagrams.specs.declared.drawing.Undrawn.{Undrawn}
-use Rattle.mode_diagrams.specs.declared.drawing.Undrawn.TheVariants as Undrawn
 use Rattle.mode_diagrams.specs.Numbers.{HasFewEdges, IsByModes}
 use Rattle.mode_diagrams.specs.Sets.{AreSmall, HasSets, IsTrueFrom}
 use Rattle.mode_diagrams.specs.declared.listing.Listed.{Listed}

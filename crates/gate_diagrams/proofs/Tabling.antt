@@ -26,7 +26,8 @@ use Rattle.zdd_nodes.proofs.Growing.{Grows-then, kept}
 use Rattle.firable_families.specs.Firable.{root, edge, HaveEvents, IsPathSet}
 use Rattle.firable_families.specs.Entries.{IsEntry, HasEntries}
 use Rattle.firable_families.proofs.ModePaths.{entries_listed}
-use Rattle.gate_diagrams.specs.Paths.{Extends, key_of, same_key, number_at, IsOneSet, IsWith, IsKnown, IsReached, IsTabled}
+use Rattle.mode_diagrams.specs.Numbers.{IsEnteredBefore}
+use Rattle.gate_diagrams.specs.Paths.{Extends, key_of, same_key, number_at, IsOneSet, IsWith, IsKnown, IsTabled}
 use Rattle.gate_diagrams.proofs.Adding.{extends, one_still}
 
 -- ---- keys
@@ -142,6 +143,31 @@ events_more l ls set more h w = record {
       (λ j. let r = h.whole e j in (r.0, one_rest l ls r.0 r.1, r.2)) (w.sound e i);
 }
 
+-- the first mode of a tree, with no event
+abbrev first_alone : ModeTree → List (Value × List ℕ)
+first_alone tree = (tree.first, []) ∷ []
+
+-- a tree without edges has one path, with no event
+pub edgeless_listed : (tree : ModeTree) → IsTree tree → (s : Stored) (n : ℕ) → n ≡ 1 → IsSoundStore s
+    → length tree.edges ≡ 0 → AreListed (IsPathSet tree) (family s n)
+edgeless_listed tree t s n one sound none =
+    entries_listed tree t (first_alone tree) (record {
+      sound = only;
+      first = ([], one_first (tree.first, []) []);
+      entered = λ r o. let w = stands_within tree.edges o.place r o.stands in absurd (omega (arith, none, w));
+    }) (family s n) (sound.families n (omega (arith, one)))
+    (subst (HasEntries (first_alone tree)) (sym (ap (family s) one)) (entry_alone tree.first []))
+  where
+    only : (j : ℕ) (m : Value) (set : List ℕ) → Stands (first_alone tree) j (m, set) → IsEntry tree m set
+    only zero m set i =
+        let e : ◌≡◌ {A = Value × List ℕ} (tree.first, []) (m, set) = cc in
+        record {
+          labels = [];
+          leads = root (ap (λ (z : Value × List ℕ). z.0) e);
+          events = subst (HaveEvents []) (ap (λ (z : Value × List ℕ). z.1) e) no_events;
+        }
+    only (suc j) m set i = absurd (stands_none j (m, set) i)
+
 module _ {S : Type 0} (tree : ModeTree) where
   -- before the first edge
   pub tabled_first : (old modes : HashMap (ℕ × ℤ) NodeId S) (s : Stored) (n : NodeId) → n.n ≡ 1
@@ -245,7 +271,7 @@ module _ {S : Type 0} (tree : ModeTree) where
         one_first (r.to, made.0) i.entries,
       )
 
-      old_known : (m : Value) → IsReached tree k m → Listed_known m
+      old_known : (m : Value) → IsEnteredBefore tree k m → Listed_known m
       old_known m x = ⊎_elim (λ (q : m ≡ r.to). subst Listed_known (sym q) new_known)
           (λ (q : number_at new m ≡ number_at modes m).
           let w = i.known m x in
@@ -255,7 +281,7 @@ module _ {S : Type 0} (tree : ModeTree) where
           ))
           (found_other modes new r.to set u m)
 
-      all_known : (m : Value) → IsReached tree (k + 1) m → Listed_known m
+      all_known : (m : Value) → IsEnteredBefore tree (k + 1) m → Listed_known m
       all_known m x = ⊎_elim (λ q. old_known m (inl q)) (λ w. either w.0 w.1 w.2 w.3 w.4) x
         where
           order : (j : ℕ) → j < k + 1 → (j < k) ⊎ (j ≡ k)

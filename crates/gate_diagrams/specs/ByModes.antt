@@ -9,7 +9,6 @@ use Rattle.eq_core.specs.Gates.{Operand, Gate, Table}
 use Rattle.firable_families.specs.Firable.{IsFirableOf}
 use Rattle.mode_diagrams.specs.declared.trees.NumberedTree.{NumberedTree}
 use Rattle.mode_diagrams.specs.declared.drawing.Undrawn.{Undrawn}
-use Rattle.mode_diagrams.specs.declared.drawing.Undrawn.TheVariants as Undrawn
 use Rattle.mode_diagrams.specs.Numbers.{IsByModes}
 use Rattle.mode_diagrams.specs.declared.listing.Listed.{Listed}
 use Rattle.gate_diagrams.specs.Needed.{family_at}
@@ -17,7 +16,6 @@ use Rattle.gate_diagrams.specs.NodeLimits.{NodesMay}
 use Rattle.gate_diagrams.specs.Answers.{IsAnswer, AreNeeded, store_of}
 use Rattle.gate_diagrams.specs.declared.answer.Drawn.{Drawn}
 use Rattle.gate_diagrams.specs.declared.by_modes.Unanswered.{Unanswered}
-use Rattle.gate_diagrams.specs.declared.by_modes.Unanswered.TheVariants as Unanswered
 
 -- the family is that of the operand, where the numbered trees are those of a forest
 pub record IsListed (trees : List NumberedTree) (gates : List Gate) (o : Operand) (l : Listed) : Type 0 where

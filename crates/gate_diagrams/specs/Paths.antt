@@ -1,14 +1,15 @@
 -- What the drawing of a tree's paths keeps, edge by edge.
-use Rattle.std.specs.Prelude.{◌≡◌, ◌==◌, ◌&&◌, ◌⊎◌, ◌<◌, ℕ, ℤ, Bool, List, [], ◌∷◌, Option, Some}
+use Rattle.std.specs.Prelude.{◌≡◌, ◌==◌, ◌&&◌, ◌⊎◌, ℕ, ℤ, Bool, List, [], ◌∷◌, Option, Some}
 use Rattle.std.specs.HashMap.{HashMap, get}
 use Rattle.std.specs.Ordering.{int_eq}
 use Rattle.ar_base.specs.Lists.{Stands, IsOneOf}
 use Rattle.ar_base.specs.Sets.{Within}
 use Rattle.domains.specs.declared.Value.{Value}
 use Rattle.domains.specs.Values.{rank_of, number_in_rank}
-use Rattle.ar_firing.specs.Forest.{Row, ModeTree}
+use Rattle.ar_firing.specs.Forest.{ModeTree}
 use Rattle.zdd_nodes.specs.Nodes.{NodeId, Stored, family, IsNumber, Grows}
 use Rattle.firable_families.specs.Entries.{IsEntry, HasEntries}
+use Rattle.mode_diagrams.specs.Numbers.{IsEnteredBefore}
 
 -- families were added, whichever they are, and nothing else changed
 abbrev pub Extends : Stored → Stored → Type 0
@@ -45,11 +46,6 @@ pub record IsKnown {S : Type 0} (modes : HashMap (ℕ × ℤ) NodeId S) (s : Sto
   pub set : List ℕ
   pub one : IsOneSet s number.n set
 
--- the mode is the tree's first, or one that one of its first k edges enters
-abbrev pub IsReached : ModeTree → ℕ → Value → Type 0
-IsReached tree k m =
-    (m ≡ tree.first) ⊎ ((j : ℕ) × (r : Row) × (j < k) × Stands tree.edges j r × (r.to ≡ m))
-
 -- after the first k edges of a tree: each mode that is reached is known with the set of one of the
 -- entries, which are modes of the tree with the events of a path to each; and the family of number
 -- `paths` has the entries' sets
@@ -58,6 +54,6 @@ pub record IsTabled {S : Type 0} (tree : ModeTree) (k : ℕ) (modes : HashMap (�
   pub entries : List (Value × List ℕ)
   pub sound : (j : ℕ) (m : Value) (set : List ℕ) → Stands entries j (m, set)
       → IsEntry tree m set
-  pub known : (m : Value) → IsReached tree k m → (i : IsKnown modes s m) × IsOneOf entries (m, i.set)
+  pub known : (m : Value) → IsEnteredBefore tree k m → (i : IsKnown modes s m) × IsOneOf entries (m, i.set)
   pub in_store : IsNumber s paths
   pub has : HasEntries entries (family s paths)

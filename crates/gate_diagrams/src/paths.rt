@@ -42,7 +42,8 @@ pub(crate) fn forest_paths(
 }
 
 // The number of the family of a tree's paths: each edge enters its mode with the set of the mode
-// that it leaves and its event, and the family has the sets of all modes.
+// that it leaves and its event, and the family has the sets of all modes. A tree without edges, of a
+// state variable that never moves, has the empty set alone, and takes no memory.
 fn tree_paths(alloc: Global, ops: &mut Ops, tree: &ModeTree) -> Result<NodeId, NodeFault>
     requires sound { IsSoundStore ops.old }
     requires tree { IsTree (tree_of (λ n. n) tree.now) }
@@ -52,6 +53,9 @@ fn tree_paths(alloc: Global, ops: &mut Ops, tree: &ModeTree) -> Result<NodeId, N
     ensures listed { IfOk result
         (λ n. AreListed (IsPathSet (tree_of (λ n. n) tree.now)) (family ops.new n.n)) }
 {
+    if tree.edges.is_empty() {
+        return Ok(NodeId::new(1));
+    }
     let mut modes = HashMap::new(alloc);
     let mut paths = NodeId::new(1);
     put(&mut modes, tree.first, paths)?;

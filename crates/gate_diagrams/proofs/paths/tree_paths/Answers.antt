@@ -1,9 +1,28 @@
 use Rattle.std.proofs.Common.{◌≡◌, length, get_or, ap, arith}
 use Rattle.std.proofs.lemmas.List.{length-map}
+use Rattle.std.proofs.lemmas.Bool.Decides.{nat_tests}
 use Rattle.mode_trees.specs.Views.{row_of, tree_of}
 use Rattle.zdd_nodes.proofs.Growing.{Grows-none, Grows-then}
-use Rattle.gate_diagrams.proofs.Tabling.{no_edge, edge_stands, tabled_first, tabled_listed}
+use Rattle.gate_diagrams.proofs.Tabling.{no_edge, edge_stands, edgeless_listed, tabled_first, tabled_listed}
 use Rattle.gate_diagrams.proofs.paths.tree_paths.Goals as goal
+
+pub returns-then-is_empty-clause-grows : goal.returns-then-is_empty-clause-grows
+returns-then-is_empty-clause-grows c = Grows-none (λ h. Unit {0}) c.args.ops.now
+
+pub returns-then-is_empty-clause-listed : goal.returns-then-is_empty-clause-listed
+returns-then-is_empty-clause-listed c =
+    let tree = tree_of (λ n. n) c.args.tree.now in
+    let e = c.if-is_empty.ensures in
+    let none : length tree.edges ≡ 0 = grind (
+      arith,
+      nat_tests,
+      e,
+      c.if-is_empty.true,
+      c.is_empty.ensures,
+      c.args.tree.now.edges.ok,
+      length-map c.args.tree.now.edges.items (row_of (λ n. n)),
+    ) in
+    edgeless_listed tree c.requires.tree c.args.ops.now c.new.result.n c.new.ensures c.requires.sound none
 
 pub returns-in_err-put-clause-grows : goal.returns-in_err-put-clause-grows
 returns-in_err-put-clause-grows c = Grows-none (λ h. Unit {0}) c.args.ops.now

@@ -1,5 +1,5 @@
 -- The names that members give, in a set.
-use Rattle.std.proofs.Common.{◌≡◌, ℕ, zero, suc, ◌+◌, ◌-◌, ◌<◌, ◌≤◌, ◌⊎◌, inl, inr, Bool, true, false, cond, ◌==◌, ◌&&◌, ◌↔◌, List, [], ◌∷◌, ◌++◌, map, length, drop, take, Option, Some, None, refl, sym, ◌∙◌, ap, subst, arith}
+use Rattle.std.proofs.Common.{◌≡◌, ℕ, zero, suc, ◌+◌, ◌-◌, ◌<◌, ◌≤◌, ◌⊎◌, inl, inr, Bool, true, false, cond, ◌==◌, ◌&&◌, List, [], ◌∷◌, ◌++◌, map, length, drop, Option, Some, None, refl, sym, ◌∙◌, ap, subst, arith}
 use Rattle.std.proofs.Common.{eq-eqb, ne_eqb}
 use Rattle.std.proofs.lemmas.Bool.{cases_eq}
 use Rattle.std.proofs.Math.Seq.{drop-append_seam}
@@ -12,7 +12,7 @@ use Rattle.ar_base.specs.declared.places.Place.{Place}
 use Rattle.ar_base.proofs.Standing.{one_none, one_first, one_rest, one_split, one_here, stands_within, stands_left, stands_right, stands_split, stands_next, stands_none, only_item}
 use Rattle.ar_base.proofs.Comparing.{lt_or_same, not_before}
 use Rattle.class_table.specs.Declaring.{Declared}
-use Rattle.class_table.specs.Members.{Site, Members, own_at, sites_from, names_of, owned_at, named_at, NamedMember}
+use Rattle.class_table.specs.Members.{Site, Members, own_at, sites_from, names_of, owned_at}
 use Rattle.class_table.specs.Tables.{site_of, IsBodyOf}
 use Rattle.class_table.specs.Earliest.{IsEarliest, nowhere, there, IsEarlierOf}
 use Rattle.class_table.specs.Repeating.{IsNamed}
@@ -57,7 +57,8 @@ key_one s t x y e =
     (sites (same_number s.body t.body b.0) (same_number s.place t.place b.1), same_number x y a.1)
   where
     sites : s.body ≡ t.body → s.place ≡ t.place → s ≡ t
-    sites f g = ap (λ (n : ℕ). record { body = n; place = s.place }) f ∙ ap (λ (n : ℕ). record { body = t.body; place = n }) g
+    sites f g = ap (λ (n : ℕ). record { body = n; place = s.place }) f
+        ∙ ap (λ (n : ℕ). record { body = t.body; place = n }) g
 
 -- Adding
 
@@ -70,8 +71,8 @@ pub record AddsAt (s : Site) (names : List (ℕ × Place)) (old new : Given) : T
 pub at_none : (s : Site) (g : Given) → AddsAt s [] g g
 at_none s g = record { kept = λ t x h. h; added = λ x n. absurd (named_none x n); only = λ t x h. inl h }
 
-pub at_next : (s : Site) (names : List (ℕ × Place)) (x : ℕ) (p : Place) (first old new : Given) → AddsAt s names first old
-    → ((q : (ℕ × ℕ) × ℕ) → bag.contains same_given new.names q
+pub at_next : (s : Site) (names : List (ℕ × Place)) (x : ℕ) (p : Place) (first old new : Given)
+    → AddsAt s names first old → ((q : (ℕ × ℕ) × ℕ) → bag.contains same_given new.names q
     ≡ cond (same_given (key s x) q) true (bag.contains same_given old.names q))
     → AddsAt s (names ++ (x, p) ∷ []) first new
 at_next s names x p first old new h u = record { kept = kept; added = added; only = only }
@@ -240,7 +241,8 @@ module _ (d : Declared) where
   pub named_more : (xs : List Site) (s : Site) (x : ℕ) → IsNamed (names_at d (xs ++ s ∷ [])) x
       → IsNamed (names_at d xs) x ⊎ IsNamed (names_of_site d s) x
   named_more xs s x n =
-      named_two (names_at d xs) (names_of_site d s) x (subst (λ (ns : List (ℕ × Place)). IsNamed ns x) (named_next d xs s) n)
+      named_two (names_at d xs) (names_of_site d s) x
+      (subst (λ (ns : List (ℕ × Place)). IsNamed ns x) (named_next d xs s) n)
 
   -- a name that the member at one of the sites gives
   pub named_within : (xs : List Site) (i : ℕ) (s : Site) (x : ℕ) → Stands xs i s → IsNamed (names_of_site d s) x

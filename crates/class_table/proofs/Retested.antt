@@ -13,8 +13,8 @@ use Rattle.class_table.specs.Declaring.{Declared}
 use Rattle.class_table.specs.Members.{Site, Members, members, Inherits, nothing, from, passes, extended, own_of, own_at, sites_from, names_of, owned_at, named_at}
 use Rattle.class_table.specs.Tables.{site_of}
 use Rattle.class_table.specs.Earliest.{IsEarliest, nowhere, there, IsEarlierOf, no_first, no_second, first, second}
-use Rattle.class_table.specs.Repeating.{IsNamed, IsRepeated}
-use Rattle.class_table.specs.Retested.{names_of_site, names_at, IsTaken, IsMetAgain, among, taken, extending, one_if, AreOfClass, IsApart, IsMetBehind, IsTested}
+use Rattle.class_table.specs.Repeating.{IsRepeated}
+use Rattle.class_table.specs.Retested.{names_of_site, names_at, IsTaken, IsMetAgain, among, taken, extending, one_if, IsApart, IsMetBehind, IsTested}
 use Rattle.class_table.specs.Rules.{BreaksNames}
 use Rattle.class_table.specs.Shown.{IsListed, member_place}
 use Rattle.class_table.specs.declared.tables.Body.{Body}
@@ -207,11 +207,12 @@ module _ (d : Declared) (bodies : List Body) (listed : IsListed d bodies) where
 
   -- a name that is met again is so where it was not inherited so
   deep : (i : ℕ) (f : Option Place) → length bodies ≤ i → HasTested d bodies i f → (fuel k : ℕ) (b : Body)
-      → Stands bodies k b → length b.all.items < fuel → (p : Place) → IsRepeated (names_at d (map site_of b.all.items)) p
-      → Reaches f p
+      → Stands bodies k b → length b.all.items < fuel → (p : Place)
+      → IsRepeated (names_at d (map site_of b.all.items)) p → Reaches f p
   deep i f w h zero k b s l p r = absurd (omega (arith, l))
   deep i f w h (suc fuel) k b s l p r =
-      by (deep i f w h fuel) t.apart (repeated_parts _ _ p (subst (λ (ns : List (ℕ × Place)). IsRepeated ns p) (names_parts d b.all.items t.n) r))
+      by (deep i f w h fuel) t.apart (repeated_parts _ _ p
+      (subst (λ (ns : List (ℕ × Place)). IsRepeated ns p) (names_parts d b.all.items t.n) r))
     where
       t : IsReached d f b
       t = let v = stands_within bodies k b s in h.tested k b (omega (arith, v, w)) s
@@ -302,8 +303,8 @@ module _ (d : Declared) where
       let j : n ≡ length t.inherited = omega (arith, k, i) in
       let g = extending_some own one in
       let f : map site_of (take n all) ≡ t.inherited =
-      sym (take-map site_of n all) ∙ (ap (take n) t.joined ∙ (ap (λ (q : ℕ). take q (t.inherited ++ sites_from b 0 own)) j
-      ∙ take-append_seam t.inherited (sites_from b 0 own))) in
+      sym (take-map site_of n all) ∙ (ap (take n) t.joined
+      ∙ (ap (λ (q : ℕ). take q (t.inherited ++ sites_from b 0 own)) j ∙ take-append_seam t.inherited (sites_from b 0 own))) in
       inr (record {
         class = u.0;
         fewer = omega (arith, k, j, g);

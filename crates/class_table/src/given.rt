@@ -82,7 +82,8 @@ impl Given {
         false
     }
 
-    /// The earliest place of a name of the list that a member at one of these sites gives. Takes no memory.
+    /// The earliest place of a name of the list that a member at one of these sites gives. Takes no
+    /// memory.
     pub(crate) fn first_taken(
         &self,
         sites: &[(BodyId, u32)],

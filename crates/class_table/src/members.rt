@@ -59,7 +59,8 @@ fn members_of(
     Ok(all)
 }
 
-// How many members a body has, where those of each class that it extends are listed. Takes no memory.
+// How many members a body has, where those of each class that it extends are listed.
+// Takes no memory.
 fn count_members(bodies: &[Body], types: &TypeKinds, own: &[Owned]) -> usize
     ensures { length own.now ≤ result }
 {
@@ -70,7 +71,8 @@ fn count_members(bodies: &[Body], types: &TypeKinds, own: &[Owned]) -> usize
     count
 }
 
-// How many members a member brings of the class that it extends, if it extends one. Takes no memory.
+// How many members a member brings of the class that it extends, if it extends one.
+// Takes no memory.
 fn count_inherited(bodies: &[Body], types: &TypeKinds, owned: &Owned) -> usize {
     let class = extended(owned).and_then(|name| types.class(name));
     match class.and_then(|class| bodies.get(class.n as usize)) {
@@ -79,7 +81,8 @@ fn count_inherited(bodies: &[Body], types: &TypeKinds, owned: &Owned) -> usize {
     }
 }
 
-// The members that a body inherits, where those of each class that it extends are listed, with room for so many.
+// The members that a body inherits, where those of each class that it extends are listed, with
+// room for so many.
 fn inherited(
     alloc: Global,
     bodies: &[Body],

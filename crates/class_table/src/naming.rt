@@ -48,8 +48,9 @@ fn size_of(bodies: &[Body], sites: &[(BodyId, u32)]) -> usize {
     size
 }
 
-// How many of a body's first members need no test among themselves: where the body extends one class, those of that
-// class, unless it takes longer to look for the other names among them than to test all.
+// How many of a body's first members need no test among themselves: where the body extends one
+// class, those of that class, unless it takes longer to look for the other names among them than to
+// test all.
 fn tested_before(bodies: &[Body], body: &Body) -> usize
     ensures apart { (d : Declared) (b : ℕ) → Members d b (map site_of body.now.all.items)
         → own_at d b ≡ body.now.own.items → IsApart d body.now.all.items result }
@@ -66,7 +67,8 @@ fn tested_before(bodies: &[Body], body: &Body) -> usize
     inherited
 }
 
-// The earliest of the later ones of two names of a body, of which not both are inherited from one class.
+// The earliest of the later ones of two names of a body, of which not both are inherited from one
+// class.
 fn in_body(
     alloc: Global,
     bodies: &[Body],

@@ -3,7 +3,6 @@ use Rattle.std.proofs.lemmas.List.{take_all}
 use Rattle.ar_base.specs.Numbers.{BodyId}
 use Rattle.ar_base.specs.declared.places.Place.{Place}
 use Rattle.ar_base.proofs.Standing.{stands_get}
-use Rattle.class_table.specs.Members.{Site}
 use Rattle.class_table.specs.Retested.{names_at, names_of_site}
 use Rattle.class_table.specs.Tables.{site_of}
 use Rattle.class_table.proofs.Taken.{map_next}

@@ -1,4 +1,4 @@
-use Rattle.std.proofs.Common.{◌≡◌, ◌+◌, ◌<◌, ◌++◌, ◌∷◌, [], length, take, sym, ◌∙◌, ap, arith}
+use Rattle.std.proofs.Common.{take, sym, ◌∙◌, ap, arith}
 use Rattle.std.proofs.lemmas.List.{take_all, length-take-le}
 use Rattle.class_table.specs.Retested.{extending}
 use Rattle.class_table.proofs.Retested.{extending_next, extending_few, counts_one, counts_none}
@@ -20,8 +20,10 @@ loop-owned-preserved c =
     let e = take_item own c.loop-owned.owned-index c.owned-item.result (omega arith) c.owned-item.is in
     let f = ap extending e ∙ extending_next (take c.loop-owned.owned-index own) c.owned-item.result in
     elim c.if-is_some.branch [
-      | then-is_some w ↦ (let g = counts_one c.extended.result _ c.extended.ensures (sym c.is_some.ensures ∙ w.if-is_some.true) in omega (arith, f, g, c.loop-owned.invariant, w.count-is))
-      | else-is_some w ↦ (let g = counts_none c.extended.result _ c.extended.ensures (sym c.is_some.ensures ∙ w.if-is_some.false) in omega (arith, f, g, c.loop-owned.invariant, w.count-is))
+      | then-is_some w ↦ (let g = counts_one c.extended.result _ c.extended.ensures (sym c.is_some.ensures ∙ w.if-is_some.true) in
+          omega (arith, f, g, c.loop-owned.invariant, w.count-is))
+      | else-is_some w ↦ (let g = counts_none c.extended.result _ c.extended.ensures (sym c.is_some.ensures ∙ w.if-is_some.false) in
+          omega (arith, f, g, c.loop-owned.invariant, w.count-is))
     ]
 
 pub returns : goal.returns

@@ -1,4 +1,4 @@
-use Rattle.std.proofs.Common.{sym, arith}
+use Rattle.std.proofs.Common.{arith}
 use Rattle.class_table.specs.Shown.{Shows}
 use Rattle.class_table.proofs.Taken.{item_stands}
 use Rattle.class_table.proofs.OwnAt.{own_shown}

@@ -24,5 +24,6 @@ loop-name-preserved c =
 
 pub returns : goal.returns
 returns c = λ d e. at_site d _ _ _ _ e
-    (subst (λ (xs : List (NameId × Place)). AddsAt (site_of c.args.site) (map name_and_place xs) c.args.self.now c.loop-name.self)
+    (subst (λ (xs : List (NameId × Place)). AddsAt (site_of c.args.site) (map name_and_place xs) c.args.self.now
+    c.loop-name.self)
     (take_all c.loop-name.name-index c.args.list.now (omega arith)) c.loop-name.invariant)

@@ -1,4 +1,4 @@
-use Rattle.std.proofs.Common.{ℕ, ◌<◌, List, map, length, Option, sym, subst, refl, arith}
+use Rattle.std.proofs.Common.{ℕ, ◌<◌, List, map, length, sym, subst, arith}
 use Rattle.std.proofs.lemmas.List.{take_all}
 use Rattle.ar_base.specs.Numbers.{NameId}
 use Rattle.ar_base.specs.declared.places.Place.{Place}
@@ -23,8 +23,12 @@ loop-name-preserved c = λ d known.
     subst (λ (ns : List (ℕ × Place)). IsEarliest (IsTaken (names_at d (map site_of c.args.sites.now)) ns) c.if-has.found)
     (sym (map_next name_and_place c.args.list.now c.loop-name.name-index _ st))
     (elim c.if-has.branch [
-      | then-has w ↦ rw w.found-is (taken_more _ _ _ _ _ _ ((c.has.ensures d known).0 w.if-has.true) w.earliest-found.ensures (c.loop-name.invariant d known))
-      | else-has w ↦ rw w.found-is (taken_same _ _ _ _ _ (λ n. let g = (c.has.ensures d known).1 n in let f = w.if-has.false in absurd (cc)) (c.loop-name.invariant d known))
+      | then-has w ↦ rw w.found-is
+          (taken_more _ _ _ _ _ _ ((c.has.ensures d known).0 w.if-has.true)
+          w.earliest-found.ensures (c.loop-name.invariant d known))
+      | else-has w ↦ rw w.found-is
+          (taken_same _ _ _ _ _ (λ n. let g = (c.has.ensures d known).1 n in let f = w.if-has.false in absurd (cc))
+          (c.loop-name.invariant d known))
     ])
 
 pub returns : goal.returns

@@ -15,7 +15,8 @@ returns-then-contains c = λ d known.
     let l : c.loop-site.site-index < length c.args.sites.now = omega arith in
     let none : BodyId × ℕ = (record { n = 0; of = record {} }, 0) in
     let st = stands_get c.args.sites.now c.loop-site.site-index none l in (
-      λ e. named_within d (map site_of c.args.sites.now) c.loop-site.site-index _ _ (stands_map site_of c.args.sites.now c.loop-site.site-index _ st)
+      λ e. named_within d (map site_of c.args.sites.now) c.loop-site.site-index _ _
+          (stands_map site_of c.args.sites.now c.loop-site.site-index _ st)
           ((known.each _ _).0 (sym c.contains.ensures ∙ c.if-contains.true)),
       λ n. refl,
     )

@@ -1,4 +1,4 @@
-use Rattle.std.proofs.Common.{◌≡◌, ◌-◌, length, sym, subst, arith}
+use Rattle.std.proofs.Common.{◌≡◌, ◌-◌, length, arith}
 use Rattle.class_table.proofs.Taken.{item_stands}
 use Rattle.class_table.proofs.OwnAt.{own_shown}
 use Rattle.class_table.proofs.Retested.{rest_whole}
@@ -12,7 +12,8 @@ pub loop-body-preserved : goal.loop-body-preserved
 loop-body-preserved c = λ d known l.
     let s = item_stands c.args.bodies.now c.loop-body.body-index c.body-item.result (omega arith) c.body-item.is in
     let n : c.saturating_sub-own.result ≡ length c.body-item.result.all.items - length c.body-item.result.own.items =
-    (let x = c.body-item.result.all.ok.0 in let y = c.body-item.result.own.ok.0 in omega (arith, c.saturating_sub-own.ensures, c.len.ensures, c.len-in-loop-body.ensures, x, y)) in
+    (let x = c.body-item.result.all.ok.0 in let y = c.body-item.result.own.ok.0 in
+    omega (arith, c.saturating_sub-own.ensures, c.len.ensures, c.len-in-loop-body.ensures, x, y)) in
     first_next d c.loop-body.body-index c.body-item.result.all.items c.body-item.result.own.items _ _ _
     (l.members _ _ s) (own_shown d _ l.as_text _ _ s) n (c.loop-body.invariant d known l)
     (rw rest_whole at (rw c.deref.ensures.value at (c.in_ok-add_sites.ensures d known)))

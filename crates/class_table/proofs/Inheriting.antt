@@ -85,7 +85,7 @@ module _ (d : Declared) where
         place = r.place ∙ sym (ap (λ (n : ℕ × Place). n.1) y.2);
       }
 
-  body_of : (b : ℕ) (xs : List Site) → Members d b xs → (t : TextBody) × Stands d.bodies b t
+  pub body_of : (b : ℕ) (xs : List Site) → Members d b xs → (t : TextBody) × Stands d.bodies b t
   body_of b xs (members body s i) = (body, s)
 
   pub named_back : (bodies : List Body) → IsListed d bodies → (p : Place) → BreaksNames d p

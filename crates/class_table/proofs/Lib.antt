@@ -25,3 +25,5 @@ pub mod Nesting
 pub mod Acyclic
 pub mod Ordered
 pub mod Rowed
+pub mod Retested
+pub mod GivenNames

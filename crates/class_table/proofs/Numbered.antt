@@ -1,11 +1,13 @@
 -- Symbols that are numbered one after the other.
-use Rattle.std.proofs.Common.{◌≡◌, ℕ, ◌⊎◌, Bool, cond, nat_eq, List, [], ◌∷◌, ◌++◌, map, length, Some, None, sym, ◌∙◌, ap, subst, inl, inr, eq-eqb, ne_eqb}
+use Rattle.std.proofs.Common.{◌≡◌, ℕ, ◌<◌, ◌^◌, ◌⊎◌, Bool, cond, nat_eq, List, [], ◌∷◌, ◌++◌, map, length, Some, None, sym, ◌∙◌, ap, subst, inl, inr, eq-eqb, ne_eqb, arith}
+use Rattle.std.proofs.lemmas.List.{length-append}
 use Rattle.std.proofs.lemmas.Bool.{cases_eq}
 use Rattle.std.specs.HashMap as hash
-use Rattle.ar_base.specs.Lists.{Stands, IsOneOf, Along, none as along_none, one_and as along_and}
+use Rattle.ar_base.specs.Lists.{Stands, IsOneOf, HasNo, AreDifferent, Along, none as along_none, one_and as along_and}
 use Rattle.ar_base.specs.Numbers.{NameId}
 use Rattle.ar_base.specs.declared.places.Place.{Place}
-use Rattle.ar_base.proofs.Standing.{stands_left, stands_next, one_here, one_split, one_cases, one_none}
+use Rattle.ar_base.proofs.Standing.{stands_left, stands_next, one_here, one_split, one_cases, one_none, only_item, different_more}
+use Rattle.ar_base.proofs.Few.{few_below}
 use Rattle.ar_syntax.specs.declared.items.DomainBody.{DomainBody}
 use Rattle.ar_syntax.specs.declared.items.DomainBody.TheVariants as body
 use Rattle.class_table.specs.Declaring.{FirstUses, none, known, first, NamedType, DomainType}
@@ -44,12 +46,36 @@ number_known s x k e h = (
       k e,
 )
 
+-- a symbol that has no number is none of those that have one
+lacks_new : (s : Symbols) (x : ℕ) → hash.get nat_eq s.numbers x ≡ None → AreNumbered s
+    → HasNo (list_of s) (λ y. y ≡ x)
+lacks_new s x e h =
+    record { has_not = λ n y t i. h.all x e (subst (IsOneOf (list_of s)) i (one_here (list_of s) n y t)) }
+
+-- where a symbol has no number, there is room for one
+pub room_new : (s : Symbols) (x : ℕ) → hash.get nat_eq s.numbers x ≡ None → x < 2 ^ 32 → AreNumbered s
+    → length (list_of s) < 2 ^ 32
+room_new s x e w h =
+    let l = few_below (2 ^ 32) (list_of s ++ x ∷ [])
+    (different_more (list_of s) x h.different (lacks_new s x e h)) small in
+    let m = length-append (list_of s) (x ∷ []) in
+    omega (arith, l, m)
+  where
+    small : (y : ℕ) → IsOneOf (list_of s ++ x ∷ []) y → y < 2 ^ 32
+    small y o = elim (one_split (list_of s) (x ∷ []) y o) [
+      | inl p ↦ h.small y p
+      | inr p ↦ subst (λ (z : ℕ). z < 2 ^ 32) (only_item x y p) w
+    ]
+
 -- a new symbol
 pub number_new : (old new : Symbols) (x k : ℕ) → hash.get nat_eq old.numbers x ≡ None → k ≡ length (list_of old)
     → list_of new ≡ list_of old ++ x ∷ []
     → ((q : ℕ) → hash.get nat_eq new.numbers q ≡ cond (nat_eq x q) (Some k) (hash.get nat_eq old.numbers q))
-    → AreNumbered old → UsesMore (x ∷ []) old new × Stands (list_of new) k x
-number_new old new x k e l j u h = (record { numbered = record { at = at; all = all }; uses_of = uses }, here)
+    → x < 2 ^ 32 → AreNumbered old → UsesMore (x ∷ []) old new × Stands (list_of new) k x
+number_new old new x k e l j u w h = (
+  record { numbered = record { at = at; all = all; different = different; small = small }; uses_of = uses },
+  here,
+)
   where
     here : Stands (list_of new) k x
     here = subst (λ (xs : List ℕ). Stands xs k x) (sym j)
@@ -77,11 +103,21 @@ number_new old new x k e l j u h = (record { numbered = record { at = at; all = 
         by (inr i) (inl p) = h.all y (sym (is_old y i) ∙ f) p
         by (inr i) (inr p) = elim (one_cases x [] y p) [ inl q ↦ i q | inr q ↦ one_none y q ]
 
+    lacks : HasNo (list_of old) (λ y. y ≡ x)
+    lacks = lacks_new old x e h
+
+    different : AreDifferent (list_of new)
+    different = subst AreDifferent (sym j) (different_more (list_of old) x h.different lacks)
+
+    small : (y : ℕ) → IsOneOf (list_of new) y → y < 2 ^ 32
+    small y o = by (one_split (list_of old) (x ∷ []) y (subst (λ (xs : List ℕ). IsOneOf xs y) j o))
+      where
+        by : IsOneOf (list_of old) y ⊎ IsOneOf (x ∷ []) y → y < 2 ^ 32
+        by (inl p) = h.small y p
+        by (inr p) = subst (λ (z : ℕ). z < 2 ^ 32) (only_item x y p) w
+
     uses : FirstUses (list_of old) (x ∷ []) (list_of new)
-    uses = first (record {
-      has_not = λ n y s i. h.all x e
-          (subst (IsOneOf (list_of old)) i (one_here (list_of old) n y s));
-    })
+    uses = first lacks
         (subst (λ (xs : List ℕ). FirstUses (list_of old ++ x ∷ []) [] xs) (sym j) none)
 
 -- the numbers of the symbols of a declaration so far

@@ -18,3 +18,4 @@ pub mod Laying
 pub mod Misnaming
 pub mod Rows
 pub mod Ordering
+pub mod Retested

@@ -3,7 +3,7 @@
 ghost use Rattle.std.specs.Prelude.{◌≡◌, ◌≤◌, ◌++◌, length, List, OnOk, IfOk};
 ghost use Rattle.class_table.specs.Laying.{LaysUnit, LaysMember, LaysBlock, KeepsOwn};
 
-use crate::tables::{Body, MOST_MEMBERS, Owned};
+use crate::tables::{Body, MOST_BODIES, Owned};
 use ar_base::{BodyId, Cap, Memory};
 use ar_syntax::{Member, Unit};
 use std::alloc::Global;
@@ -16,7 +16,7 @@ pub(crate) fn lay_unit(alloc: Global, bodies: &mut Vec<Body>, unit: Unit) -> Res
     ensures few { OnOk result (length bodies.new.items ≤ 16777216) }
 {
     let place = bodies.len();
-    if place >= MOST_MEMBERS {
+    if place >= MOST_BODIES {
         return Err(Memory::from(Cap::Members));
     }
     bodies.push(Body {

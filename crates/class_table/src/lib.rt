@@ -4,6 +4,8 @@
 mod containment;
 mod declaring;
 pub mod earliest;
+mod given;
+mod giving;
 mod inside;
 mod items;
 mod laws;

@@ -42,7 +42,7 @@ fn members_of(
     room: usize,
 ) -> Result<Vec<(BodyId, u32)>, Memory>
     requires there { body < length bodies.now }
-    requires room { room ≤ 16777216 }
+    requires room { room ≤ 134217728 }
     requires done { (d : Declared) × (done : List ℕ) × ListsDone d done bodies.now types.now
         × AreDone d done (own_at d body) }
     ensures { (d : Declared) (done : List ℕ) → ListsDone d done bodies.now types.now
@@ -50,21 +50,45 @@ fn members_of(
         → IfOk result (λ all. Members d body (map site_of all.items)) }
 {
     let own = &bodies[body as usize].own;
-    let mut all = inherited(alloc, bodies, types, own, room)?;
-    if own.len() > room.saturating_sub(all.len()) {
+    let count = count_members(bodies, types, own);
+    if count > room {
         return Err(Memory::from(Cap::Members));
     }
+    let mut all = inherited(alloc, bodies, types, own, count)?;
     add_own(&mut all, BodyId::new(body), own)?;
     Ok(all)
 }
 
-// The members that a body inherits, where those of each class that it extends are listed.
+// How many members a body has, where those of each class that it extends are listed.
+// Takes no memory.
+fn count_members(bodies: &[Body], types: &TypeKinds, own: &[Owned]) -> usize
+    ensures { length own.now ≤ result }
+{
+    let mut count = own.len();
+    for owned in own {
+        count = count.saturating_add(count_inherited(bodies, types, owned));
+    }
+    count
+}
+
+// How many members a member brings of the class that it extends, if it extends one.
+// Takes no memory.
+fn count_inherited(bodies: &[Body], types: &TypeKinds, owned: &Owned) -> usize {
+    let class = extended(owned).and_then(|name| types.class(name));
+    match class.and_then(|class| bodies.get(class.n as usize)) {
+        Some(body) => body.all.len(),
+        None => 0,
+    }
+}
+
+// The members that a body inherits, where those of each class that it extends are listed, with
+// room for so many.
 fn inherited(
     alloc: Global,
     bodies: &[Body],
     types: &TypeKinds,
     own: &[Owned],
-    room: usize,
+    count: usize,
 ) -> Result<Vec<(BodyId, u32)>, Memory>
     requires { (d : Declared) × (done : List ℕ) × ListsDone d done bodies.now types.now
         × AreDone d done own.now }
@@ -72,9 +96,9 @@ fn inherited(
         → AreDone d done own.now
         → IfOk result (λ all. Inherits d own.now (map site_of all.items)) }
 {
-    let mut all = Vec::new(alloc);
+    let mut all = Vec::with_capacity(alloc, count)?;
     for owned in own {
-        inherit(&mut all, bodies, types, owned, room)?;
+        inherit(&mut all, bodies, types, owned)?;
     }
     Ok(all)
 }
@@ -85,7 +109,6 @@ fn inherit(
     bodies: &[Body],
     types: &TypeKinds,
     owned: &Owned,
-    room: usize,
 ) -> Result<(), Memory>
     requires { (d : Declared) × (done : List ℕ) × ListsDone d done bodies.now types.now
         × AreDone d done (owned.now ∷ []) }
@@ -96,12 +119,12 @@ fn inherit(
 {
     match extended(owned) {
         None => Ok(()),
-        Some(name) => inherit_class(all, bodies, types, name, room),
+        Some(name) => inherit_class(all, bodies, types, name),
     }
 }
 
-// The name of the class that a member extends.
-fn extended(owned: &Owned) -> Option<NameId>
+/// The name of the class that a member extends. Takes no memory.
+pub(crate) fn extended(owned: &Owned) -> Option<NameId>
     ensures { option_map (λ x. x.n) result ≡ declared_extended owned.now }
 {
     match owned {
@@ -116,7 +139,6 @@ fn inherit_class(
     bodies: &[Body],
     types: &TypeKinds,
     name: NameId,
-    room: usize,
 ) -> Result<(), Memory>
     requires { (d : Declared) × (done : List ℕ) × ListsDone d done bodies.now types.now
         × IsDone d done name.n }
@@ -125,9 +147,6 @@ fn inherit_class(
         → OnOk result (AddsClass d name.n (map site_of all.old.items) (map site_of all.new.items)) }
 {
     let more = listed_of(bodies, types, name);
-    if more.len() > room.saturating_sub(all.len()) {
-        return Err(Memory::from(Cap::Members));
-    }
     all.extend_from_slice(more)?;
     Ok(())
 }
@@ -147,7 +166,7 @@ fn listed_of<'a>(bodies: &'a [Body], types: &TypeKinds, name: NameId) -> &'a [(B
 
 // Adds the members that stand in a body.
 fn add_own(all: &mut Vec<(BodyId, u32)>, body: BodyId, own: &[Owned]) -> Result<(), Memory>
-    requires { length own.now ≤ 16777216 }
+    requires { length own.now ≤ 134217728 }
     ensures { OnOk result (map site_of all.new.items ≡ map site_of all.old.items
         ++ sites_from body.n 0 own.now) }
 {

@@ -1,103 +1,90 @@
 //! The first name of a member that breaks rule L4.
 
-ghost use Rattle.std.specs.Prelude.{◌++◌, ℕ, List, map, OnOk, IfOk, Some};
-ghost use Rattle.ar_base.specs.declared.places.Place.{Place};
+ghost use Rattle.std.specs.Prelude.{◌≡◌, ◌+◌, ◌≤◌, ℕ, length, map, IfOk};
 ghost use Rattle.class_table.specs.Declaring.{Declared};
-ghost use Rattle.class_table.specs.Members.{Site, names_of, named_at, owned_at as declared_at};
+ghost use Rattle.class_table.specs.Members.{Members, own_at};
 ghost use Rattle.class_table.specs.Tables.{site_of};
 ghost use Rattle.class_table.specs.Earliest.{IsEarliest};
-ghost use Rattle.class_table.specs.Repeating.{HasMet, IsRepeated};
+ghost use Rattle.class_table.specs.Retested.{IsApart, IsTested, KnowsGiven, extending};
 ghost use Rattle.class_table.specs.Rules.{BreaksNames};
 ghost use Rattle.class_table.specs.Kinds.{KnowsTypes};
-ghost use Rattle.class_table.specs.Shown.{Shows, IsListed, IsDeclaredBy, member_place};
+ghost use Rattle.class_table.specs.Shown.{Shows, IsListed};
 
 use crate::earliest::earliest;
+use crate::given::Given;
+use crate::giving::names_given;
+use crate::members::extended;
 use crate::repeats::Repeats;
 use crate::sites::owned_at;
 use crate::tables::{Body, Owned};
 use crate::types::TypeKinds;
 use ar_base::{BodyId, Memory, Place};
-use ar_syntax::{Member, TypeForm};
+use ar_syntax::Member;
 use std::alloc::Global;
 
-// Meets the names that a member gives.
-fn meet(names: &mut Repeats, owned: &Owned, types: &TypeKinds) -> Result<(), Memory>
-    ensures { (d : Declared) (s : Site) (met : List (ℕ × Place)) → KnowsTypes d types.now
-        → HasMet names.old met
-        → OnOk result (HasMet names.new (met ++ map member_place (names_of d s (Some owned.now)))) }
+// How many of a list's members extend a class.
+fn count_extending(own: &[Owned]) -> usize
+    ensures { result ≡ extending own.now }
 {
-    let member = match owned {
-        Owned::Nested(name, at, _) => return names.add(*name, *at),
-        Owned::Plain(member) => member,
-    };
-    match member {
-        Member::Declare(type_name, list, _) => {
-            if is_declared(type_name.form, types) {
-                names.add_all(list)
-            } else {
-                Ok(())
-            }
+    let mut count = 0;
+    for owned in own {
+        if extended(owned).is_some() {
+            count += 1;
         }
-        Member::Clones(_, name, at)
-        | Member::Embeds(_, name, at)
-        | Member::Parameter(_, name, at, _)
-        | Member::Kept(name, at, _)
-        | Member::Event(name, at, _)
-        | Member::Observer(_, name, at, _) => names.add(*name, *at),
-        Member::Extends(_, _) => Ok(()),
-        Member::Block(_) => Ok(()),
-        Member::Hide(_) => Ok(()),
-        Member::Local(_, _, _, _) => Ok(()),
-        Member::Sync(_, _, _) => Ok(()),
-        Member::Assert(_) => Ok(()),
     }
+    count
 }
 
-// Whether a declaration by this type declares anything.
-fn is_declared(form: TypeForm, types: &TypeKinds) -> bool
-    ensures { (d : Declared) → KnowsTypes d types.now → IsDeclaredBy d form result }
+// About how many names the members at these sites give. Takes no memory.
+fn size_of(bodies: &[Body], sites: &[(BodyId, u32)]) -> usize {
+    let mut size: usize = 0;
+    for site in sites {
+        let more = match owned_at(bodies, *site) {
+            Some(Owned::Plain(Member::Declare(_, list, _))) => list.len(),
+            _ => 1,
+        };
+        size = size.saturating_add(more);
+    }
+    size
+}
+
+// How many of a body's first members need no test among themselves: where the body extends one
+// class, those of that class, unless it takes longer to look for the other names among them than to
+// test all.
+fn tested_before(bodies: &[Body], body: &Body) -> usize
+    ensures apart { (d : Declared) (b : ℕ) → Members d b (map site_of body.now.all.items)
+        → own_at d b ≡ body.now.own.items → IsApart d body.now.all.items result }
+    ensures within { result ≤ length body.now.all.items }
 {
-    match form {
-        TypeForm::Boolean => true,
-        TypeForm::Integer => false,
-        TypeForm::Named(name) => types.kind(name).is_some(),
+    if count_extending(&body.own) != 1 {
+        return 0;
     }
+    let inherited = body.all.len().saturating_sub(body.own.len());
+    let looked_up = size_of(bodies, &body.all[inherited..]).saturating_mul(inherited);
+    if looked_up / 8 > size_of(bodies, &body.all[..inherited]) {
+        return 0;
+    }
+    inherited
 }
 
-// The earliest of the later ones of two names of these members.
+// The earliest of the later ones of two names of a body, of which not both are inherited from one
+// class.
 fn in_body(
     alloc: Global,
     bodies: &[Body],
     types: &TypeKinds,
-    all: &[(BodyId, u32)],
+    given: &Given,
+    body: &Body,
 ) -> Result<Option<Place>, Memory>
-    ensures { (d : Declared) → Shows d bodies.now types.now
-        → IfOk result (IsEarliest (IsRepeated
-        (map member_place (named_at d (map site_of all.now))))) }
+    ensures { (d : Declared) (b : ℕ) → Shows d bodies.now types.now → KnowsGiven d given.now
+        → Members d b (map site_of body.now.all.items) → own_at d b ≡ body.now.own.items
+        → IfOk result (IsTested d body.now) }
 {
+    let before = tested_before(bodies, body);
+    let list = names_given(alloc, bodies, types, &body.all[before..])?;
     let mut names = Repeats::new(alloc);
-    for site in all {
-        meet_site(&mut names, bodies, types, *site)?;
-    }
-    Ok(names.found)
-}
-
-// Meets the names that the member at a site gives.
-fn meet_site(
-    names: &mut Repeats,
-    bodies: &[Body],
-    types: &TypeKinds,
-    site: (BodyId, u32),
-) -> Result<(), Memory>
-    ensures { (d : Declared) (met : List (ℕ × Place)) → Shows d bodies.now types.now
-        → HasMet names.old met
-        → OnOk result (HasMet names.new (met
-        ++ map member_place (names_of d (site_of site) (declared_at d (site_of site))))) }
-{
-    match owned_at(bodies, site) {
-        None => Ok(()),
-        Some(owned) => meet(names, owned, types),
-    }
+    names.add_all(&list)?;
+    Ok(earliest(names.found, given.first_taken(&body.all[..before], &list)))
 }
 
 /// The earliest place of a later one of two members of a body that have one name.
@@ -109,9 +96,10 @@ pub(crate) fn first_named_twice(
     ensures { (d : Declared) → KnowsTypes d types.now → IsListed d bodies.now
         → IfOk result (IsEarliest (BreaksNames d)) }
 {
+    let given = Given::new(alloc, bodies, types)?;
     let mut found = None;
     for body in bodies {
-        found = earliest(found, in_body(alloc, bodies, types, &body.all)?);
+        found = earliest(found, in_body(alloc, bodies, types, &given, body)?);
     }
     Ok(found)
 }

@@ -37,8 +37,8 @@ impl Symbols {
 
     // The number of a symbol: its own, or the next one where it is new.
     fn number(&mut self, name: NameId) -> Result<u32, Memory>
-        ensures { AreNumbered self.old
-            → IfOk result (λ n. UsesMore (name.n ∷ []) self.old self.new
+        requires { AreNumbered self.old }
+        ensures { IfOk result (λ n. UsesMore (name.n ∷ []) self.old self.new
             × Stands (list_of self.new) n name.n) }
     {
         match self.numbers.get(&name.n).copied() {
@@ -49,13 +49,12 @@ impl Symbols {
 
     // The next number for a new symbol.
     fn next_number(&mut self, name: NameId) -> Result<u32, Memory>
-        ensures { AreNumbered self.old → get nat_eq self.old.numbers name.n ≡ None
-            → IfOk result (λ n. UsesMore (name.n ∷ []) self.old self.new
+        requires numbered { AreNumbered self.old }
+        requires is_new { get nat_eq self.old.numbers name.n ≡ None }
+        ensures { IfOk result (λ n. UsesMore (name.n ∷ []) self.old self.new
             × Stands (list_of self.new) n name.n) }
     {
-        let Ok(number) = u32::try_from(self.list.len()) else {
-            return Err(Memory {});
-        };
+        let number = self.list.len() as u32;
         self.numbers.insert(name.n, number)?;
         self.list.push(name)?;
         Ok(number)
@@ -63,8 +62,8 @@ impl Symbols {
 
     // The numbers of the symbols of a declaration.
     fn numbers(&mut self, alloc: Global, names: &[(NameId, Place)]) -> Result<Vec<u32>, Memory>
-        ensures { AreNumbered self.old
-            → IfOk result (λ numbers. UsesMore (map (λ n. n.0.n) names.now) self.old self.new
+        requires { AreNumbered self.old }
+        ensures { IfOk result (λ numbers. UsesMore (map (λ n. n.0.n) names.now) self.old self.new
             × Along (λ n k. Stands (list_of self.new) k n.0.n) names.now numbers.items) }
     {
         let mut numbers = Vec::new(alloc);
@@ -76,8 +75,8 @@ impl Symbols {
 
     /// The type that a declaration of a domain declares.
     pub(crate) fn domain(&mut self, alloc: Global, body: &DomainBody) -> Result<TypeBody, Memory>
-        ensures { AreNumbered self.old
-            → IfOk result (λ t. UsesMore (symbols_in body.now) self.old self.new
+        requires { AreNumbered self.old }
+        ensures { IfOk result (λ t. UsesMore (symbols_in body.now) self.old self.new
             × IsTypeOf (list_of self.new) (DomainType body.now) t) }
     {
         match body {

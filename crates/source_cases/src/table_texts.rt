@@ -1,6 +1,6 @@
 //! The texts of the cases, each with the name of the main block that is asked for, or none.
 
-pub(crate) const CASES: [(&str, &str); 53] = [
+pub(crate) const CASES: [(&str, &str); 56] = [
     ("domain N [0, 256] block B end", ""),
     ("domain N [0, 255] block B end", ""),
     ("domain N [-3, 3] block B end", ""),
@@ -41,6 +41,18 @@ pub(crate) const CASES: [(&str, &str); 53] = [
     ("class C event a, a; end block B event b, b; end", ""),
     (
         "block B extends C; event b, b; end class C event a, a; end",
+        "",
+    ),
+    (
+        "class A event a; end class B extends A; end block M extends B; event b, a; end",
+        "",
+    ),
+    (
+        "class A event z; end block M extends A; event a,b,c,d,e,f,g,h,i,j,k,l,m,n,o,p,z; end",
+        "",
+    ),
+    (
+        "class A event a, a; end class B extends A; event b; end block M extends B; event c; end",
         "",
     ),
     ("class C end", ""),

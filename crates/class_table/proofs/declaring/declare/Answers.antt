@@ -22,7 +22,7 @@ loop-item-preserved-in_ok-push-in-Domain c =
     record {
       parts = on_next _ _ _ _ _ _ _ _ _ _ _ _ _ _ _ c.in-Some.ensures.steps.0 c.in-Some.ensures.steps.1
           c.in-Domain.is h (domain_next _ _ _ _ _ _ _ c.in-Domain.domain _ c.in_ok-push-in-Domain.ensures.items h.so_far
-          (c.in_ok-body-in-Domain.ensures h.so_far.numbered));
+          c.in_ok-body-in-Domain.ensures);
       few = c.loop-item.invariant.few;
     }
 
@@ -32,7 +32,7 @@ loop-item-preserved-in_ok-push-in-Domain-2 c =
     record {
       parts = on_next _ _ _ _ _ _ _ _ _ _ _ _ _ _ _ c.in-Some.ensures.steps.0 c.in-Some.ensures.steps.1
           c.in-Domain.is h (domain_next _ _ _ _ _ _ _ c.in-Domain.domain _ c.in_ok-push-in-Domain.ensures.items h.so_far
-          (c.in_ok-body-in-Domain.ensures h.so_far.numbered));
+          c.in_ok-body-in-Domain.ensures);
       few = c.loop-item.invariant.few;
     }
 
@@ -60,3 +60,6 @@ loop-item-preserved c =
 
 pub returns-clause-parts : goal.returns-clause-parts
 returns-clause-parts c = parts_of _ _ _ refl (on_end _ _ _ _ _ _ _ c.in-None.ensures.steps.0 c.loop-item.invariant.parts)
+
+pub domain-requires : goal.domain-requires
+domain-requires c = c.loop-item.invariant.parts.so_far.numbered

@@ -18,7 +18,7 @@ inherit-requires c = (
 )
 
 pub loop-owned-init : goal.loop-owned-init
-loop-owned-init c = λ d done lists are. rw c.new-all.ensures.items nothing
+loop-owned-init c = λ d done lists are. rw c.in_ok-all.ensures.items nothing
 
 pub loop-owned-preserved : goal.loop-owned-preserved
 loop-owned-preserved c = λ d done lists are.

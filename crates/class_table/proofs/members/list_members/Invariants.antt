@@ -6,7 +6,7 @@ use Rattle.class_table.proofs.members.list_members.Given as goal
 
 abbrev pub invariant-loop-body : goal.invariant-loop-body
 invariant-loop-body l = record {
-  room : l.room ≤ 16777216;
+  room : l.room ≤ 134217728;
   listed : (d : Declared) → Shows d l.initial.bodies l.types → CanList d l.order
       → AreListed d l.bodies (take l.body-index l.order);
 }

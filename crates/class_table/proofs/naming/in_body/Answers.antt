@@ -1,27 +1,27 @@
-use Rattle.std.proofs.Common.{ℕ, ◌<◌, List, map, length, ap, sym, subst, ◌∙◌, arith}
-use Rattle.std.proofs.lemmas.List.{take_all}
-use Rattle.ar_base.specs.Numbers.{BodyId}
-use Rattle.ar_base.proofs.Standing.{stands_get}
-use Rattle.class_table.specs.Members.{Site, named_at}
+use Rattle.std.proofs.Common.{ℕ, List, [], map, take, ap, subst, ◌∙◌}
+use Rattle.ar_base.specs.declared.places.Place.{Place}
+use Rattle.class_table.specs.Earliest.{IsEarliest}
+use Rattle.class_table.specs.Names.{name_and_place}
+use Rattle.class_table.specs.Repeating.{IsRepeated}
+use Rattle.class_table.specs.Retested.{IsTaken, names_at}
 use Rattle.class_table.specs.Tables.{site_of}
-use Rattle.class_table.specs.Repeating.{HasMet}
-use Rattle.class_table.specs.Shown.{member_place}
-use Rattle.class_table.proofs.Taken.{map_next}
-use Rattle.class_table.proofs.MemberNames.{named_next}
+use Rattle.class_table.proofs.Retested.{met_earliest, rest_whole}
 use Rattle.class_table.proofs.naming.in_body.Goals as goal
 
-pub loop-site-preserved : goal.loop-site-preserved
-loop-site-preserved c = λ d known.
-    let l : c.loop-site.site-index < length c.args.all.now = omega arith in
-    let none : BodyId × ℕ = (record { n = 0; of = record {} }, 0) in
-    let s = stands_get c.args.all.now c.loop-site.site-index none l in
-    let e = map_next site_of c.args.all.now c.loop-site.site-index _ s in
-    subst (HasMet c.meet_site.new.names)
-    (sym (ap (λ (xs : List Site). map member_place (named_at d xs)) e ∙ named_next d _ _))
-    (c.in_ok-meet_site.ensures d _ known (c.loop-site.invariant d known))
-
 pub returns : goal.returns
-returns c = λ d known.
-    let e = take_all c.loop-site.site-index c.args.all.now (omega arith) in
-    (subst (λ (xs : List (BodyId × ℕ)). HasMet c.loop-site.names (map member_place (named_at d (map site_of xs)))) e
-    (c.loop-site.invariant d known)).found
+returns c = λ d b shown given m e.
+    let list = c.in_ok-list.ensures d shown in
+    let rest = rw (c.deref.ensures.value, rest_whole) at list in
+    let met = c.in_ok-add_all.ensures [] c.new-names.ensures in
+    let took = c.first_taken.ensures d given in
+    record {
+      n = c.tested_before-before.result;
+      apart = c.tested_before-before.ensures.apart d b m e;
+      earliest = met_earliest _ _ _ _ _
+          (subst (λ (ns : List (ℕ × Place)). IsEarliest (IsRepeated ns) c.add_all.new.self.found)
+          (ap (map name_and_place) c.deref-2.ensures.value ∙ rest) met.found)
+          (subst (λ (ns : List (ℕ × Place)). IsEarliest (IsTaken
+          (names_at d (map site_of (take c.tested_before-before.result c.args.body.now.all.items))) ns) c.first_taken.result)
+          (ap (map name_and_place) c.deref-4.ensures.value ∙ rest) (rw c.deref-3.ensures.value at took))
+          c.earliest.ensures;
+    }

@@ -4,11 +4,11 @@ use Rattle.class_table.proofs.Numbered.{domain_symbols, domain_range}
 use Rattle.class_table.proofs.symbols.Symbols.domain.Goals as goal
 
 pub returns-in-Range : goal.returns-in-Range
-returns-in-Range c = λ h.
+returns-in-Range c =
     let f : SFits w64 c.in-Range.low = search rules in
     let g : SFits w64 c.in-Range.high = search rules in
-    simp to_z-of_z (domain_range _ _ _ _ c.in-Range.is h)
+    simp to_z-of_z (domain_range _ _ _ _ c.in-Range.is c.requires)
 
 pub returns-in_ok-numbers-in-Symbols : goal.returns-in_ok-numbers-in-Symbols
 returns-in_ok-numbers-in-Symbols c =
-    λ h. domain_symbols _ _ _ _ _ c.in-Symbols.is (rw c.deref.ensures.value at (c.in_ok-numbers-in-Symbols.ensures h))
+    domain_symbols _ _ _ _ _ c.in-Symbols.is (rw c.deref.ensures.value at c.in_ok-numbers-in-Symbols.ensures)

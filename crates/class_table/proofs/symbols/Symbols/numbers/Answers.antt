@@ -10,16 +10,16 @@ use Rattle.class_table.proofs.Numbered.{numbers_next, numbers_start}
 use Rattle.class_table.proofs.symbols.Symbols.numbers.Goals as goal
 
 pub loop-name-init : goal.loop-name-init
-loop-name-init c = λ h. numbers_start _ _ c.new-numbers.ensures.items h
+loop-name-init c = numbers_start _ _ c.new-numbers.ensures.items c.requires
 
 pub loop-name-preserved : goal.loop-name-preserved
-loop-name-preserved c = λ h.
+loop-name-preserved c =
     let i = c.loop-name.name-index in
     let l : c.loop-name.name-index < length c.args.names.now = omega arith in
     let none : NameId × Place = (record { n = 0; of = record {} }, record { line = 0; column = 0 }) in
     let s = stands_get c.args.names.now c.loop-name.name-index none l in
-    let g = c.loop-name.invariant h in
-    let k = numbers_next _ _ _ _ _ _ _ (get_or c.args.names.now c.loop-name.name-index none) _ c.in_ok-push.ensures.items g (c.in_ok-number.ensures g.0.numbered) in (
+    let g = c.loop-name.invariant in
+    let k = numbers_next _ _ _ _ _ _ _ (get_or c.args.names.now c.loop-name.name-index none) _ c.in_ok-push.ensures.items g c.in_ok-number.ensures in (
       subst (λ (xs : List ℕ). UsesMore xs c.args.self.now c.number.new.self)
           (sym (map_next (λ (n : NameId × Place). n.0.n) c.args.names.now c.loop-name.name-index _ s)) k.0,
       subst (λ (ns : List (NameId × Place)). Along
@@ -28,9 +28,12 @@ loop-name-preserved c = λ h.
     )
 
 pub returns : goal.returns
-returns c = λ h.
+returns c =
     let e = take_all c.loop-name.name-index c.args.names.now (omega arith) in
     subst (λ (ns : List (NameId × Place)). UsesMore (map (λ (n : NameId × Place). n.0.n) ns) c.args.self.now
     c.loop-name.self × Along (λ (n : NameId × Place) (k : ℕ). Stands (list_of c.loop-name.self) k n.0.n) ns
     c.loop-name.numbers.items) e
-    (c.loop-name.invariant h)
+    c.loop-name.invariant
+
+pub number-requires : goal.number-requires
+number-requires c = c.loop-name.invariant.0.numbered

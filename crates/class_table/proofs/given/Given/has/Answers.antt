@@ -1,0 +1,41 @@
+use Rattle.std.proofs.Common.{inl, inr, ◌∙◌, ℕ, ◌<◌, List, map, length, sym, subst, refl, arith}
+use Rattle.std.proofs.lemmas.List.{take_all}
+use Rattle.ar_base.specs.Numbers.{BodyId}
+use Rattle.ar_base.proofs.Standing.{stands_get, stands_map}
+use Rattle.class_table.specs.Members.{Site}
+use Rattle.class_table.specs.Repeating.{IsNamed}
+use Rattle.class_table.specs.Retested.{names_at}
+use Rattle.class_table.specs.Tables.{site_of}
+use Rattle.class_table.proofs.Taken.{map_next}
+use Rattle.class_table.proofs.GivenNames.{named_within, named_more}
+use Rattle.class_table.proofs.given.Given.has.Goals as goal
+
+pub returns-then-contains : goal.returns-then-contains
+returns-then-contains c = λ d known.
+    let l : c.loop-site.site-index < length c.args.sites.now = omega arith in
+    let none : BodyId × ℕ = (record { n = 0; of = record {} }, 0) in
+    let st = stands_get c.args.sites.now c.loop-site.site-index none l in (
+      λ e. named_within d (map site_of c.args.sites.now) c.loop-site.site-index _ _
+          (stands_map site_of c.args.sites.now c.loop-site.site-index _ st)
+          ((known.each _ _).0 (sym c.contains.ensures ∙ c.if-contains.true)),
+      λ n. refl,
+    )
+
+pub loop-site-preserved : goal.loop-site-preserved
+loop-site-preserved c = λ d known n.
+    let l : c.loop-site.site-index < length c.args.sites.now = omega arith in
+    let none : BodyId × ℕ = (record { n = 0; of = record {} }, 0) in
+    let st = stands_get c.args.sites.now c.loop-site.site-index none l in
+    let e = map_next site_of c.args.sites.now c.loop-site.site-index _ st in
+    elim (named_more d _ _ _ (subst (λ (ss : List Site). IsNamed (names_at d ss) c.args.name.n) e n)) [
+      | inl m ↦ c.loop-site.invariant d known m
+      | inr m ↦ (let k = (known.each _ _).1 m in let f = sym c.contains.ensures ∙ c.if-contains.false in absurd (cc))
+    ]
+
+pub returns : goal.returns
+returns c = λ d known. (
+  λ e. absurd (cc),
+  λ n. absurd (c.loop-site.invariant d known
+      (subst (λ (xs : List (BodyId × ℕ)). IsNamed (names_at d (map site_of xs)) c.args.name.n)
+      (sym (take_all c.loop-site.site-index c.args.sites.now (omega arith))) n)),
+)

@@ -1,0 +1,85 @@
+-- Names of members, of which those that a body inherits from one class are not tested again.
+use Rattle.std.specs.Prelude.{◌≡◌, ◌<◌, ◌+◌, ◌&&◌, ◌==◌, ◌⊎◌, ◌↔◌, ℕ, Bool, true, List, [], ◌∷◌, length, map, take, drop, Option, Some, None}
+use Rattle.std.specs.HashSet as bag
+use Rattle.ar_base.specs.Lists.{Stands, IsOneOf}
+use Rattle.ar_base.specs.Numbers.{BodyId}
+use Rattle.ar_base.specs.declared.places.Place.{Place}
+use Rattle.class_table.specs.Declaring.{Declared}
+use Rattle.class_table.specs.Members.{Site, Members, extended, names_of, named_at, owned_at}
+use Rattle.class_table.specs.Tables.{site_of}
+use Rattle.class_table.specs.Earliest.{IsEarliest}
+use Rattle.class_table.specs.Repeating.{IsNamed, IsRepeated}
+use Rattle.class_table.specs.Shown.{member_place}
+use Rattle.class_table.specs.declared.given.Given.{Given}
+use Rattle.class_table.specs.declared.tables.Body.{Body}
+use Rattle.class_table.specs.declared.tables.Owned.{Owned}
+
+-- the names with their places that the member at a site gives
+abbrev pub names_of_site : Declared → Site → List (ℕ × Place)
+names_of_site d s = map member_place (names_of d s (owned_at d s))
+
+-- the names with their places that the members at these sites give
+abbrev pub names_at : Declared → List Site → List (ℕ × Place)
+names_at d sites = map member_place (named_at d sites)
+
+-- the place is that of one of the later names that an earlier one has
+pub record IsTaken (earlier later : List (ℕ × Place)) (p : Place) : Type 0 where
+  pub k : ℕ
+  pub one : ℕ × Place
+  pub stands : Stands later k one
+  pub named : IsNamed earlier one.0
+  pub place : p ≡ one.1
+
+-- the place is that of one of the later names that an earlier one or one of them before it has
+pub data IsMetAgain (earlier later : List (ℕ × Place)) (p : Place) : Type 0 where
+  among : IsRepeated later p → IsMetAgain earlier later p
+  taken : IsTaken earlier later p → IsMetAgain earlier later p
+
+-- how many of these members extend a class
+abbrev pub one_if : Option ℕ → ℕ
+one_if None = 0
+one_if (Some x) = 1
+
+abbrev pub extending : List Owned → ℕ
+extending [] = 0
+extending (o ∷ os) = one_if (extended o) + extending os
+
+-- the first n of these members are all members of a class, and there are more
+pub record AreOfClass (d : Declared) (all : List (BodyId × ℕ)) (n : ℕ) : Type 0 where
+  pub class : ℕ
+  pub fewer : n < length all
+  pub are_members : Members d class (map site_of (take n all))
+
+-- the first n of these members are those of a class, or there are none
+abbrev pub IsApart : Declared → List (BodyId × ℕ) → ℕ → Type 0
+IsApart d all n = (n ≡ 0) ⊎ AreOfClass d all n
+
+-- the place is that of a name of these members that one before it has, where not both are among the first n
+abbrev pub IsMetBehind : Declared → List (BodyId × ℕ) → ℕ → Place → Type 0
+IsMetBehind d all n p = IsMetAgain (names_at d (map site_of (take n all))) (names_at d (map site_of (drop n all))) p
+
+-- the earliest such place was found
+pub record IsTested (d : Declared) (body : Body) (found : Option Place) : Type 0 where
+  pub n : ℕ
+  pub apart : IsApart d body.all.items n
+  pub earliest : IsEarliest (IsMetBehind d body.all.items n) found
+
+-- The names that members give, in a set
+
+-- a test for one site and name
+abbrev pub same_given : (ℕ × ℕ) × ℕ → (ℕ × ℕ) × ℕ → Bool
+same_given a b = ((a.0.0 == b.0.0) && (a.0.1 == b.0.1)) && (a.1 == b.1)
+
+-- the member at the site gives the name, as the set has it
+abbrev pub GivesAt : Given → Site → ℕ → Type 0
+GivesAt g s x = bag.contains same_given g.names ((s.body, s.place), x) ≡ true
+
+-- the names that the members at these sites give were added
+pub record AddsGiven (d : Declared) (sites : List Site) (old new : Given) : Type 0 where
+  pub kept : (s : Site) (x : ℕ) → GivesAt old s x → GivesAt new s x
+  pub added : (s : Site) (x : ℕ) → IsOneOf sites s → IsNamed (names_of_site d s) x → GivesAt new s x
+  pub only : (s : Site) (x : ℕ) → GivesAt new s x → GivesAt old s x ⊎ IsNamed (names_of_site d s) x
+
+-- the set has the names of each site
+pub record KnowsGiven (d : Declared) (g : Given) : Type 0 where
+  pub each : (s : Site) (x : ℕ) → GivesAt g s x ↔ IsNamed (names_of_site d s) x

@@ -1,0 +1,104 @@
+//! Which member of a body gives which name.
+
+ghost use Rattle.std.specs.Prelude.{◌≡◌, ◌∷◌, [], ◌↔◌, true, map, OnOk, IfOk};
+ghost use Rattle.class_table.specs.Declaring.{Declared};
+ghost use Rattle.class_table.specs.Tables.{site_of};
+ghost use Rattle.class_table.specs.Earliest.{IsEarliest};
+ghost use Rattle.class_table.specs.Names.{name_and_place};
+ghost use Rattle.class_table.specs.Repeating.{IsNamed};
+ghost use Rattle.class_table.specs.Retested.{IsTaken, AddsGiven, KnowsGiven, names_at, names_of_site};
+ghost use Rattle.class_table.specs.Shown.{Shows, IsListed};
+
+use crate::earliest::earliest;
+use crate::giving::meet_site;
+use crate::tables::Body;
+use crate::types::TypeKinds;
+use ar_base::{BodyId, Memory, NameId, Place};
+use std::alloc::Global;
+use std::collections::HashSet;
+
+/// The names that members give, by the body and the place of the member.
+#[derive(Drop)]
+pub(crate) struct Given {
+    names: HashSet<((u32, u32), u32)>,
+}
+
+impl Given {
+    /// The names that the members of these bodies give where they stand.
+    pub(crate) fn new(alloc: Global, bodies: &[Body], types: &TypeKinds) -> Result<Given, Memory>
+        ensures { (d : Declared) → Shows d bodies.now types.now → IsListed d bodies.now
+            → IfOk result (KnowsGiven d) }
+    {
+        let mut given = Given {
+            names: HashSet::new(alloc),
+        };
+        for body in bodies {
+            let own = body.all.len().saturating_sub(body.own.len());
+            given.add_sites(alloc, bodies, types, &body.all[own..])?;
+        }
+        Ok(given)
+    }
+
+    // Adds the names that the members at these sites give.
+    fn add_sites(
+        &mut self,
+        alloc: Global,
+        bodies: &[Body],
+        types: &TypeKinds,
+        sites: &[(BodyId, u32)],
+    ) -> Result<(), Memory>
+        ensures { (d : Declared) → Shows d bodies.now types.now
+            → OnOk result (AddsGiven d (map site_of sites.now) self.old self.new) }
+    {
+        for site in sites {
+            let mut names = Vec::new(alloc);
+            meet_site(&mut names, bodies, types, *site)?;
+            self.add_all(*site, &names)?;
+        }
+        Ok(())
+    }
+
+    // Adds names that the member at a site gives.
+    fn add_all(&mut self, site: (BodyId, u32), list: &[(NameId, Place)]) -> Result<(), Memory>
+        ensures { (d : Declared) → names_of_site d (site_of site) ≡ map name_and_place list.now
+            → OnOk result (AddsGiven d (site_of site ∷ []) self.old self.new) }
+    {
+        for (name, _) in list {
+            self.names.insert(((site.0.n, site.1), name.n))?;
+        }
+        Ok(())
+    }
+
+    // Whether a member at one of these sites gives the name. Takes no memory.
+    fn has(&self, sites: &[(BodyId, u32)], name: NameId) -> bool
+        ensures { (d : Declared) → KnowsGiven d self.now
+            → (result ≡ true) ↔ IsNamed (names_at d (map site_of sites.now)) name.n }
+    {
+        for site in sites {
+            if self.names.contains(&((site.0.n, site.1), name.n)) {
+                return true;
+            }
+        }
+        false
+    }
+
+    /// The earliest place of a name of the list that a member at one of these sites gives. Takes no
+    /// memory.
+    pub(crate) fn first_taken(
+        &self,
+        sites: &[(BodyId, u32)],
+        list: &[(NameId, Place)],
+    ) -> Option<Place>
+        ensures { (d : Declared) → KnowsGiven d self.now
+            → IsEarliest (IsTaken (names_at d (map site_of sites.now)) (map name_and_place list.now))
+            result }
+    {
+        let mut found = None;
+        for (name, at) in list {
+            if self.has(sites, *name) {
+                found = earliest(found, Some(*at));
+            }
+        }
+        found
+    }
+}

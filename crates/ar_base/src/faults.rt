@@ -35,8 +35,8 @@ impl<T: Drop> From<AllocFailed<T>> for Memory {
 /// that the answer needs is not made.
 #[derive(Clone, Copy)]
 pub enum Cap {
-    /// Bodies, and members of all bodies, inherited ones again in each body that has them: 16,777,216
-    /// of either.
+    /// Members of all bodies, inherited ones again in each body that has them: 134,217,728. Bodies:
+    /// 16,777,216.
     Members,
     /// Entries of one table of walks: names that may lead to units, over all bodies; names that are
     /// looked at in units; units that walks come to. Each table has at most 16,777,216, the last

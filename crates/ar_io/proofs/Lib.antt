@@ -1,2 +1,4 @@
 mod Holding
 pub mod Writing
+pub mod Gathering
+mod Walks

@@ -1,3 +1,4 @@
 pub mod Outside
 pub mod Writing
 pub mod Memories
+pub mod Gathering

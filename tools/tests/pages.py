@@ -194,7 +194,8 @@ def at_place(line, text):
     """What the text has at the place that a line names, or the path that it names."""
     place = re.search(r"([0-9]+):([0-9]+)(?: |$)", line)
     if not place:
-        return line.split(" at ")[-1]
+        flow = re.search(r": flow (\S+) ", line)
+        return flow[1] if flow else line.split(" at ")[-1]
     rows = text.encode().split(b"\n")
     row, column = int(place[1]) - 1, int(place[2]) - 1
     return b"\n".join(rows[row:])[column:].decode("utf-8", "replace")

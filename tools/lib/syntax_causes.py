@@ -32,6 +32,13 @@ FIRST_WORDS = {
     "import": "a model is one text that imports nothing",
 }
 
+NEAR = {
+    "assert": "assertion", "assertions": "assertion", "transitions": "transition", "trans": "transition", "events": "event",
+    "observers": "observer", "observe": "observer", "param": "parameter", "parameters": "parameter", "extend": "extends",
+    "classes": "class", "blocks": "block", "domains": "domain", "elsif": "else if", "elseif": "else if", "elif": "else if",
+    "endclass": "end", "endblock": "end", "ends": "end",
+}
+
 OPERATORS = {
     "xor": "there is no `xor`: of truth values it is written `a != b`",
     "mod": "there is no remainder and no division",
@@ -222,6 +229,14 @@ def _of_section(fault, after):
         return "a transition has a guard before `->`: where it can always happen, this is `true`"
     if at.kind == "==" and ":=" in fault.wanted:
         return "an assignment is written `:=`; `==` is a comparison, and compares nothing where an assignment begins"
+    if at.kind == "switch" and "skip" in fault.wanted:
+        return "`switch` is an expression, after `:=`: for instructions write `if TEST then .. else ..`"
+    if at.kind == "," and form in ("instruction", "transition of an event") and "and" in fault.wanted and ";" in fault.wanted:
+        return "an assignment ends with `;`: those of one transition are in braces, as `{ a := 1; b := 2; }`"
+    if at.kind in ("and", "+", "or") and "&" in fault.wanted:
+        return "the parts of a synchronisation are joined by `&`"
+    if at.kind == ":" and "skip" in fault.wanted:
+        return "no `:` follows `assertion`"
     if at.kind == "=" and ":=" in fault.wanted:
         return "an assignment is written `:=`; `=` is for declarations alone"
     if at.kind == "," and form == "transition of an event" and ":" in fault.wanted:
@@ -244,10 +259,6 @@ def _of_expression(fault, after):
     if "else" in fault.wanted and "and" in fault.wanted and at.kind in (";", "end", ")", "}", ","):
         return "an `if` in an expression has an `else`, so that it always has a value"
     if "and" in fault.wanted:
-        if at.kind == "name" and at.text.lower() in RESERVED:
-            return "the word is `%s`: small letters and capitals differ" % at.text.lower()
-        if before.kind == "name" and before.text.lower() in ("not", "true", "false") and at.kind in ("name", "("):
-            return "the word is `%s`: small letters and capitals differ" % before.text.lower()
         if at.kind == ";" and ")" in fault.wanted:
             return "a bracket is open: a `)` is missing before the `;`"
         if at.kind == ")" and ")" not in fault.wanted:
@@ -276,9 +287,37 @@ def _of_expression(fault, after):
     return None
 
 
+def meant(token, is_first):
+    """The word of the language that a name is most likely meant for, or None."""
+    if token is None or token.kind != "name":
+        return None
+    if token.text.lower() in RESERVED:
+        return token.text.lower()
+    word = NEAR.get(token.text.lower())
+    return word if is_first or word == "else if" else None
+
+
+def _of_word(fault):
+    """A cause where the form at the place begins with a name that is nearly a word of the language."""
+    first, before, at = fault.open[-1][1] if fault.open else fault.at, fault.before, fault.at
+    is_class = fault.open and fault.open[-1][0] == "declaration" and first is not before and first.text.istitle()
+    tokens = [] if is_class else [first]
+    is_name = fault.open and before is not None and fault.open[-1][0].endswith(" " + before.text)
+    if before is not None and before.line == at.line:
+        tokens += [at] if is_name else [before, at]
+    for token in tokens:
+        word = meant(token, token is first)
+        if word:
+            return "`%s` is no word of the language: it is written `%s`" % (token.text, word)
+    return None
+
+
 def of_syntax(fault, after):
     """The cause of a SyntaxFault; `after` is the token behind its place, or None."""
     at = fault.at
+    near = _of_word(fault)
+    if near:
+        return near
     if not fault.open and at.kind == "name" and at.text in FIRST_WORDS:
         return FIRST_WORDS[at.text]
     if not fault.open and at.kind != "END" and fault.wanted <= {"domain", "class", "block", "END"}:

@@ -31,6 +31,7 @@ import sys
 import tempfile
 
 LINES, LENGTH = 400, 300
+SECONDS = 120
 
 # Pages that are tried for their links alone until they have a comment of the kinds above.
 PENDING = set()
@@ -67,8 +68,11 @@ def run(words):
     key = tuple(words)
     if key not in outputs:
         env = {**os.environ, "PATH": f"{folder}:{os.environ['PATH']}", "LC_ALL": "C.UTF-8"}
-        done = subprocess.run(words, stdin=subprocess.DEVNULL, stdout=subprocess.PIPE, stderr=subprocess.STDOUT, env=env, timeout=120)
-        outputs[key] = done.returncode, done.stdout.decode("utf-8", "replace")
+        try:
+            done = subprocess.run(words, stdin=subprocess.DEVNULL, stdout=subprocess.PIPE, stderr=subprocess.STDOUT, env=env, timeout=SECONDS)
+            outputs[key] = done.returncode, done.stdout.decode("utf-8", "replace")
+        except subprocess.TimeoutExpired:
+            outputs[key] = "none", f"it has not ended after {SECONDS} seconds"
     return outputs[key]
 
 

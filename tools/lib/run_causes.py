@@ -330,12 +330,32 @@ def unset_before(flat, number):
     return [p for p, v in flat.variables.items() if p in seen and not v.state and p not in set_by]
 
 
+def set_under_conditions(flat, number):
+    """The flows on which an assignment depends, and not they on themselves, that are assigned under conditions alone, with the places."""
+    seen, own = before_all(flat, [a.set for a in flat.asserts if a.number == number]), {}
+    for one in flat.asserts:
+        own.setdefault(one.set.target, []).append(one.set)
+    return [(p, places(flat)[p]) for p in flat.variables if p in seen and p in own and all(s.conditions for s in own[p])
+            and not covered(own[p]) and p not in before_all(flat, own[p])]
+
+
+def covered(sets):
+    """Whether one of the assignments is for where a condition holds and one for where it does not."""
+    alone = {s.conditions[0] for s in sets if len(s.conditions) == 1}
+    return any((condition, not wanted) in alone for condition, wanted in alone)
+
+
 def not_held(asked, number):
     unset = unset_before(asked.flat, number)
     if unset:
         shown = quoted(unset[:3]) + (" and %d more" % (len(unset) - 3) if len(unset) > 3 else "")
         return ("it depends on %s, which no assertion sets: a reset value is there in the end alone, and gives no assignment "
                 "its value on the way" % shown)
+    partly = set_under_conditions(asked.flat, number)
+    if partly:
+        path, at = partly[0]
+        return ("it depends on `%s`, which is set under conditions alone, at %s: where none of them holds, `%s` has no value but "
+                "its reset, in the end: set it there too, as by `else`" % (path, " and ".join(at), path))
     one = next(a.set for a in asked.flat.asserts if a.number == number)
     said = "no value follows for `%s`, so it has its reset value %s, and with that its assignment gives another one" % (
         one.target, asked.flat.variables[one.target].value)

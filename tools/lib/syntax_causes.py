@@ -5,6 +5,7 @@ from tokens import RESERVED
 VALUE = ("(", "-", "count", "false", "main", "max", "min", "name", "owner", "real", "switch", "true", "whole")
 
 CHARACTERS = {
+    "'": "no token begins with `'`: a symbol of a domain is a plain word, as `OK`",
     '"': "there are no strings, neither as values nor in attributes of events, and a model is one text that imports "
          "nothing",
     "#": "no token begins with `#`: how many of some conditions are true is written `count(a, b, c)`",
@@ -29,6 +30,13 @@ FIRST_WORDS = {
     "package": "there are no packages: all classes and blocks are items of one text",
     "record": "there are no records: each of its fields is a variable, or the record a class of flows",
     "import": "a model is one text that imports nothing",
+}
+
+NEAR = {
+    "assert": "assertion", "assertions": "assertion", "transitions": "transition", "trans": "transition", "events": "event",
+    "observers": "observer", "observe": "observer", "param": "parameter", "parameters": "parameter", "extend": "extends",
+    "classes": "class", "blocks": "block", "domains": "domain", "elsif": "else if", "elseif": "else if", "elif": "else if",
+    "endclass": "end", "endblock": "end", "ends": "end",
 }
 
 OPERATORS = {
@@ -68,6 +76,8 @@ def of_lex(fault, text):
         return "the text begins with a byte order mark (the bytes EF BB BF): save it as UTF-8 without one"
     if ord(at.text) >= 128:
         return "outside of comments there are letters, digits and signs of ASCII alone, in names too"
+    if at.text == "#" and not text[:at.start].rpartition("\n")[2].strip():
+        return "a comment begins with `//`"
     cause = CHARACTERS.get(at.text, "no token begins with `%s`" % at.text)
     first = text[:at.start].split(None, 1)[:1]
     return "%s; and %s" % (cause, FIRST_WORDS[first[0]]) if first and first[0] in ("node",) else cause
@@ -102,6 +112,53 @@ def _of_semicolon(fault):
     return None
 
 
+def followed(at, after, kind):
+    """Whether the token at the place and the one behind it are one sign of two characters elsewhere."""
+    return after is not None and after.kind == kind and adjacent(at, after)
+
+
+def _of_header(fault):
+    """Causes where a body begins, or where words of a section come without it."""
+    at, before = fault.at, fault.before
+    form = fault.open[-1][0] if fault.open else ""
+    if before is not None and "extends" in fault.wanted and form.split(" ")[0] in ("class", "block"):
+        if form.endswith(" " + before.text):
+            if at.kind in ("{", ";", ":", "=") and at.line == before.line:
+                return "the body of a class or block begins behind its name, with no `%s`, and ends with `end`" % at.text
+            if at.kind == "(":
+                return "a class has no list of parameters: each is declared in the body, as `parameter Level size = 3;`"
+        if at.kind == ";" and before.kind == ";":
+            return "one `;` ends a declaration, a transition or an assertion: this is one more"
+        if at.kind in ("class", "domain"):
+            return "a `%s` is an item of the text: the body before it needs its `end`" % at.kind
+    if at.kind == ";" and before is not None and before.kind == ";" and "skip" in fault.wanted:
+        return "one `;` ends a declaration, a transition or an assertion: this is one more"
+    if at.kind == ":" and fault.wanted == {"name"}:
+        return "transitions follow the word `transition`, as `transition %s: GUARD -> ACTION;`" % before.text
+    if at.kind == ":=" and fault.wanted == {"name"} and form not in ("observer", "parameter"):
+        return "assignments of flows follow the word `assertion`, as `assertion %s := VALUE;`" % before.text
+    return None
+
+
+def _of_settings(fault):
+    """Causes where a variable's value or an observer's condition is written."""
+    at, before = fault.at, fault.before
+    form = fault.open[-1][0] if fault.open else ""
+    if at.kind == "=" and form == "declaration" and ";" in fault.wanted:
+        return "the first value of a variable is in brackets, as `(init = VALUE)` of a state or `(reset = VALUE)` of a flow"
+    if at.kind in (":=", "==") and "=" in fault.wanted and not fault.wanted & {":=", "and"}:
+        return "in settings, parameters and observers there is a single `=`"
+    if at.kind == "name" and ";" in fault.wanted and "," in fault.wanted and before.kind == "name" and before.line == at.line:
+        if form == "declaration":
+            return "names in one declaration have commas between them"
+        if at.text in ("delay", "hook", "policy", "expectation", "weight"):
+            return "the attributes of an event are in brackets, as `event e (delay = ..);`"
+        return "events in one list have commas between them"
+    if at.kind == ";" and fault.wanted == {"name"} and before.kind == "name":
+        return "a declaration begins with a type, and names in one declaration have commas between them, as `C a, b;`"
+    return None
+
+
 def _of_declaration(fault):
     at, before = fault.at, fault.before
     form = fault.open[-1][0] if fault.open else ""
@@ -118,6 +175,8 @@ def _of_declaration(fault):
     if at.kind == "," and before.kind == ")" and form == "declaration":
         return ("a declaration has its settings once, after all its names, and they hold for all of them: write two "
                 "declarations, as `C a (x = 1); C b;`")
+    if at.kind == "Boolean" and before.kind == "name":
+        return "a declaration begins with its type, as `Boolean`: `%s` is no word of the language" % before.text
     if at.kind == "[" and form == "declaration":
         return "there are no arrays of parts: each has a name of its own, as `C c1, c2, c3;`"
     if at.kind == "(" and form == "declaration" and "," in fault.wanted:
@@ -144,21 +203,46 @@ def _of_lists(fault):
 
 def _of_section(fault, after):
     at, before, form = fault.at, fault.before, fault.open[-1][0] if fault.open else ""
-    if form in ("transition of an event", "instruction") and at.kind == "name" and before.kind == "name":
+    if form in ("transition of an event", "instruction") and at.kind == "name" and before.kind == "name" and (
+            fault.wanted & {":", ":="}):
         if ":" in fault.wanted and before.text in ("for", "while", "foreach") or before.text in ("for", "while"):
             return "there are no loops: each assertion is written out"
-        if form == "transition of an event" and (after is None or after.kind not in ("(", ",", ";")):
+        is_declaration = after is not None and after.kind in ("(", ",", ";")
+        if form == "transition of an event" and not is_declaration:
             return "a transition is written `EVENT: GUARD -> ACTION;`: the `:` is missing after `%s`" % before.text
+        if not is_declaration:
+            return "an assignment is written `FLOW := VALUE;`: the `:=` is missing after `%s`" % before.text
         if form == "transition of an event" or before.line == at.line:
             section = next(f for f, _ in reversed(fault.open) if f in ("transition", "assertion"))
-            return ("a declaration that begins with a name comes before the first `transition` or `assertion` of its body, "
-                    "and this one comes in the section `%s`" % section)
+            cause = ("a declaration that begins with a name comes before the first `transition` or `assertion` of its body, "
+                     "and this one comes in the section `%s`" % section)
+            return cause + ("; or the `:=` of an assignment is missing" if section == "assertion" and after.kind == ";" else "")
     if at.kind == "switch" and form == "instruction":
         return "`switch` is an expression, after `:=`, as `s := switch { case TEST: VALUE default: VALUE };`"
     if at.kind == ";" and before is not None and before.kind == "}":
         return "no `;` follows the `}` of a list of instructions: each instruction in it ends with its own `;`"
+    if "->" in fault.wanted and ":=" not in fault.wanted and (
+            at.kind in ("then", "=", ":=") and not (at.kind == "=" and not followed(at, after, ">")) or at.kind == "name"
+            and at.text.lower() not in RESERVED and at.text not in OPERATORS):
+        return "a transition is written `EVENT: GUARD -> ACTION;`, with `->` between the guard and the action"
+    if at.kind == "->" and "not" in fault.wanted:
+        return "a transition has a guard before `->`: where it can always happen, this is `true`"
+    if at.kind == "==" and ":=" in fault.wanted:
+        return "an assignment is written `:=`; `==` is a comparison, and compares nothing where an assignment begins"
+    if at.kind == "switch" and "skip" in fault.wanted:
+        return "`switch` is an expression, after `:=`: for instructions write `if TEST then .. else ..`"
+    if at.kind == "," and form in ("instruction", "transition of an event") and "and" in fault.wanted and ";" in fault.wanted:
+        return "an assignment ends with `;`: those of one transition are in braces, as `{ a := 1; b := 2; }`"
+    if at.kind in ("and", "+", "or") and "&" in fault.wanted:
+        return "the parts of a synchronisation are joined by `&`"
+    if at.kind == ":" and "skip" in fault.wanted:
+        return "no `:` follows `assertion`"
     if at.kind == "=" and ":=" in fault.wanted:
         return "an assignment is written `:=`; `=` is for declarations alone"
+    if at.kind == "," and form == "transition of an event" and ":" in fault.wanted:
+        return "a transition is one of one event: each event has a line of its own, as `e: GUARD -> ACTION;`"
+    if "then" in fault.wanted and "and" in fault.wanted and at.kind not in ("=", "&", "/", "!", "(") and at.kind not in COMPARISONS:
+        return "an `if` has a `then` behind its test, as `if TEST then FLOW := VALUE;`"
     if at.kind == "." and form == "transition of an event" and ":" in fault.wanted:
         return "a transition names an event of its own unit, without a path: it is written in the unit that declares the event"
     if at.kind == ":=" and form == "transition of an event" and ":" in fault.wanted:
@@ -175,11 +259,15 @@ def _of_expression(fault, after):
     if "else" in fault.wanted and "and" in fault.wanted and at.kind in (";", "end", ")", "}", ","):
         return "an `if` in an expression has an `else`, so that it always has a value"
     if "and" in fault.wanted:
+        if at.kind == ";" and ")" in fault.wanted:
+            return "a bracket is open: a `)` is missing before the `;`"
+        if at.kind == ")" and ")" not in fault.wanted:
+            return "this `)` closes no bracket"
         if at.kind in COMPARISONS:
             return "a comparison has two sides: two comparisons are joined by `and`, as `0 < n and n < 3`"
         if at.kind == "=":
             if after is not None and after.kind == ">" and adjacent(at, after):
-                return "there is no `=>`: it is written `not a or b`"
+                return "there is no `=>`: at least is written `>=`, and where a implies b `not a or b`"
             return "a comparison is written `==`"
         if at.kind == "&":
             return "`and` is a word: `&` joins the parts of a synchronisation alone"
@@ -199,19 +287,47 @@ def _of_expression(fault, after):
     return None
 
 
+def meant(token, is_first):
+    """The word of the language that a name is most likely meant for, or None."""
+    if token is None or token.kind != "name":
+        return None
+    if token.text.lower() in RESERVED:
+        return token.text.lower()
+    word = NEAR.get(token.text.lower())
+    return word if is_first or word == "else if" else None
+
+
+def _of_word(fault):
+    """A cause where the form at the place begins with a name that is nearly a word of the language."""
+    first, before, at = fault.open[-1][1] if fault.open else fault.at, fault.before, fault.at
+    is_class = fault.open and fault.open[-1][0] == "declaration" and first is not before and first.text.istitle()
+    tokens = [] if is_class else [first]
+    is_name = fault.open and before is not None and fault.open[-1][0].endswith(" " + before.text)
+    if before is not None and before.line == at.line:
+        tokens += [at] if is_name else [before, at]
+    for token in tokens:
+        word = meant(token, token is first)
+        if word:
+            return "`%s` is no word of the language: it is written `%s`" % (token.text, word)
+    return None
+
+
 def of_syntax(fault, after):
     """The cause of a SyntaxFault; `after` is the token behind its place, or None."""
     at = fault.at
+    near = _of_word(fault)
+    if near:
+        return near
     if not fault.open and at.kind == "name" and at.text in FIRST_WORDS:
         return FIRST_WORDS[at.text]
     if not fault.open and at.kind != "END" and fault.wanted <= {"domain", "class", "block", "END"}:
         return _of_item(fault)
     if at.kind in NOT_MEMBERS and "extends" in fault.wanted:
-        return NOT_MEMBERS[at.kind]
+        return _of_header(fault) or NOT_MEMBERS[at.kind]
     if "extends" in fault.wanted and at.kind == "name":
         return ("a declaration that begins with a name comes before the first `transition` or `assertion` of its body")
-    tries = [lambda: _of_section(fault, after), lambda: _of_lists(fault), lambda: _of_declaration(fault),
-             lambda: _of_expression(fault, after)]
+    tries = [lambda: _of_section(fault, after), lambda: _of_lists(fault), lambda: _of_header(fault),
+             lambda: _of_declaration(fault), lambda: _of_settings(fault), lambda: _of_expression(fault, after)]
     if at.kind == "END":
         tries.insert(0, lambda: _of_end(fault))
     for one in tries:
@@ -231,5 +347,9 @@ def _of_item(fault):
         return "one `end` more than there are bodies: the one before ended the last open body"
     if at.kind == ";":
         return "no `;` follows the `end` of a class or block"
+    if at.kind == "-":
+        return "a comment begins with `//`"
+    if at.kind == "if":
+        return "an `if` has no `end`: the `end` before it ended the body"
     return "a text is made of `domain`, `class` and `block` alone, and this is %s%s" % (
         name_of(at), "" if fault.before is None else ": the body before is ended already")

@@ -11,6 +11,7 @@ equal "lint says of hydraulic that gear_power is read nowhere" \
   "examples/hydraulic.alt:35:24: lint: flow gear_power is read nowhere: no assertion, transition or observer names it status 1" \
   "$(tools/lint examples/hydraulic.alt 2>&1) status $?"
 equal "lint says each slip of slips.alt" "$(cat tests/lint/expected)" "$(tools/lint tests/lint/slips.alt 2>&1)"
+equal "lint says which loops of flows nothing starts, and which flows their own assertion reads" "$(cat tests/lint/loops.expected)" "$(tools/lint tests/lint/loops.alt 2>&1)"
 equal "lint says which values a domain does not have" "$(cat tests/lint/values.expected)" "$(tools/lint tests/lint/values.alt 2>&1)"
 equal "lint finds the nine things that vote.alt leaves open, and the two that vote2.alt reads nowhere" '9 2' \
   "$(tools/lint tests/beside/vote.alt | wc -l) $(tools/lint tests/beside/vote2.alt | wc -l)"

@@ -11,6 +11,10 @@ A fenced block has directly above it one of these lines:
                                     the program
   <!-- text -->                     the block is not compared
 
+A table has directly above it `<!-- slips: WORDS | status=N -->`. Each row has what is at the place that the program names, a
+slip, and the same without it, each between backquotes. With the slip in place of the line `// the row` of the model in WORDS
+the program ends with this status and names this place; with the mended text it ends with status 0.
+
 Further: no page uses certain words of output, files and values (PATTERNS), a page has at most 400 lines of at most
 300 characters, and links lead to files and headings that are there.
 
@@ -27,6 +31,7 @@ import sys
 import tempfile
 
 LINES, LENGTH = 400, 300
+SECONDS = 120
 
 # Pages that are tried for their links alone until they have a comment of the kinds above.
 PENDING = set()
@@ -40,6 +45,7 @@ PATTERNS = [
 ]
 
 COMMENT = re.compile(r"^<!-- (file: (?P<file>\S+)|part: (?P<part>\S+)|run: (?P<run>.*?)|shell: (?P<shell>.*?)|(?P<commands>commands)|(?P<text>text))(?P<status> \| status=(?P<number>\d+))? -->$")
+SLIPS = re.compile(r"^<!-- slips: (?P<words>.*) \| status=(?P<number>\d+) -->$")
 PROGRAM = os.environ.get("ALTARICA", "")
 outputs = {}
 
@@ -62,8 +68,11 @@ def run(words):
     key = tuple(words)
     if key not in outputs:
         env = {**os.environ, "PATH": f"{folder}:{os.environ['PATH']}", "LC_ALL": "C.UTF-8"}
-        done = subprocess.run(words, stdin=subprocess.DEVNULL, stdout=subprocess.PIPE, stderr=subprocess.STDOUT, env=env, timeout=120)
-        outputs[key] = done.returncode, done.stdout.decode("utf-8", "replace")
+        try:
+            done = subprocess.run(words, stdin=subprocess.DEVNULL, stdout=subprocess.PIPE, stderr=subprocess.STDOUT, env=env, timeout=SECONDS)
+            outputs[key] = done.returncode, done.stdout.decode("utf-8", "replace")
+        except subprocess.TimeoutExpired:
+            outputs[key] = "none", f"it has not ended after {SECONDS} seconds"
     return outputs[key]
 
 
@@ -172,6 +181,58 @@ def blocks(page, lines, is_pending):
         number = end + 1
 
 
+def with_row(comment, code):
+    """The status, the first line and the model of the words with this code in place of the model's line `// the row`."""
+    verb, model, *others = shlex.split(comment["words"])
+    with open(model, encoding="utf-8") as it:
+        text = re.sub(r"(?m)^ *// the row$", lambda _: code, it.read())
+    path = f"{folder}/row.alt"
+    with open(path, "w", encoding="utf-8") as it:
+        it.write(text)
+    outputs.pop((PROGRAM, verb, path, *others), None)
+    status, output = run([PROGRAM, verb, path, *others])
+    return status, (lines_of(output) or [""])[0], text
+
+
+def at_place(line, text):
+    """What the text has at the place that a line names, or the path that it names."""
+    place = re.search(r"([0-9]+):([0-9]+)(?: |$)", line)
+    if not place:
+        flow = re.search(r": flow (\S+) ", line)
+        return flow[1] if flow else line.split(" at ")[-1]
+    rows = text.encode().split(b"\n")
+    row, column = int(place[1]) - 1, int(place[2]) - 1
+    return b"\n".join(rows[row:])[column:].decode("utf-8", "replace")
+
+
+def row_fault(comment, cells):
+    """Says why a row's slip is not refused at its place, or its mended text is."""
+    codes = [re.search(r"`([^`]*)`", cell) for cell in cells[:3]]
+    if len(codes) < 3 or not all(codes):
+        return "a row has three cells with code"
+    there, slip, mended = (code[1] for code in codes)
+    status, line, text = with_row(comment, slip)
+    if status != int(comment["number"]):
+        return f"with the slip the program ends with {status}: {line}"
+    if not at_place(line, text).startswith(there):
+        return f"the place of {line} has `{at_place(line, text)[:20]}`"
+    status, line, _ = with_row(comment, mended)
+    return f"the mended text ends with {status}: {line}" if status else ""
+
+
+def tables(page, lines):
+    """Tries each row of the tables of slips."""
+    for number, line in enumerate(lines):
+        comment = SLIPS.match(line)
+        at = number + 3
+        while comment and at < len(lines) and lines[at].startswith("| "):
+            cells = lines[at].strip().strip("|").split("|")
+            point(f"{page}:{at + 1} a slip, and how it is mended", row_fault(comment, cells))
+            at += 1
+        if comment and at == number + 3:
+            failed(f"{page}:{number + 1}", "no row of a table is below")
+
+
 def words(page, lines):
     faults = []
     for number, line in enumerate(outside_of_blocks(lines), 1):
@@ -224,6 +285,7 @@ def main():
         lines = read(page)
         is_pending = page in PENDING and not any(map(COMMENT.match, lines))
         blocks(page, lines, is_pending)
+        tables(page, lines)
         links(page, lines)
         if not is_pending:
             words(page, lines)

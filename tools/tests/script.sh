@@ -230,6 +230,8 @@ fault: {trip}: flow x has two values|fault: flow has two values
 fault: {a.fail, b.fail}: flow x is outside its domain|fault: flow is outside its domain
 fault: {}: assignment 1 at 14:5 does not hold|fault: assignment does not hold
 END
+(cd "$copy" && ./altarica --explain syntax 2>"$lab/err" | head -n 1) >"$lab/got"
+point "--explain into a reader that ends early: no further words" both '[ ! -s "$lab/err" ]' 'grep -q "^## syntax" "$lab/got"'
 run --explain nonsense
 point "--explain of nothing: the list of sections, status 1" both '[ $status -eq 1 ]' 'said "no page has a section on nonsense"' 'said "L14:"'
 

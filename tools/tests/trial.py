@@ -1,4 +1,4 @@
-"""What a new user meets: three models, and a dozen typical mistakes in each.
+"""What a new user meets: three models, and a dozen and more typical mistakes in each.
 
 Tried is that the models have the cuts that were found by hand, that each mistake gets the line that is written here, and
 that the section which `./altarica --explain` prints for this line has the words that mend the mistake.
@@ -68,6 +68,13 @@ MISTAKES = {
         Mistake("the failure of a spare reads the other train",
                 [("  Component valve, pump, check;\n", PUMP), ("    a.suction :=", DEMAND)], DRY,
                 "outside: S3 at a.pump.state", "compute in flows what follows from it"),
+        Mistake("the guard of a pump reads a flow of its own",
+                [("  Component valve, pump, check;\n", PUMP.replace("demand", "on")), ("    a.power :=", "    a.pump.on := true;\n    b.pump.on := true;\n    a.power :=")],
+                DRY, "outside: S3 at a.pump.state", "leave the flow out of the guard"),
+        Mistake("= is written for ==", [("fail: state == OK", "fail: state = OK")], ("check",), "syntax: 7:17",
+                "`transition fail: mode = OK -> mode := FAILED;`"),
+        Mistake("the word transition is forgotten", [("  transition\n", "")], ("check",), "syntax: 6:9",
+                "`fail: mode == OK -> mode := FAILED;`"),
         Mistake("a flow is asked for", [], ("cuts", "--observer", "a.flow"), "script: no observer", "a flow is none"),
         Mistake("an input is left open", [("    b.power := bus_b.state == OK;\n", "")], DRY, "{tank.fail}",
                 "an input is open"),
@@ -87,6 +94,12 @@ MISTAKES = {
                 "A misspelt\nsymbol is L10 too"),
         Mistake("a symbol is of another domain", [("domain Votes", "domain Pump {ON, OFF}\ndomain Votes"), ("= OK)", "= ON)")],
                 ("check",), "rule: L12 at 6:21", "A symbol of another domain is L12"),
+        Mistake("a repair leads back from several modes",
+                [("fail_high;\n", "fail_high, repair;\n"), ("    fail_high:", "    repair: mode != OK -> mode := OK;\n    fail_high:")],
+                NO_TRIP, "outside: S5 at s1.mode", "A repair from several modes"),
+        Mistake("an assignment before else has no ;",
+                [("trips := voter.ok and asking >= 2;", "if voter.ok then trips := asking >= 2 else trips := false;")],
+                ("check",), "syntax: 27:43", "`assertion if mode == OK then flow := power; else flow := false;`"),
         Mistake("two failures lead to one mode", [("mode := HIGH", "mode := LOW")], NO_TRIP, "outside: S6 at s1.mode",
                 "Give each event a mode of its own"),
         Mistake("votes are counted up", [(ASKING, "    asking := 0;\n" + COUNTED.rstrip("\n"))], NO_TRIP,
@@ -99,6 +112,11 @@ MISTAKES = {
     "loop": [
         Mistake("an if reads a flow of the loop", [("(fed or from_left or", "(if from_left then true else fed or")], DARK,
                 "fault: {}: assignment 10 at 13:5 does not hold", "HOWTO_LOOPS"),
+        Mistake("nothing starts the loop", [("b1.fed := grid.ok", "b1.fed := false"), ("b3.fed := diesel.ok", "b3.fed := false")],
+                DARK, "{}", "nothing feeds the loop"),
+        Mistake("an input is set under a condition alone",
+                [("    b2.fed := false;", "    if not grid.ok then b2.fed := false;"), ("fed or from", "not fed or from")], DARK,
+                "fault: {}: assignment 11 at 13:5 does not hold", "as where an `if` has no `else`"),
         Mistake("repairs are not dropped", [], ("cuts", "--observer", "dark"), "outside: S6 at grid.ok",
                 "Leave the repairs out"),
         Mistake("a space is behind the comma of --drop", [], (*DARK[:-1], "grid.mend,", "diesel.mend"),

@@ -1,5 +1,5 @@
 -- Where settings are, one after the other.
-use Rattle.std.proofs.Common.{◌≡◌, ℕ, zero, suc, ◌+◌, ◌<◌, ◌≤◌, ◌⊎◌, inl, inr, Bool, true, false, cond, ◌&&◌, nat_eq, List, [], ◌∷◌, ◌++◌, map, length, drop, slice_get, Vec, Option, Some, None, refl, sym, ◌∙◌, ap, subst, arith}
+use Rattle.std.proofs.Common.{◌≡◌, ℕ, ◌+◌, ◌<◌, ◌≤◌, ◌⊎◌, inl, inr, Bool, true, false, cond, ◌&&◌, nat_eq, List, [], ◌∷◌, map, length, drop, slice_get, Vec, Option, Some, None, refl, sym, ◌∙◌, ap, subst, arith}
 use Rattle.std.specs.Global.{Global}
 use Rattle.std.specs.Cmp.Lexicographic.{pointwise}
 use Rattle.std.proofs.Common.{eq-eqb, ne_eqb}
@@ -12,7 +12,7 @@ use Rattle.ar_base.proofs.Items.{none_left}
 use Rattle.instantiate.proofs.Dropped.{drop_here}
 use Rattle.ar_syntax.specs.declared.members.Setting.{Setting}
 use Rattle.class_table.specs.Declaring.{TextBody}
-use Rattle.class_table.specs.Members.{Site, own_of, own_at, owned_at}
+use Rattle.class_table.specs.Members.{Site, own_of, own_at}
 use Rattle.hierarchy.specs.Models.{RootedModel}
 use Rattle.hierarchy.specs.Units.{UnitPath}
 use Rattle.hierarchy.specs.Settings.{TargetWord, Named, Init, Reset, same_word, same_target, target_of, setting_for, settings_of, settings_at}

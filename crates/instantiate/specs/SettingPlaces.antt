@@ -1,5 +1,5 @@
 -- Where settings are, as a table tells it.
-use Rattle.std.specs.Prelude.{◌≡◌, ◌<◌, ◌≤◌, ◌⊎◌, ℕ, List, [], ◌∷◌, map, Option, Vec, nat_eq}
+use Rattle.std.specs.Prelude.{◌≡◌, ◌<◌, ◌⊎◌, ℕ, List, [], ◌∷◌, map, Option, Vec, nat_eq}
 use Rattle.std.specs.Global.{Global}
 use Rattle.std.specs.HashMap as hash
 use Rattle.std.specs.Cmp.Lexicographic.{pointwise}

@@ -1,4 +1,4 @@
-use Rattle.std.proofs.Common.{◌≡◌, ℕ, List, Vec, length, nat_eq, sym, ◌∙◌, ap, arith}
+use Rattle.std.proofs.Common.{ℕ, Vec, nat_eq, sym, ◌∙◌, ap, arith}
 use Rattle.std.specs.Global.{Global}
 use Rattle.std.specs.Cmp.Lexicographic.{pointwise}
 use Rattle.std.specs.Map.{lookup}

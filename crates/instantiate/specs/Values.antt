@@ -46,12 +46,16 @@ parameter_type None = None
 parameter_type (Some (Plain m)) = parameter_in (out-Member m)
 parameter_type (Some (Nested x at b)) = None
 
--- the place of the first of these settings that sets the target, or none
+-- the place of the first of these settings that sets the target, or none; they are those from the place k on
+abbrev pub SetsFrom : UnitPath → Site → ℕ → List Setting → List TargetWord → Option ℕ → Type 0
+SetsFrom u s k settings target None = setting_for u s k settings target ≡ None
+SetsFrom u s k settings target (Some n) =
+    (value : RawExpr) × (setting_for u s k settings target
+    ≡ Some (record { unit = u; site = s; setting = Some n; value = value }))
+
+-- the same of all settings of a declaration
 abbrev pub SetsAt : UnitPath → Site → List Setting → List TargetWord → Option ℕ → Type 0
-SetsAt u s settings target None = setting_for u s 0 settings target ≡ None
-SetsAt u s settings target (Some k) =
-    (value : RawExpr) × (setting_for u s 0 settings target
-    ≡ Some (record { unit = u; site = s; setting = Some k; value = value }))
+SetsAt u s settings target o = SetsFrom u s 0 settings target o
 
 -- the value in code is this one, as far as there is one
 pub data AreAttribute (units : List UnitPath) : Option s.Attribute → Option Attribute → Type 0 where

@@ -12,10 +12,12 @@ ghost use Rattle.hierarchy.specs.Tie.{IsNode, IsParameterNode};
 ghost use Rattle.hierarchy.specs.Tie.{AreOutlines};
 ghost use Rattle.unit_rules.specs.Typing.{KnowsPlaces};
 ghost use Rattle.instantiate.specs.Nodes.{IsNodeSo};
+ghost use Rattle.instantiate.specs.SettingPlaces.{TellsSettings};
 ghost use Rattle.instantiate.specs.Values.{parameter_type};
 
 use crate::domains_of::domain_of;
 use crate::nodes::{Listed, nodes};
+use crate::setting_places::SettingPlaces;
 use crate::values::value_of;
 use ar_base::Memory;
 use ar_syntax::{Member, TypeForm, Word};
@@ -43,6 +45,7 @@ fn typed(
     alloc: Global,
     classes: &Classes,
     places: &TypePlaces,
+    settings: &SettingPlaces,
     outlines: &[Outline],
     node: MemNode,
     form: TypeForm,
@@ -50,14 +53,14 @@ fn typed(
     ensures { (m : RootedModel) (units : List UnitPath) (t : Thing) (g : NamedMember)
         (value : RawExpr)
         → AreOutlines m units classes.now outlines.now
-        → KnowsPlaces classes.now.types.items places.now
+        → KnowsPlaces classes.now.types.items places.now → TellsSettings m settings.now
         → IsNode m units t g node → g.kind ≡ Parameter form value
         → IfOk result (IsParameterNode m units t) }
 {
     let domain = domain_of(classes, places, form)?;
     let mut target = Vec::new(alloc);
     target.push(Word::Name(node.name))?;
-    let value = value_of(classes, outlines, node, target, None)?;
+    let value = value_of(alloc, settings, outlines, node, target, None)?;
     Ok(ParNode {
         node,
         domain,
@@ -88,12 +91,14 @@ fn parameter(
     alloc: Global,
     classes: &Classes,
     places: &TypePlaces,
+    settings: &SettingPlaces,
     outlines: &[Outline],
     node: MemNode,
 ) -> Result<ParNode, Memory>
     ensures { (m : RootedModel) (units : List UnitPath) (t : Thing)
         → AreOutlines m units classes.now outlines.now
-        → KnowsPlaces classes.now.types.items places.now → IsNodeSo m units is_parameter t node
+        → KnowsPlaces classes.now.types.items places.now → TellsSettings m settings.now
+        → IsNodeSo m units is_parameter t node
         → IfOk result (IsParameterNode m units t) }
 {
     let site = (node.source.body, node.source.member);
@@ -103,7 +108,7 @@ fn parameter(
     match type_of(owned) {
         None => Ok(untyped(node)),
         Some(None) => Ok(untyped(node)),
-        Some(Some(form)) => typed(alloc, classes, places, outlines, node, form),
+        Some(Some(form)) => typed(alloc, classes, places, settings, outlines, node, form),
     }
 }
 
@@ -119,10 +124,11 @@ pub fn parameters(
         → IfOk result (λ v. Along (IsParameterNode m units) (parameters_of m units) v.items) }
 {
     let places = TypePlaces::new(alloc, &classes.types)?;
+    let settings = SettingPlaces::new(alloc, classes)?;
     let nodes = nodes(alloc, classes, &places, outlines, Listed::Parameters)?;
     let mut parameters = Vec::new(alloc);
     for node in &nodes {
-        parameters.push(parameter(alloc, classes, &places, outlines, *node)?)?;
+        parameters.push(parameter(alloc, classes, &places, &settings, outlines, *node)?)?;
     }
     Ok(parameters)
 }

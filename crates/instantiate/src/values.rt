@@ -3,37 +3,39 @@
 ghost use Rattle.std.specs.Prelude.{◌≡◌, List, map, Option, Some, IfOk};
 ghost use Rattle.ar_base.specs.Lists.{Stands};
 ghost use Rattle.class_table.specs.Members.{Site, NamedMember};
-ghost use Rattle.class_table.specs.Tables.{HoldsDeclared};
+ghost use Rattle.class_table.specs.declared.tables.Classes.{Classes as Table};
 ghost use Rattle.hierarchy.specs.Models.{RootedModel};
 ghost use Rattle.hierarchy.specs.Units.{UnitPath, Thing};
 ghost use Rattle.hierarchy.specs.Settings.{target_word_of, set_by, outermost as outermost_of, target_in, declared_in};
 ghost use Rattle.ar_syntax.specs.declared.expressions.RawExpr.{RawExpr};
 ghost use Rattle.hierarchy.specs.Tie.{IsSetAt, IsNode, HasAttribute};
 ghost use Rattle.hierarchy.specs.Tie.{AreOutlines};
+ghost use Rattle.instantiate.specs.SettingPlaces.{TellsSettings};
 ghost use Rattle.instantiate.specs.Values.{AreAttribute};
 
-use crate::targets::set_at;
+use crate::setting_places::SettingPlaces;
 use ar_base::{Memory, UnitId};
 use ar_syntax::Word;
-use class_table::Classes;
 use hierarchy::{Attribute, MemNode, Outline, Source};
+use std::alloc::Global;
 
 // What the declaration of a unit sets for the target, which is read in the unit's owner.
 fn set_here(
-    classes: &Classes,
+    alloc: Global,
+    settings: &SettingPlaces,
     outline: &Outline,
     owner: UnitId,
     target: &[Word],
 ) -> Result<Option<Attribute>, Memory>
     ensures { (m : RootedModel) (units : List UnitPath) (above : UnitPath) (site : Option Site)
-        → HoldsDeclared m.declared classes.now → IsSetAt site outline.now.set_at
+        → TellsSettings m settings.now → IsSetAt site outline.now.set_at
         → Stands units owner.n above
         → IfOk result (AreAttribute units (set_by m above site (map target_word_of target.now))) }
 {
     let Some(site) = outline.set_at else {
         return Ok(None);
     };
-    match set_at(classes, site, target) {
+    match settings.find(alloc, site, target)? {
         None => Ok(None),
         Some(place) => match u32::try_from(place) {
             Err(_) => Err(Memory {}),
@@ -52,13 +54,14 @@ fn set_here(
 /// What the outermost unit sets for the target, which is named from inside the unit. No unit is deeper than there are
 /// units, so that the way up ends.
 pub(crate) fn outermost(
-    classes: &Classes,
+    alloc: Global,
+    settings: &SettingPlaces,
     outlines: &[Outline],
     unit: UnitId,
     mut target: Vec<Word>,
 ) -> Result<Option<Attribute>, Memory>
-    ensures { (m : RootedModel) (units : List UnitPath) (u : UnitPath)
-        → AreOutlines m units classes.now outlines.now
+    ensures { (m : RootedModel) (units : List UnitPath) (classes : Table) (u : UnitPath)
+        → AreOutlines m units classes outlines.now → TellsSettings m settings.now
         → Stands units unit.n u
         → IfOk result (AreAttribute units (outermost_of m u (map target_word_of target.items))) }
 {
@@ -71,7 +74,7 @@ pub(crate) fn outermost(
         let Some(owner) = outline.owner else {
             return Ok(found);
         };
-        if let Some(attribute) = set_here(classes, outline, owner, &target)? {
+        if let Some(attribute) = set_here(alloc, settings, outline, owner, &target)? {
             found = Some(attribute);
         }
         target.insert(0, Word::Name(outline.name))?;
@@ -83,21 +86,23 @@ pub(crate) fn outermost(
 /// The value in force of a thing that is set by this target: what the outermost unit sets, else what its own member
 /// says, in the setting of this place, if in one.
 pub(crate) fn value_of(
-    classes: &Classes,
+    alloc: Global,
+    settings: &SettingPlaces,
     outlines: &[Outline],
     node: MemNode,
     target: Vec<Word>,
     own: Option<u32>,
 ) -> Result<Attribute, Memory>
-    ensures { (m : RootedModel) (units : List UnitPath) (t : Thing) (g : NamedMember)
-        (value : RawExpr)
-        → AreOutlines m units classes.now outlines.now → IsNode m units t g node
+    ensures { (m : RootedModel) (units : List UnitPath) (classes : Table) (t : Thing)
+        (g : NamedMember) (value : RawExpr)
+        → AreOutlines m units classes outlines.now → TellsSettings m settings.now
+        → IsNode m units t g node
         → target_in g.name g.kind ≡ Some (map target_word_of target.items)
         → declared_in t.unit g.site g.kind
         ≡ Some (record { unit = t.unit; site = g.site; setting = own; value = value })
         → IfOk result (HasAttribute m units t) }
 {
-    match outermost(classes, outlines, node.unit, target)? {
+    match outermost(alloc, settings, outlines, node.unit, target)? {
         Some(set) => Ok(set),
         None => Ok(Attribute {
             from: node.unit,

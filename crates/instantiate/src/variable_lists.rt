@@ -11,11 +11,13 @@ ghost use Rattle.hierarchy.specs.Tie.{IsVariableNode};
 ghost use Rattle.hierarchy.specs.Tie.{AreOutlines};
 ghost use Rattle.unit_rules.specs.Typing.{KnowsPlaces};
 ghost use Rattle.instantiate.specs.Nodes.{IsNodeSo};
+ghost use Rattle.instantiate.specs.SettingPlaces.{TellsSettings};
 ghost use Rattle.instantiate.specs.Values.{KeepsDeclarations, AddsVariable, last_of};
 
 use crate::domains_of::domain_of;
 use crate::nodes::{Listed, nodes};
-use crate::targets::type_of;
+use crate::setting_places::SettingPlaces;
+use crate::types_of::type_of;
 use crate::values::value_of;
 use ar_base::Memory;
 use ar_syntax::Word;
@@ -36,13 +38,15 @@ fn add_variable(
     alloc: Global,
     classes: &Classes,
     places: &TypePlaces,
+    settings: &SettingPlaces,
     outlines: &[Outline],
     variables: &mut Vec<VarNode>,
     node: MemNode,
 ) -> Result<(), Memory>
     ensures { (m : RootedModel) (units : List UnitPath) (t : Thing)
         → AreOutlines m units classes.now outlines.now
-        → KnowsPlaces classes.now.types.items places.now → KeepsDeclarations m units
+        → KnowsPlaces classes.now.types.items places.now → TellsSettings m settings.now
+        → KeepsDeclarations m units
         → IsNodeSo m units is_variable t node
         → OnOk result (AddsVariable m units t variables.old.items variables.new.items) }
 {
@@ -60,7 +64,7 @@ fn add_variable(
     let mut target = Vec::new(alloc);
     target.push(Word::Name(node.name))?;
     target.push(last_word(is_state))?;
-    let value = value_of(classes, outlines, node, target, Some(0))?;
+    let value = value_of(alloc, settings, outlines, node, target, Some(0))?;
     variables.push(VarNode {
         node,
         domain,
@@ -84,10 +88,19 @@ pub fn variables(
         → IfOk result (λ v. Along (IsVariableNode m units) (variables_of m units) v.items) }
 {
     let places = TypePlaces::new(alloc, &classes.types)?;
+    let settings = SettingPlaces::new(alloc, classes)?;
     let nodes = nodes(alloc, classes, &places, outlines, Listed::Variables)?;
     let mut variables = Vec::new(alloc);
     for node in &nodes {
-        add_variable(alloc, classes, &places, outlines, &mut variables, *node)?;
+        add_variable(
+            alloc,
+            classes,
+            &places,
+            &settings,
+            outlines,
+            &mut variables,
+            *node,
+        )?;
     }
     Ok(variables)
 }

@@ -24,7 +24,7 @@ code_same (Named x) Init e = absurd (omega (arith, e))
 code_same (Named x) Reset e = absurd (omega (arith, e))
 code_same (Named x) (Named y) e = ap Named (let f : x ≡ y = omega (arith, e) in f)
 
-codes_same : (vs ws : List TargetWord) → map code_of vs ≡ map code_of ws → vs ≡ ws
+pub codes_same : (vs ws : List TargetWord) → map code_of vs ≡ map code_of ws → vs ≡ ws
 codes_same [] [] e = refl
 codes_same [] (w ∷ ws) e = cc
 codes_same (v ∷ vs) [] e = cc

@@ -18,8 +18,8 @@ pub(crate) struct Targets {
     pub met: HashSet<Vec<u64>>,
 }
 
-// The number of a word.
-fn code(word: Word) -> u64
+/// The number of a word of a target.
+pub fn word_code(word: Word) -> u64
     ensures { result ≡ code_of (target_word_of word) }
 {
     match word {
@@ -35,7 +35,7 @@ fn codes(alloc: Global, words: &[Word]) -> Result<Vec<u64>, Memory>
 {
     let mut codes = Vec::new(alloc);
     for word in words {
-        codes.push(code(*word))?;
+        codes.push(word_code(*word))?;
     }
     Ok(codes)
 }

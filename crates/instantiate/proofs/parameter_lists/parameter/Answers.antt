@@ -11,7 +11,7 @@ use Rattle.instantiate.proofs.Parametered.{parameter_owned, no_kind, typed_kind,
 use Rattle.instantiate.proofs.parameter_lists.parameter.Goals as goal
 
 pub returns-in_default : goal.returns-in_default
-returns-in_default c = λ m units t h known so.
+returns-in_default c = λ m units t h known tells so.
     let g = so.given in
     let at = given_at m t.unit t.name g so.node.is in
     let site : site_of (c.args.node.source.body, c.args.node.source.member) ≡ g.site =
@@ -24,7 +24,7 @@ returns-in_default c = λ m units t h known so.
     (sym (ap parameter_type there)))
 
 pub returns-in-None : goal.returns-in-None
-returns-in-None c = λ m units t h known so.
+returns-in-None c = λ m units t h known tells so.
     let g = so.given in
     let at = given_at m t.unit t.name g so.node.is in
     let site : site_of (c.args.node.source.body, c.args.node.source.member) ≡ g.site =
@@ -36,7 +36,7 @@ returns-in-None c = λ m units t h known so.
     (sym (ap parameter_type there) ∙ sym c.in-None.ensures))
 
 pub returns-in-Some-None : goal.returns-in-Some-None
-returns-in-Some-None c = λ m units t h known so.
+returns-in-Some-None c = λ m units t h known tells so.
     let g = so.given in
     let at = given_at m t.unit t.name g so.node.is in
     let site : site_of (c.args.node.source.body, c.args.node.source.member) ≡ g.site =
@@ -58,7 +58,7 @@ returns-in-Some-None c = λ m units t h known so.
     })
 
 pub returns-in-Some-Some : goal.returns-in-Some-Some
-returns-in-Some-Some c = λ m units t h known so.
+returns-in-Some-Some c = λ m units t h known tells so.
     let g = so.given in
     let at = given_at m t.unit t.name g so.node.is in
     let site : site_of (c.args.node.source.body, c.args.node.source.member) ≡ g.site =
@@ -71,4 +71,4 @@ returns-in-Some-Some c = λ m units t h known so.
     ∙ (c.in-Some-Some.is ∙ ap (λ (f : Option TypeForm). Some f) c.in-Some-Some.field-0-is)) in
     let kind = typed_kind g _ c.in-Some-Some.form
     (parameter_owned m.declared g.site g so.passes (owned_at m.declared g.site) at.given) type in
-    c.typed.ensures m units t g kind.0 h known so.node kind.1
+    c.typed.ensures m units t g kind.0 h known tells so.node kind.1

@@ -25,7 +25,7 @@ loop-node-preserved c = λ m units h.
     let s = stands_get c.deref-node-items.result.now c.loop-node.node-index none c.loop-node-test.true in
     let w = along_back (parameters m units) c.deref-node-items.result.now a c.loop-node.node-index _ s in
     push_next (IsParameterNode m units) _ _ _ _ _ _ w.1 (c.loop-node.invariant m units h)
-    (c.in_ok-parameter.ensures m units w.0 h known w.2) c.in_ok-push.ensures.items
+    (c.in_ok-parameter.ensures m units w.0 h known (c.in_ok-settings.ensures m h.table.table.holds) w.2) c.in_ok-push.ensures.items
 
 pub returns : goal.returns
 returns c = λ m units h.

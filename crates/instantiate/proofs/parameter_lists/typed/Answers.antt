@@ -10,7 +10,7 @@ use Rattle.instantiate.proofs.Parametered.{parameter_domain}
 use Rattle.instantiate.proofs.parameter_lists.typed.Goals as goal
 
 pub returns : goal.returns
-returns c = λ m units t g value h known node k.
+returns c = λ m units t g value h known tells node k.
     let name : g.name ≡ c.args.node.name.n = (named_back (names_at m t.unit) t.name g node.is).1 ∙ sym node.name in
     let words = c.in_ok-push.ensures.items
     ∙ ap (λ (ws : List Word). ws ++ word.Name c.args.node.name ∷ []) c.new-target.ensures.items in
@@ -24,6 +24,6 @@ returns c = λ m units t g value h known node k.
           (parameter_domain h.table.kept t.unit t.name g _ value _ node.is k
           (c.in_ok-domain.ensures m.declared h.table.table.holds known));
       value = subst (λ (z : MemberKind). HasAttributeOf m units t z c.in_ok-value.value) (sym k)
-          (c.in_ok-value.ensures m units t g value h node target
+          (c.in_ok-value.ensures m units c.args.classes.now t g value h tells node target
           (ap (λ (z : MemberKind). declared_in t.unit g.site z) k));
     }

@@ -14,11 +14,11 @@ use Rattle.instantiate.proofs.values.outermost.Goals as goal
 use Rattle.instantiate.proofs.values.outermost.Goals.{in-Some-2, in_default-2}
 
 pub loop-level-init : goal.loop-level-init
-loop-level-init c = λ m units u h there. on_start m units u _ c.args.unit.n there
+loop-level-init c = λ m units classes u h tells there. on_start m units u _ c.args.unit.n there
 
 pub loop-level-preserved : goal.loop-level-preserved
-loop-level-preserved c = λ m units u h there.
-    let on = c.loop-level.invariant m units u h there in
+loop-level-preserved c = λ m units classes u h tells there.
+    let on = c.loop-level.invariant m units classes u h tells there in
     let o = c.in-Some.outline.now in
     let s = item_stands c.args.outlines.now c.loop-level.at.n o c.in-Some.ensures.lookup.3.0
     c.in-Some.ensures.lookup.1 in
@@ -26,7 +26,7 @@ loop-level-preserved c = λ m units u h there.
     let w = owner_some units on.unit o.owner c.in-Some-owner.owner is.owner c.in-Some-owner.is in
     let name = subst (λ (v : UnitPath). IsNameOfUnit v o.name) w.2 is.name in
     let set = subst (λ (v : UnitPath). IsSetAt (set_at_of v) o.set_at) w.2 is.set_at in
-    let a = rw c.deref.ensures.value at (c.in_ok-attribute.ensures m units w.1 w.0.set_at h.table.table.holds set
+    let a = rw c.deref.ensures.value at (c.in_ok-attribute.ensures m units w.1 w.0.set_at tells set
     w.3) in
     subst (λ (ws : List Word). IsOn m units u (map target_word_of c.args.target.items) c.in-Some-owner.owner.n (c.loop-level._level + 1) (map target_word_of ws)
     c.match-branch-2.found) (sym c.in_ok-insert.ensures.items)
@@ -44,8 +44,8 @@ loop-level-preserved c = λ m units u h there.
     ])
 
 pub returns-in_default : goal.returns-in_default
-returns-in_default c = λ m units u h there.
-    let on = c.loop-level.invariant m units u h there in
+returns-in_default c = λ m units classes u h tells there.
+    let on = c.loop-level.invariant m units classes u h tells there in
     let none = none_of c.get.result c.in_default.not-Some in
     let past = (rw none at c.get.ensures.lookup).3 in
     let l = stands_within units c.loop-level.at.n on.unit on.stands in
@@ -53,8 +53,8 @@ returns-in_default c = λ m units u h there.
     absurd (omega (arith, past, l, e))
 
 pub returns-in_default-owner : goal.returns-in_default-owner
-returns-in_default-owner c = λ m units u h there.
-    let on = c.loop-level.invariant m units u h there in
+returns-in_default-owner c = λ m units classes u h tells there.
+    let on = c.loop-level.invariant m units classes u h tells there in
     let o = c.in-Some.outline.now in
     let s = item_stands c.args.outlines.now c.loop-level.at.n o c.in-Some.ensures.lookup.3.0
     c.in-Some.ensures.lookup.1 in
@@ -63,8 +63,8 @@ returns-in_default-owner c = λ m units u h there.
     (owner_none units on.unit o.owner is.owner c.in_default-owner.is)
 
 pub returns : goal.returns
-returns c = λ m units u h there.
-    let on = c.loop-level.invariant m units u h there in
+returns c = λ m units classes u h tells there.
+    let on = c.loop-level.invariant m units classes u h tells there in
     let k = on.levels in
     let e = along_length units c.args.outlines.now h.along in
     let few = fewer_levels h.are_units u (one_here units c.args.unit.n u there) in

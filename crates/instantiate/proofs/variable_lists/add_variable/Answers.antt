@@ -17,7 +17,7 @@ use Rattle.instantiate.proofs.InForce.{node_site, no_some, variable_at, target_o
 use Rattle.instantiate.proofs.variable_lists.add_variable.Goals as goal
 
 pub returns-in_default : goal.returns-in_default
-returns-in_default c = λ m units t h known kept so.
+returns-in_default c = λ m units t h known tells kept so.
     let v = variable_at m units t c.args.node so kept in
     let none = none_of c.owned_at.result c.in_default.not-Some in
     let owned = rw (c.deref.ensures.value, none) at (c.owned_at.ensures m.declared) in
@@ -26,7 +26,7 @@ returns-in_default c = λ m units t h known kept so.
     absurd (no_some z)
 
 pub returns-in_default-type_of : goal.returns-in_default-type_of
-returns-in_default-type_of c = λ m units t h known kept so.
+returns-in_default-type_of c = λ m units t h known tells kept so.
     let v = variable_at m units t c.args.node so kept in
     let owned = rw c.deref.ensures.value at (c.in-Some.ensures m.declared) in
     let there : Some c.in-Some.owned.now ≡ owned_at m.declared so.given.site =
@@ -35,7 +35,7 @@ returns-in_default-type_of c = λ m units t h known kept so.
     absurd (no_some (sym none ∙ (c.type_of.ensures ∙ (ap declared_type there ∙ v.type_is))))
 
 pub returns-in_default-2 : goal.returns-in_default-2
-returns-in_default-2 c = λ m units t h known kept so.
+returns-in_default-2 c = λ m units t h known tells kept so.
     let v = variable_at m units t c.args.node so kept in
     let owned = rw c.deref.ensures.value at (c.in-Some.ensures m.declared) in
     let there : Some c.in-Some.owned.now ≡ owned_at m.declared so.given.site =
@@ -47,7 +47,7 @@ returns-in_default-2 c = λ m units t h known kept so.
     (subst (λ (f : TypeForm). bounds_variables m.declared f ≡ true) (sym form) v.bounds))
 
 pub returns : goal.returns
-returns c = λ m units t h known kept so.
+returns c = λ m units t h known tells kept so.
     let g = so.given in
     let v = variable_at m units t c.args.node so kept in
     let site = node_site so.node in
@@ -87,7 +87,7 @@ returns c = λ m units t h known kept so.
           (domain_is _ c.in-Some-2.domain (c.in_ok-domain.ensures m.declared h.table.table.holds known)
           c.in-Some-2.is);
       state = state;
-      value = c.in_ok-value.ensures m units t g v.one.one.value h so.node target
+      value = c.in_ok-value.ensures m units c.args.classes.now t g v.one.one.value h tells so.node target
           (ap (λ (k : MemberKind). declared_in t.unit g.site k) v.kind
           ∙ declared_one t.unit g.site v.type v.settings _ v.one);
     } in

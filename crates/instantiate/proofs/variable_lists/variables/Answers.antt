@@ -24,7 +24,7 @@ loop-node-preserved c = λ m units h kept.
     } in
     let s = stands_get c.deref-node-items.result.now c.loop-node.node-index none c.loop-node-test.true in
     let w = along_back (variables m units) c.deref-node-items.result.now a c.loop-node.node-index _ s in
-    let added = c.in_ok-add_variable.ensures m units w.0 h known kept w.2 in
+    let added = c.in_ok-add_variable.ensures m units w.0 h known (c.in_ok-settings.ensures m h.table.table.holds) kept w.2 in
     push_next (IsVariableNode m units) _ _ _ _ _ _ w.1 (c.loop-node.invariant m units h kept) added.is added.items
 
 pub returns : goal.returns

@@ -6,7 +6,7 @@ use Rattle.ar_syntax.specs.declared.paths.Path.{Path}
 use Rattle.typed_expr.specs.declared.expr.ValueKind.{ValueKind}
 use Rattle.written_forms.specs.Operands.{RawLevel, level_of, Demand, OfKind}
 use Rattle.written_forms.specs.Forms.{HasForm, own, path, choice}
-use Rattle.written_forms.specs.Wrong.{IsMisnamed, IsMistyped, itself, real, inside, IsWantedKind, this, that_of, NamesKind, IsNamedPath}
+use Rattle.written_forms.specs.Wrong.{IsMisnamed, IsMistyped, itself, real, empty, inside, IsWantedKind, this, that_of, NamesKind, IsNamedPath}
 use Rattle.written_forms.proofs.MisnamedForms.{misnamed_move}
 use Rattle.written_forms.specs.Parts.{InstrForm, BreaksInside}
 use Rattle.written_forms.specs.Breaches.{MisnamesItself, MistypesItself, MisplacedInAction, MisplacedInAssertion, IsSort, IsTarget}
@@ -37,6 +37,7 @@ module _ {names other : Path → ValueKind → Type 0} (to : (p : Path) (k : Val
   mistyped_move : {d : Demand} {e : RawExpr} {at : Place} → IsMistyped names d e at → IsMistyped other d e at
   mistyped_move (itself k want h w n) = itself k want (form_move h) (wanted_move w) n
   mistyped_move (real q) = real q
+  mistyped_move (empty n) = empty n
   mistyped_move (inside o i h) = inside o i (mistyped_move h)
 
   mistypes_move : {i : InstrForm} {at : Place} → MistypesItself names i at → MistypesItself other i at

@@ -4,5 +4,6 @@ pub mod NamedPaths
 pub mod Order
 pub mod Pairs
 pub mod Siting
+pub mod SymbolPlaces
 pub mod Telling
 pub mod Walking

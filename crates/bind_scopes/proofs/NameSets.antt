@@ -1,5 +1,5 @@
 -- Names of members that are added to a set.
-use Rattle.std.proofs.Common.{◌≡◌, ℕ, ◌+◌, ◌<◌, ◌≤◌, ◌⊎◌, inl, inr, Bool, true, false, cond, nat_eq, List, [], ◌∷◌, ◌++◌, map, length, unwrap_or, slice_get, Option, Some, None, option_map, is_some, refl, sym, ◌∙◌, ap, subst, arith, append_assoc}
+use Rattle.std.proofs.Common.{◌≡◌, ℕ, ◌+◌, ◌<◌, ◌≤◌, ◌⊎◌, inl, inr, Bool, true, false, cond, nat_eq, List, [], ◌∷◌, ◌++◌, map, length, Option, Some, None, option_map, is_some, refl, sym, ◌∙◌, ap, subst, arith, append_assoc}
 use Rattle.std.proofs.lemmas.Bool.Decides.{nat_tests}
 use Rattle.std.specs.HashMap as hash
 use Rattle.std.specs.HashMap.{HashMap}
@@ -7,7 +7,7 @@ use Rattle.std.specs.HashSet.{HashSet, contains}
 use Rattle.ar_base.specs.Lists.{Stands}
 use Rattle.ar_base.specs.Numbers.{NameId}
 use Rattle.ar_base.specs.declared.places.Place.{Place}
-use Rattle.ar_base.proofs.Standing.{one_none, one_cases, one_first, one_split, one_left, one_right, stands_map, stands_one}
+use Rattle.ar_base.proofs.Standing.{one_none, one_cases, one_first, one_split, one_left, one_right, stands_map, stands_one, stands_within}
 use Rattle.ar_base.proofs.Comparing.{side}
 use Rattle.ar_syntax.specs.declared.members.Setting.{Setting}
 use Rattle.ar_syntax.specs.declared.members.TypeForm.{TypeForm}
@@ -15,12 +15,9 @@ use Rattle.ar_syntax.specs.declared.members.TypeForm.TheVariants as form
 use Rattle.class_table.specs.Declaring.{Declared, NamedType}
 use Rattle.class_table.specs.Members.{Site, NamedMember, MemberKind, declared_kind, all_named, names_of, named_at, owned_at, member_kind_of, type_named}
 use Rattle.class_table.specs.Shown.{IsDeclaredBy}
-use Rattle.class_table.specs.declared.tables.Body.{Body}
-use Rattle.class_table.specs.declared.tables.Classes.{Classes}
-use Rattle.hierarchy.specs.Models.{RootedModel, IsRootedTable, sites_kept}
-use Rattle.hierarchy.specs.Units.{UnitPath, names_in}
+use Rattle.hierarchy.specs.Models.{RootedModel}
+use Rattle.hierarchy.specs.Units.{UnitPath, body_of, names_at, names_in}
 use Rattle.hierarchy.specs.Tie.{IsTreeOf}
-use Rattle.instantiate.proofs.OneName.{members_there, members_past}
 use Rattle.unit_rules.specs.Typing.{KnowsPlaces}
 use Rattle.bind_scopes.specs.Scopes.{AreScopes}
 use Rattle.bind_scopes.specs.declared.scopes.Scopes.{Scopes}
@@ -140,39 +137,36 @@ named_more d [] x = end (names_of d x (owned_at d x))
 named_more d (y ∷ ys) x = ap (λ (gs : List NamedMember). names_of d y (owned_at d y) ++ gs) (named_more d ys x)
     ∙ sym (append_assoc (names_of d y (owned_at d y)) (named_at d ys) (names_of d x (owned_at d x)))
 
--- Bodies
+-- Units
 
-module _ {S : Type 0} (m : RootedModel) where
-  pub first_none : (s : HashSet (ℕ × ℕ) S) → s.keys ≡ [] → HasFirst m 0 s
-  first_none s e = record { there = λ b x l n. absurd (omega (arith, l)); only = λ b x h. absurd (none b x h) }
+module _ {S : Type 0} (m : RootedModel) (units : List UnitPath) where
+  pub first_none : (s : HashSet (ℕ × ℕ) S) → s.keys ≡ [] → HasFirst m units 0 s
+  first_none s e = record { there = λ k u x l t n. absurd (omega (arith, l)); only = λ b x h. absurd (none b x h) }
     where
       none : (b x : ℕ) → HasName s b x → ⊥
       none b x h = let g = rw e at h in cc
 
-  pub first_more : (c : Classes) → IsRootedTable m c → (n : ℕ) (body : Body) → Stands c.bodies.items n body
-      → (old new : HashSet (ℕ × ℕ) S) → AddsNames n (named_at m.declared (sites_kept body)) old new
-      → HasFirst m n old → HasFirst m (n + 1) new
-  first_more c t n body s old new a h = record { there = there; only = only }
+  pub first_more : (n : ℕ) (u : UnitPath) → Stands units n u → (old new : HashSet (ℕ × ℕ) S)
+      → AddsNames (body_of m u) (names_in m (body_of m u)) old new
+      → HasFirst m units n old → HasFirst m units (n + 1) new
+  first_more n u s old new a h = record { there = there; only = only }
     where
-      same : sites_kept body ≡ unwrap_or (slice_get m.members n) []
-      same = members_there m c t n body s
-
-      there : (b x : ℕ) → b < n + 1 → NamesSo (names_in m b) x → HasName new b x
-      there b x l k = by (side n b)
+      there : (k : ℕ) (v : UnitPath) (x : ℕ) → k < n + 1 → Stands units k v → NamesSo (names_at m v) x
+          → HasName new (body_of m v) x
+      there k v x l t g = by (side n k)
         where
-          by : (n ≤ b) ⊎ (b < n) → HasName new b x
-          by (inr q) = a.kept b x (h.there b x q k)
+          by : (n ≤ k) ⊎ (k < n) → HasName new (body_of m v) x
+          by (inr q) = a.kept (body_of m v) x (h.there k v x q t g)
           by (inl q) =
-              let e : b ≡ n = omega (arith, q, l) in
-              subst (λ (z : ℕ). HasName new z x) (sym e)
-              (a.added x (subst (λ (z : List Site). NamesSo (named_at m.declared z) x) (sym same)
-              (subst (λ (z : ℕ). NamesSo (names_in m z) x) e k)))
+              let e : n ≡ k = omega (arith, q, l) in
+              let i : u ≡ v = stands_one units k u v (subst (λ (z : ℕ). Stands units z u) e s) t in
+              subst (λ (w : UnitPath). HasName new (body_of m w) x) i
+              (a.added x (subst (λ (w : UnitPath). NamesSo (names_at m w) x) (sym i) g))
 
       only : (b x : ℕ) → HasName new b x → NamesSo (names_in m b) x
       only b x k = elim (a.only b x k) [
         | inl i ↦ h.only b x i
-        | inr i ↦ subst (λ (z : ℕ). NamesSo (names_in m z) x) (sym i.0)
-            (subst (λ (z : List Site). NamesSo (named_at m.declared z) x) same i.1)
+        | inr i ↦ subst (λ (z : ℕ). NamesSo (names_in m z) x) (sym i.0) i.1
       ]
 
 -- Symbols
@@ -229,7 +223,7 @@ pub scopes_of : (m : RootedModel) (units : List UnitPath) (s : Scopes) → IsTre
     → Stands (map (λ (x : NameId). x.n) s.tree.now.classes.symbols.items) k x)
     → ((x k : ℕ) → hash.get nat_eq s.symbols x ≡ None
     → Stands (map (λ (x : NameId). x.n) s.tree.now.classes.symbols.items) k x → ⊥)
-    → HasFirst m (length s.tree.now.classes.bodies.items) s.members → KnowsPlaces s.tree.now.classes.types.items s.types
+    → HasFirst m units (length units) s.members → KnowsPlaces s.tree.now.classes.types.items s.types
     → IsIndexOf s.tree.now s.index → AreScopes m units s
 scopes_of m units s is at all first known index = record {
   index = index;
@@ -237,16 +231,6 @@ scopes_of m units s is at all first known index = record {
   is_tree = is;
   symbols = λ x k e. subst (λ (z : List ℕ). Stands z k x) is.table.table.holds.symbols (at x k e);
   no_symbols = λ x k e t. all x k e (subst (λ (z : List ℕ). Stands z k x) (sym is.table.table.holds.symbols) t);
-  names = λ b x n. first.there b x (within b x n) n;
+  names = λ n u x t g. first.there n u x (stands_within units n u t) t g;
   only_names = first.only;
 }
-  where
-    within : (b x : ℕ) → NamesSo (names_in m b) x → b < length s.tree.now.classes.bodies.items
-    within b x n = by (side (length s.tree.now.classes.bodies.items) b)
-      where
-        by : (length s.tree.now.classes.bodies.items ≤ b) ⊎ (b < length s.tree.now.classes.bodies.items)
-            → b < length s.tree.now.classes.bodies.items
-        by (inr l) = l
-        by (inl l) =
-            let e = members_past m s.tree.now.classes is.table.table b l in
-            absurd (so_none x (subst (λ (z : List Site). NamesSo (named_at m.declared z) x) e n))

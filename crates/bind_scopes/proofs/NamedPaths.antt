@@ -28,7 +28,7 @@ use Rattle.source_meaning.specs.Tested as s
 use Rattle.source_meaning.specs.Kinds.{IsOfKind, kind_of_member}
 use Rattle.source_meaning.proofs.OneMeaning.{apart, leads_same}
 use Rattle.bind_scopes.specs.Indexed.{same_pair}
-use Rattle.bind_scopes.specs.Members.{NamesSo}
+use Rattle.bind_scopes.specs.Members.{HasName, NamesSo}
 use Rattle.bind_scopes.specs.Searching.{variable_in, parameter_in}
 use Rattle.bind_scopes.specs.Sites.{owned_in, is_read}
 use Rattle.bind_scopes.specs.Scopes.{AreScopes, IsNamedIn, variable, parameter, symbol, nothing, HasScopes, symbol_by, is_read_in, first_named, named_in, IsScope, everything, constants, before, is_name, allowed, scoped_in}
@@ -135,7 +135,8 @@ module _ {m : RootedModel} {units : List UnitPath} {table : Scopes} (are : AreSc
       by None e = refl
       by (Some g) e =
           let w = named_back (names_at m u) x g e in
-          let f = are.names d.body.n x (subst (λ (z : ℕ). NamesSo (names_in m z) x) (sym b) (record { member = g; is_one = w.0; name = w.1 })) in cc
+          let f = subst (λ (z : ℕ). HasName table.members z x) (sym b)
+          (are.names n u x at (record { member = g; is_one = w.0; name = w.1 })) in cc
 
   symbol_node : (p : Path) → (start : PathStart) (names : List ℕ) → p.start ≡ start → numbers p.names.items ≡ names
       → (d : UnitNode) → d.body.n ≡ body_of m u → AnswersSymbol p (symbol_by table (Some d) start names)

@@ -1,10 +1,10 @@
 -- The names of members of bodies, as they are kept in a set.
 use Rattle.std.specs.Prelude.{◌≡◌, ◌⊎◌, ◌<◌, ℕ, true, List}
 use Rattle.std.specs.HashSet.{HashSet, contains}
-use Rattle.ar_base.specs.Lists.{IsOneOf}
+use Rattle.ar_base.specs.Lists.{IsOneOf, Stands}
 use Rattle.class_table.specs.Members.{NamedMember}
 use Rattle.hierarchy.specs.Models.{RootedModel}
-use Rattle.hierarchy.specs.Units.{names_in}
+use Rattle.hierarchy.specs.Units.{UnitPath, body_of, names_at, names_in}
 use Rattle.bind_scopes.specs.Indexed.{same_pair}
 
 -- the name is in the set, for this body
@@ -23,7 +23,9 @@ pub record AddsNames {S : Type 0} (b : ℕ) (members : List NamedMember) (old ne
   pub added : (x : ℕ) → NamesSo members x → HasName new b x
   pub only : (c x : ℕ) → HasName new c x → HasName old c x ⊎ ((c ≡ b) × NamesSo members x)
 
--- the set has the names of the first n bodies
-pub record HasFirst {S : Type 0} (m : RootedModel) (n : ℕ) (names : HashSet (ℕ × ℕ) S) : Type 0 where
-  pub there : (b x : ℕ) → b < n → NamesSo (names_in m b) x → HasName names b x
+-- the set has the names of the members of the first n units, for the units' bodies
+pub record HasFirst {S : Type 0} (m : RootedModel) (units : List UnitPath) (n : ℕ) (names : HashSet (ℕ × ℕ) S) : Type
+    0 where
+  pub there : (k : ℕ) (u : UnitPath) (x : ℕ) → k < n → Stands units k u → NamesSo (names_at m u) x
+      → HasName names (body_of m u) x
   pub only : (b x : ℕ) → HasName names b x → NamesSo (names_in m b) x

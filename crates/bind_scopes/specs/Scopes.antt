@@ -8,7 +8,7 @@ use Rattle.ar_syntax.specs.declared.paths.Path.{Path}
 use Rattle.ar_syntax.specs.declared.paths.PathStart.{PathStart}
 use Rattle.ar_syntax.specs.declared.paths.PathStart.TheVariants.{Here}
 use Rattle.hierarchy.specs.Models.{RootedModel}
-use Rattle.hierarchy.specs.Units.{UnitPath, Thing, numbers, names_in}
+use Rattle.hierarchy.specs.Units.{UnitPath, Thing, body_of, names_at, names_in, numbers}
 use Rattle.hierarchy.specs.Walks.{Finds, thing, is_variable}
 use Rattle.hierarchy.specs.Listing.{variables, parameters}
 use Rattle.hierarchy.specs.Tie.{IsTreeOf}
@@ -30,13 +30,14 @@ use Rattle.bind_scopes.specs.declared.scopes.Scopes.{Scopes}
 
 -- The table
 
--- the table is that of the tree of the model: it numbers the symbols, has the names of all members, knows the types and
--- has the tree's index
+-- the table is that of the tree of the model: it numbers the symbols, has the names of the members of all units, knows
+-- the types and has the tree's index
 pub record AreScopes (m : RootedModel) (units : List UnitPath) (s : Scopes) : Type 0 where
   pub is_tree : IsTreeOf m units s.tree.now
   pub symbols : (x k : ℕ) → hash.get nat_eq s.symbols x ≡ Some k → Stands m.declared.symbols k x
   pub no_symbols : (x k : ℕ) → hash.get nat_eq s.symbols x ≡ None → Stands m.declared.symbols k x → ⊥
-  pub names : (b x : ℕ) → NamesSo (names_in m b) x → HasName s.members b x
+  pub names : (n : ℕ) (u : UnitPath) (x : ℕ) → Stands units n u → NamesSo (names_at m u) x
+      → HasName s.members (body_of m u) x
   pub only_names : (b x : ℕ) → HasName s.members b x → NamesSo (names_in m b) x
   pub types : KnowsPlaces s.tree.now.classes.types.items s.types
   pub index : IsIndexOf s.tree.now s.index

@@ -1,6 +1,6 @@
 //! The index of a tree.
 
-ghost use Rattle.std.specs.Prelude.{◌≡◌, ◌<◌, List, length, option_map, Some, IfOk, OnOk};
+ghost use Rattle.std.specs.Prelude.{◌≡◌, ◌<◌, ◌^◌, List, length, option_map, Some, IfOk, OnOk};
 ghost use Rattle.std.specs.HashMap.{get, Updates};
 ghost use Rattle.ar_base.specs.Lists.{Stands};
 ghost use Rattle.ar_base.specs.Numbers.{VarId as VarNumber, EventId as EventNumber};
@@ -31,46 +31,46 @@ pub struct Index {
 }
 
 // Adds the place of a node.
-fn add(places: &mut Places, node: MemNode, place: usize) -> Result<(), Memory>
+fn add(places: &mut Places, node: MemNode, place: u32) -> Result<(), Memory>
     ensures { OnOk result (Updates same_pair places.old places.new
         (node.unit.n, node.name.n) (Some place)) }
 {
-    let Ok(number) = u32::try_from(place) else {
-        return Err(Memory {});
-    };
-    places.insert((node.unit.n, node.name.n), number)?;
+    places.insert((node.unit.n, node.name.n), place)?;
     Ok(())
 }
 
 // The places of variables.
 fn places_of_variables(alloc: Global, nodes: &[VarNode]) -> Result<Places, Memory>
+    requires { length nodes.now < 2 ^ 32 }
     ensures { IfOk result (λ p. TellsNodes (λ d. d.node) nodes.now p) }
 {
     let mut places = HashMap::new(alloc);
     for (place, node) in nodes.iter().enumerate() {
-        add(&mut places, node.node, place)?;
+        add(&mut places, node.node, place as u32)?;
     }
     Ok(places)
 }
 
 // The places of parameters.
 fn places_of_parameters(alloc: Global, nodes: &[ParNode]) -> Result<Places, Memory>
+    requires { length nodes.now < 2 ^ 32 }
     ensures { IfOk result (λ p. TellsNodes (λ d. d.node) nodes.now p) }
 {
     let mut places = HashMap::new(alloc);
     for (place, node) in nodes.iter().enumerate() {
-        add(&mut places, node.node, place)?;
+        add(&mut places, node.node, place as u32)?;
     }
     Ok(places)
 }
 
 // The places of events.
 fn places_of_events(alloc: Global, nodes: &[MemNode]) -> Result<Places, Memory>
+    requires { length nodes.now < 2 ^ 32 }
     ensures { IfOk result (λ p. TellsNodes (λ d. d) nodes.now p) }
 {
     let mut places = HashMap::new(alloc);
     for (place, node) in nodes.iter().enumerate() {
-        add(&mut places, *node, place)?;
+        add(&mut places, *node, place as u32)?;
     }
     Ok(places)
 }
@@ -102,6 +102,7 @@ fn owner_and_name(
 impl Index {
     /// The index of this tree: each of its lists is read once. The error is want of memory.
     pub fn new(alloc: Global, tree: &Tree) -> Result<Index, Memory>
+        requires { IsSomeTree tree.now }
         ensures { IfOk result (IsIndexOf tree.now) }
     {
         let variables = places_of_variables(alloc, &tree.variables)?;

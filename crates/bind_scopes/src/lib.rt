@@ -15,4 +15,4 @@ pub use index::Index;
 pub use kinds::kind_of_domain;
 pub use naming::{Sort, UnitNames};
 pub use scopes::{Named, Scope, Scopes};
-pub use sites::written;
+pub use sites::{members_of, written};

@@ -1,4 +1,4 @@
-//! The names of members of bodies.
+//! The names of members of units, by the units' bodies.
 
 ghost use Rattle.std.specs.Prelude.{◌≡◌, ◌+◌, ℕ, List, [], ◌∷◌, map, length, OnOk, IfOk, Some};
 ghost use Rattle.ar_base.specs.Lists.{Along, Stands};
@@ -6,13 +6,17 @@ ghost use Rattle.class_table.specs.Declaring.{Declared};
 ghost use Rattle.class_table.specs.Members.{Site, MemberKind, NamedMember, names_of, named_at, all_named, owned_at as declared_at};
 ghost use Rattle.class_table.specs.Shown.{IsDeclaredBy};
 ghost use Rattle.class_table.specs.Tables.{HoldsDeclared, IsNamedType, site_of};
-ghost use Rattle.hierarchy.specs.Models.{RootedModel, IsRootedTable};
+ghost use Rattle.hierarchy.specs.Models.{RootedModel};
+ghost use Rattle.hierarchy.specs.Tie.{IsTreeOf, IsUnitNode};
+ghost use Rattle.hierarchy.specs.Units.{UnitPath};
 ghost use Rattle.unit_rules.specs.Typing.{KnowsPlaces};
 ghost use Rattle.bind_scopes.specs.Members.{AddsNames, HasFirst};
 
+use crate::sites::members_of;
 use ar_base::{BodyId, Memory, NameId, Place};
 use ar_syntax::{Member, TypeForm};
-use class_table::{Body, Classes, Owned, TypeBody};
+use class_table::{Classes, Owned, TypeBody};
+use hierarchy::{Tree, UnitNode};
 use std::alloc::Global;
 use std::collections::HashSet;
 use unit_rules::{TypePlaces, owned_at};
@@ -126,34 +130,31 @@ fn add_sites(
     Ok(())
 }
 
-// Adds the names of the members of a body.
-fn add_body(
+// Adds the names of the members of a unit, for the unit's body.
+fn add_unit(
     names: &mut Names,
-    classes: &Classes,
+    tree: &Tree,
     places: &TypePlaces,
-    place: usize,
-    body: &Body,
+    node: &UnitNode,
 ) -> Result<(), Memory>
-    ensures { (m : RootedModel) → IsRootedTable m classes.now
-        → KnowsPlaces classes.now.types.items places.now
-        → Stands classes.now.bodies.items place body.now → HasFirst m place names.old
-        → OnOk result (HasFirst m (place + 1) names.new) }
+    ensures { (m : RootedModel) (units : List UnitPath) (u : UnitPath) (n : ℕ)
+        → IsTreeOf m units tree.now → KnowsPlaces tree.now.classes.types.items places.now
+        → Stands units n u → IsUnitNode m units u node.now → HasFirst m units n names.old
+        → OnOk result (HasFirst m units (n + 1) names.new) }
 {
-    let Ok(number) = u32::try_from(place) else {
-        return Err(Memory {});
-    };
-    add_sites(names, BodyId::new(number), classes, places, &body.all)
+    let sites = members_of(&tree.classes, node.body);
+    add_sites(names, node.body, &tree.classes, places, sites)
 }
 
-/// The names of the members of all bodies, inherited ones included.
-pub(crate) fn names_of_members(alloc: Global, classes: &Classes) -> Result<Names, Memory>
-    ensures { (m : RootedModel) → IsRootedTable m classes.now
-        → IfOk result (HasFirst m (length classes.now.bodies.items)) }
+/// The names of the members of all units, inherited ones included, by the units' bodies.
+pub(crate) fn names_of_members(alloc: Global, tree: &Tree) -> Result<Names, Memory>
+    ensures { (m : RootedModel) (units : List UnitPath) → IsTreeOf m units tree.now
+        → IfOk result (HasFirst m units (length units)) }
 {
-    let places = TypePlaces::new(alloc, &classes.types)?;
+    let places = TypePlaces::new(alloc, &tree.classes.types)?;
     let mut names = HashSet::new(alloc);
-    for (place, body) in classes.bodies.iter().enumerate() {
-        add_body(&mut names, classes, &places, place, body)?;
+    for node in &tree.units {
+        add_unit(&mut names, tree, &places, node)?;
     }
     Ok(names)
 }

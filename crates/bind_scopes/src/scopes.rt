@@ -2,8 +2,9 @@
 
 ghost use Rattle.std.specs.Prelude.{◌≡◌, ◌↔◌, IsTrue, ◌<◌, ℕ, nat_eq, if◌then◌else◌, List, map, length, slice_get, option_map, Some, None, IfOk, IfSome, IfNone};
 ghost use Rattle.std.specs.HashMap.{get};
-ghost use Rattle.ar_base.specs.Lists.{Stands};
+ghost use Rattle.ar_base.specs.Lists.{AreDifferent, Stands};
 ghost use Rattle.ar_base.specs.Numbers.{EventId as EventNumber};
+ghost use Rattle.hierarchy.specs.Finding.{IsSomeTree};
 ghost use Rattle.hierarchy.specs.Models.{RootedModel};
 ghost use Rattle.hierarchy.specs.Units.{UnitPath, Thing, numbers};
 ghost use Rattle.hierarchy.specs.Walks.{PassesTest, is_event};
@@ -63,6 +64,7 @@ pub struct Scopes<'a> {
 
 // The numbers of these symbols by their names.
 fn numbers_of(alloc: Global, list: &[NameId]) -> Result<HashMap<u32, u32>, Memory>
+    requires { AreDifferent (numbers list.now) }
     ensures at { IfOk result (λ t. (x k : ℕ) → get nat_eq t x ≡ Some k
         → Stands (map (λ n. n.n) list.now) k x) }
     ensures all { IfOk result (λ t. (x k : ℕ) → get nat_eq t x ≡ None
@@ -70,10 +72,7 @@ fn numbers_of(alloc: Global, list: &[NameId]) -> Result<HashMap<u32, u32>, Memor
 {
     let mut numbers = HashMap::new(alloc);
     for (place, name) in list.iter().enumerate() {
-        let Ok(number) = u32::try_from(place) else {
-            return Err(Memory {});
-        };
-        numbers.insert(name.n, number)?;
+        numbers.insert(name.n, place as u32)?;
     }
     Ok(numbers)
 }
@@ -81,12 +80,13 @@ fn numbers_of(alloc: Global, list: &[NameId]) -> Result<HashMap<u32, u32>, Memor
 impl<'a> Scopes<'a> {
     /// What paths name in this tree.
     pub fn new(alloc: Global, tree: &'a Tree) -> Result<Scopes<'a>, Memory>
+        requires { IsSomeTree tree.now }
         ensures tree { IfOk result (λ s. s.tree.now ≡ tree.now) }
         ensures scopes { (m : RootedModel) (units : List UnitPath) → IsTreeOf m units tree.now
             → IfOk result (AreScopes m units) }
     {
         let symbols = numbers_of(alloc, &tree.classes.symbols)?;
-        let members = names_of_members(alloc, &tree.classes)?;
+        let members = names_of_members(alloc, tree)?;
         let types = TypePlaces::new(alloc, &tree.classes.types)?;
         let index = Index::new(alloc, tree)?;
         Ok(Scopes {

@@ -1,14 +1,15 @@
 //! What stands where the nodes of a tree say.
 
-ghost use Rattle.std.specs.Prelude.{◌≡◌, ℕ, List, Some, option_copied};
+ghost use Rattle.std.specs.Prelude.{◌≡◌, ℕ, List, [], map, Some, option_copied, slice_get, unwrap_or};
 ghost use Rattle.class_table.specs.Declaring.{Declared};
-ghost use Rattle.class_table.specs.Tables.{HoldsDeclared};
+ghost use Rattle.class_table.specs.Tables.{HoldsDeclared, site_of};
 ghost use Rattle.hierarchy.specs.Models.{RootedModel, IsRootedTable};
 ghost use Rattle.hierarchy.specs.Units.{UnitPath, Thing};
 ghost use Rattle.hierarchy.specs.Settings.{Attribute as Value, in_force};
 ghost use Rattle.hierarchy.specs.Tie.{HasAttribute, IsAttribute};
 ghost use Rattle.bind_scopes.specs.Sites.{owned_in, is_read as reads_of, declares_flows, written_of};
 
+use ar_base::BodyId;
 use ar_syntax::{Member, RawExpr};
 use class_table::{Classes, Owned};
 use hierarchy::{Attribute, Source};
@@ -21,6 +22,17 @@ pub(crate) fn owned_at(classes: &Classes, source: Source) -> Option<&Owned>
     match classes.bodies.get(source.body.n as usize) {
         Some(body) => body.own.get(source.member as usize),
         None => None,
+    }
+}
+
+/// All members of a body, by where they stand; none of a body that there is not. Takes no memory.
+pub fn members_of(classes: &Classes, body: BodyId) -> &[(BodyId, u32)]
+    ensures { (m : RootedModel) → IsRootedTable m classes.now
+        → map site_of result.now ≡ unwrap_or (slice_get m.members body.n) [] }
+{
+    match classes.bodies.get(body.n as usize) {
+        Some(body) => &body.all,
+        None => &[],
     }
 }
 

@@ -38,7 +38,6 @@ use Rattle.source_meaning.specs.BoundActs.{IsExpressionOf, IsTargetOf, AreLeaves
 use Rattle.source_meaning.specs.BoundActs as of
 use Rattle.source_meaning.proofs.BoundInstructions.{bound_instruction}
 use Rattle.written_forms.specs.Operands.{level_of, AnyKind}
-use Rattle.written_forms.specs.Full.{IsFull}
 use Rattle.written_forms.specs.Wrong.{IsMisnamed, IsMistyped}
 use Rattle.written_forms.specs.Translating.{StandsFor, Becomes, BecomesBy, leaf_level}
 use Rattle.written_forms.specs.Translating as t
@@ -56,7 +55,6 @@ use Rattle.bind_scopes.proofs.NamedPaths.{kind_one}
 use Rattle.bind_scopes.proofs.Kinding.{may_named, kind_names, target_names, names_target, variable_kind, listed_sort}
 use Rattle.bind_values.specs.Leaves.{leaf_in}
 use Rattle.bind_values.specs.declared.leaves.UnitLeaves.{UnitLeaves}
-use Rattle.bind_values.specs.Full.{HasFull}
 use Rattle.bind_values.specs.Keeping.{IsMisplaced, KeepsRules, KeepsInside}
 use Rattle.bind_values.specs.Typed as typed
 use Rattle.bind_values.specs.Typed.{kind_of_node, IsSoundIn}
@@ -193,12 +191,12 @@ module _ {m : RootedModel} {units : List UnitPath} {u : UnitPath} {leaves : Unit
     -- the value of an assignment has the kind of its target
     assign_sound : (p : Path) (r : RawExpr) (a : Act) (x : VarId) (e : Expr VarId) → leaf_in leaves p ≡ leaf.Variable x
         → BecomesBy (leaf_in leaves) r e → out-Act a ≡ act.Set x e p.at
-        → IsFull (level_of r) → KeepsRules m u to_state (instr.Assign p r) → IsSoundIn tree to_state (out-Act a)
-    assign_sound p r a x e l d q f n =
+        → KeepsRules m u to_state (instr.Assign p r) → IsSoundIn tree to_state (out-Act a)
+    assign_sound p r a x e l d q n =
         let g = target_at p x l in
         as_act a (act.Set x e p.at) q (typed.set g.node g.stands (sorted g (set_right to_state p r n.targets))
         (expression_typed h r e (kind_of_domain g.node.domain) (λ at z. n.naming at (b.value z))
-        (λ at z. n.kinds at (b.value (kind_of_domain g.node.domain) g.kind z)) d f))
+        (λ at z. n.kinds at (b.value (kind_of_domain g.node.domain) g.kind z)) d))
 
     -- an assignment of a variable to another one of its kind
     copy_sound : (p q : Path) (x y : VarId) (at : Place) (a : Act) (g : Target p x) (o : Target q y)
@@ -281,55 +279,42 @@ module _ {m : RootedModel} {units : List UnitPath} {u : UnitPath} {leaves : Unit
         → KeepsInside m u to_state whole → KeepsInside m u to_state i
     keeps_part whole i f n = record { keeps = λ j p. n.keeps j (f j p) }
 
-    full_part : (whole i : InstrForm) → ((j : InstrForm) → IsPartOf j i → IsPartOf j whole) → HasFull whole → HasFull i
-    full_part whole i f g = record { full = λ j e p x. g.full j e (f j p) x }
-
     mutual
-      sound : {i : InstrForm} {a : Act} → Acts i a → HasFull i → KeepsInside m u to_state i
-          → IsSoundIn tree to_state (out-Act a)
-      sound (acts.skip {a = a} q) f n = as_act a act.Skip q typed.skip
-      sound (acts.assign {p = p} {r = r} {a = a} x e l d q) f n =
-          assign_sound p r a x e l d q (f.full (instr.Assign p r) r part.itself of.value)
-          (n.keeps (instr.Assign p r) part.itself)
-      sound (acts.no_target {a = a} v l q) f n = as_act a act.Skip q typed.skip
-      sound (acts.tie {p = p} {q = q} {a = a} x y l o z) f n =
+      sound : {i : InstrForm} {a : Act} → Acts i a → KeepsInside m u to_state i → IsSoundIn tree to_state (out-Act a)
+      sound (acts.skip {a = a} q) n = as_act a act.Skip q typed.skip
+      sound (acts.assign {p = p} {r = r} {a = a} x e l d q) n =
+          assign_sound p r a x e l d q (n.keeps (instr.Assign p r) part.itself)
+      sound (acts.no_target {a = a} v l q) n = as_act a act.Skip q typed.skip
+      sound (acts.tie {p = p} {q = q} {a = a} x y l o z) n =
           tie_sound p q a x y l o z (n.keeps (instr.Tie p q) part.itself)
-      sound (acts.no_left {a = a} v l q) f n = as_act a act.Skip q typed.skip
-      sound (acts.no_right {a = a} v l q) f n = as_act a act.Skip q typed.skip
-      sound (acts.conditional {r = r} {first = first} {second = second} {a = a} e c d k q x y) f n =
+      sound (acts.no_left {a = a} v l q) n = as_act a act.Skip q typed.skip
+      sound (acts.no_right {a = a} v l q) n = as_act a act.Skip q typed.skip
+      sound (acts.conditional {r = r} {first = first} {second = second} {a = a} e c d k q x y) n =
           let g = n.keeps (instr.If r first second) part.itself in
           as_act a (act.If e c d) q (typed.conditional
-          (expression_typed h r e Truth (λ at z. g.naming at (b.test z)) (λ at z. g.kinds at (b.test z)) k
-          (f.full (instr.If r first second) r part.itself of.test))
-          (sound x (full_part (instr.If r first second) (out-Instr first.value) (λ j p. part.first p) f)
-          (keeps_part (instr.If r first second) (out-Instr first.value) (λ j p. part.first p) n))
-          (else_sound y f n))
-      sound (acts.all {is = is} {a = a} es q x) f n =
+          (expression_typed h r e Truth (λ at z. g.naming at (b.test z)) (λ at z. g.kinds at (b.test z)) k)
+          (sound x (keeps_part (instr.If r first second) (out-Instr first.value) (λ j p. part.first p) n))
+          (else_sound y n))
+      sound (acts.all {is = is} {a = a} es q x) n =
           as_act a (act.All es) q (typed.all
-          (λ c i. all_sound x (λ j o. (
-            full_part (instr.All is) (out-Instr j) (λ z p. part.item j o p) f,
-            keeps_part
-                (instr.All is) (out-Instr j) (λ z p. part.item j o p) n,
-          )) c i))
+          (λ c i. all_sound x (λ j o. keeps_part (instr.All is) (out-Instr j) (λ z p. part.item j o p) n) c i))
 
       else_sound : {r : RawExpr} {first : Box Instr Global} {second : Option (Box Instr Global)} {a : Act}
-          → ElseActs (leaf_in leaves) second a → HasFull (instr.If r first second)
-          → KeepsInside m u to_state (instr.If r first second) → IsSoundIn tree to_state (out-Act a)
-      else_sound (acts.no_branch {a = a} q) f n = as_act a act.Skip q typed.skip
-      else_sound {r = r} {first = first} (acts.branch {i = i} x) f n =
-          sound x (full_part (instr.If r first (Some i)) (out-Instr i.value) (λ j p. part.second p) f)
-          (keeps_part (instr.If r first (Some i)) (out-Instr i.value) (λ j p. part.second p) n)
+          → ElseActs (leaf_in leaves) second a → KeepsInside m u to_state (instr.If r first second)
+          → IsSoundIn tree to_state (out-Act a)
+      else_sound (acts.no_branch {a = a} q) n = as_act a act.Skip q typed.skip
+      else_sound {r = r} {first = first} (acts.branch {i = i} x) n =
+          sound x (keeps_part (instr.If r first (Some i)) (out-Instr i.value) (λ j p. part.second p) n)
 
       all_sound : {is : List Instr} {es : List Act} → All_act (leaf_in leaves) is es
-          → ((j : Instr) → IsOneOf is j → HasFull (out-Instr j) × KeepsInside m u to_state (out-Instr j)) → (a : Act)
-          → IsOneOf es a
+          → ((j : Instr) → IsOneOf is j → KeepsInside m u to_state (out-Instr j)) → (a : Act) → IsOneOf es a
           → IsSoundIn tree to_state (out-Act a)
       all_sound acts.none f a i = absurd (one_none a i)
       all_sound (acts.one_and {i = j} {is = is} {a = c} {acts = es} x xs) f a i = elim (one_cases c es a i) [
-        | inl q ↦ let w = f j (one_first j is) in subst (λ (z : Act). IsSoundIn tree to_state (out-Act z)) q (sound x w.0 w.1)
+        | inl q ↦ subst (λ (z : Act). IsSoundIn tree to_state (out-Act z)) q (sound x (f j (one_first j is)))
         | inr o ↦ all_sound xs (λ z k. f z (one_rest j is z k)) a o
       ]
 
-    pub instruction_sound : (whole : InstrForm) (a : Act) → HasFull whole → KeepsInside m u to_state whole
-        → Acts whole a → IsSoundIn tree to_state (out-Act a)
-    instruction_sound whole a f n x = sound x f n
+    pub instruction_sound : (whole : InstrForm) (a : Act) → KeepsInside m u to_state whole → Acts whole a
+        → IsSoundIn tree to_state (out-Act a)
+    instruction_sound whole a n x = sound x n

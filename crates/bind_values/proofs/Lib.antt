@@ -1,7 +1,6 @@
 pub mod Acting
 pub mod AllValued
 pub mod FormLeafing
-pub mod FullForms
 pub mod Leafing
 pub mod Ordering
 pub mod OutsideDomains

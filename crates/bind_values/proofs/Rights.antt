@@ -20,8 +20,7 @@ use Rattle.source_meaning.specs.BoundExpressions.{IsBoundExpression}
 use Rattle.source_meaning.proofs.BoundMeaning.{bound_meaning}
 use Rattle.written_forms.specs.Operands.{RawLevel, level_of, Demand, AnyKind, OfKind, PathIn}
 use Rattle.written_forms.specs.Forms.{HasForm, own, path, choice}
-use Rattle.written_forms.specs.Full.{IsFull}
-use Rattle.written_forms.specs.Wrong.{IsMisnamed, IsMistyped, itself, real, inside, IsWantedKind, this, that_of}
+use Rattle.written_forms.specs.Wrong.{IsMisnamed, IsMistyped, itself, real, empty, inside, IsWantedKind, this, that_of}
 use Rattle.written_forms.specs.Translating.{StandsFor, Becomes, BecomesBy}
 use Rattle.written_forms.proofs.RightForms.{typed_whole}
 use Rattle.written_forms.proofs.MisnamedForms.{misnamed_move}
@@ -48,6 +47,7 @@ module _ {names other : Path → ValueKind → Type 0} (to : (p : Path) (k : Val
   mistyped_move : {d : Demand} {e : RawExpr} {at : Place} → IsMistyped names d e at → IsMistyped other d e at
   mistyped_move (itself k want h w n) = itself k want (form_move h) (wanted_move w) n
   mistyped_move (real q) = real q
+  mistyped_move (empty n) = empty n
   mistyped_move (inside o i h) = inside o i (mistyped_move h)
 
 -- what is wrong where any kind is wanted is wrong where one is
@@ -60,6 +60,7 @@ module _ {names : Path → ValueKind → Type 0} where
       → IsMistyped names (OfKind k) e at
   mistyped_as k (itself j want h w n) q = absurd (wanted_some w q)
   mistyped_as k (real q) e = real q
+  mistyped_as k (empty n) e = empty n
   mistyped_as k (inside o i h) e = inside o i h
 
   pub any_mistyped : (k : ValueKind) {e : RawExpr} {at : Place}
@@ -97,12 +98,12 @@ module _ {m : RootedModel} {units : List UnitPath} {u : UnitPath} {leaves : Unit
     expression_bound = bound_meaning m units u (leaf_in leaves) e f (λ p i. leaf_for h p (path_leaf e named p i))
         (λ at x. right at (any_mistyped k x)) b
 
-    pub expression_typed : IsFull (level_of e) → IsTypedIn (tree_for leaves) f k
-    expression_typed g = record {
+    pub expression_typed : IsTypedIn (tree_for leaves) f k
+    expression_typed = record {
       typed = typed_whole (StandsFor (leaf_in leaves)) (kind_in (names_for leaves States))
           (typed.kind_in (tree_for leaves))
           (λ p l j q w. subst (λ (z : Level VarId). HasKind (typed.kind_in (tree_for leaves)) z j) q
-          (leaf_kind h p States j w)) e (out-Expr VarId f) k g
+          (leaf_kind h p States j w)) e (out-Expr VarId f) k
           (λ at x. named at (misnamed_move (λ p may. may_named (names_of h States) p may) x))
           (λ at x. right at (mistyped_move (λ p j n. kind_names (names_of h States) p j n) x)) b;
       variables = λ x w. variables_in b x w;

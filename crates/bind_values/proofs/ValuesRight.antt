@@ -27,7 +27,7 @@ use Rattle.hierarchy.specs.Tie.{IsParameterNode, HasAttribute}
 use Rattle.hierarchy.specs.declared.tree.ParNode.{ParNode}
 use Rattle.bind_scopes.proofs.NamedPaths.{kind_one}
 use Rattle.written_forms.specs.Operands.{level_of, OfKind, AnyKind, PathIn}
-use Rattle.written_forms.specs.Wrong.{IsMistyped, itself, real, inside}
+use Rattle.written_forms.specs.Wrong.{IsMistyped, itself, real, empty, inside}
 use Rattle.written_forms.specs.Translating.{BecomesBy}
 use Rattle.written_forms.specs.declared.naming.Leaf.{Leaf}
 use Rattle.written_forms.specs.declared.naming.Leaf.TheVariants as stands
@@ -83,6 +83,7 @@ any_wrong : {names : Path → ValueKind → Type 0} {e : RawExpr} {at : Place} (
     → IsMistyped names AnyKind e at → IsMistyped names (OfKind k) e at
 any_wrong k (itself j want h w n) = elim w [ ]
 any_wrong k (real q) = real q
+any_wrong k (empty n) = empty n
 any_wrong k (inside o i h) = inside o i h
 
 module _ {m : RootedModel} {units : List UnitPath} {table : Scopes} (are : AreScopes m units table) where

@@ -1,4 +1,3 @@
-pub mod Full
 pub mod Keeping
 pub mod Known
 pub mod Leaves

@@ -11,7 +11,6 @@ ghost use Rattle.bind_scopes.specs.Scopes.{HasScopes};
 ghost use Rattle.bind_values.specs.Settled.{AreSettled};
 ghost use Rattle.bind_values.specs.Typed.{IsTypedIn};
 
-use crate::full::is_full;
 use crate::{UnitLeaves, Values};
 use ar_base::{Memory, UnitId, VarId};
 use ar_syntax::RawExpr;
@@ -40,10 +39,6 @@ pub fn expression(
         → Tested m units u Everything k written.now
         → IfOk result (λ e. IsTypedIn scopes.now.tree.now e k) }
 {
-    // No list of operands is empty in what is parsed.
-    if !is_full(written) {
-        return Err(Memory {});
-    }
     let leaves = UnitLeaves {
         scopes,
         unit,

@@ -17,7 +17,6 @@ ghost use Rattle.bind_values.specs.Keeping.{KeepsInside};
 ghost use Rattle.bind_values.specs.Settled.{AreSettled};
 ghost use Rattle.bind_values.specs.Typed.{IsSoundIn};
 
-use crate::full::has_full;
 use crate::{UnitLeaves, Values};
 use ar_base::{Memory, UnitId};
 use ar_syntax::Instr;
@@ -88,10 +87,6 @@ fn bound(
         → IfOk result (λ a. IsBoundInstruction m units u (out-Instr written.now) a
         × IsSoundIn scopes.now.tree.now to_state (out-Act a)) }
 {
-    // No list of operands is empty in what is parsed.
-    if !has_full(written) {
-        return Err(Memory {});
-    }
     let leaves = UnitLeaves {
         scopes,
         unit,

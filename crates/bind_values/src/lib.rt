@@ -4,7 +4,6 @@
 
 mod computing;
 mod expressions;
-mod full;
 mod instructions;
 mod leaves;
 mod outside;

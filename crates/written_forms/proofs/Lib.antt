@@ -1,5 +1,6 @@
 pub mod ActedForms
 pub mod Becoming
+pub mod FullForms
 pub mod Gathering
 pub mod KindsFound
 pub mod MisnamedForms
@@ -8,4 +9,5 @@ pub mod OperandLists
 pub mod PartForms
 pub mod RightForms
 pub mod RuleForms
+pub mod SomeOperands
 pub mod TwoKinds

@@ -10,7 +10,7 @@ use Rattle.typed_expr.specs.declared.expr.ValueKind.{ValueKind}
 use Rattle.typed_expr.specs.declared.expr.ValueKind.TheVariants.{Whole}
 use Rattle.class_table.specs.Earliest.{IsEarliest, nowhere, there, IsEarlierOf, no_first, no_second}
 use Rattle.class_table.proofs.FirstPlaces.{earliest_both, earliest_same}
-use Rattle.written_forms.specs.Operands.{RawLevel, level_of, Demand, AnyKind, OfKind, Like, OperandOfKind, wanting, tests, branches, first_branch, sides_by, choice_operands, operands_of}
+use Rattle.written_forms.specs.Operands.{RawLevel, level_of, Demand, AnyKind, OfKind, Like, OperandOfKind, wanting, tests, branches, first_branch, sides_by, choice_operands, operands_of, HasOperands}
 use Rattle.written_forms.specs.Forms.{HasForm, IsFormOf}
 use Rattle.written_forms.specs.Wrong.{NamesKind, IsWantedKind, this, that_of, IsMistyped, demanding, AreTwoKinds, two, AreWanted, IsWrongItself, Among, MistypedOperand}
 use Rattle.written_forms.specs.Wrong as wrong
@@ -41,10 +41,15 @@ module _ (kinds : Path → Option ValueKind) where
   place_of : (d : Demand) (e : RawExpr) (p : Place) → IsWrongItself (NamesKind kinds) d e p → p ≡ e.at
   place_of d e p (wrong.another k want h w n i) = i
   place_of d e p (wrong.real h i) = i
+  place_of d e p (wrong.empty h i) = i
 
   pub wrong_real : (d : Demand) (e : RawExpr) → level_of e ≡ raw.Real
       → IsEarliest (IsWrongItself (NamesKind kinds) d e) (Some e.at)
   wrong_real d e i = there (wrong.real i refl) (λ p b w. not_before p e.at b (place_of d e p w))
+
+  pub wrong_empty : (d : Demand) (e : RawExpr) → (HasOperands (level_of e) → ⊥)
+      → IsEarliest (IsWrongItself (NamesKind kinds) d e) (Some e.at)
+  wrong_empty d e n = there (wrong.empty n refl) (λ p b w. not_before p e.at b (place_of d e p w))
 
   two_wrong : (e : RawExpr) (found want : Option ValueKind) → IsFormOf (NamesKind kinds) (level_of e) found
       → AreTwoKinds found want → IsWrongItself (NamesKind kinds) (demanding want) e e.at
@@ -57,9 +62,9 @@ module _ (kinds : Path → Option ValueKind) where
       (λ p b w. not_before p e.at b (place_of (demanding want) e p w))
 
   pub right_kind : (e : RawExpr) (found want : Option ValueKind) → (level_of e ≡ raw.Real → ⊥)
-      → IsFormOf (NamesKind kinds) (level_of e) found → (AreTwoKinds found want → ⊥)
+      → HasOperands (level_of e) → IsFormOf (NamesKind kinds) (level_of e) found → (AreTwoKinds found want → ⊥)
       → IsEarliest (IsWrongItself (NamesKind kinds) (demanding want) e) None
-  right_kind e found want r h n = nowhere none
+  right_kind e found want r some h n = nowhere none
     where
       differs : (found : Option ValueKind) (k j : ValueKind) → IsFormOf (NamesKind kinds) (level_of e) found
           → HasForm (NamesKind kinds) (level_of e) k → (k ≡ j → ⊥) → AreTwoKinds found (Some j)
@@ -70,6 +75,7 @@ module _ (kinds : Path → Option ValueKind) where
       none p (wrong.another k j g w d i) =
           n (subst (AreTwoKinds found) (sym (wanted_is want j w)) (differs found k j h g d))
       none p (wrong.real i j) = r i
+      none p (wrong.empty i j) = i some
 
   -- The expression with its operands
 
@@ -86,6 +92,7 @@ module _ (kinds : Path → Option ValueKind) where
           l) p → IsMistyped (NamesKind kinds) d e p
       to p (inl (wrong.another k want h w n q)) = here p q (wrong.itself k want h w n)
       to p (inl (wrong.real h q)) = here p q (wrong.real h)
+      to p (inl (wrong.empty h q)) = here p q (wrong.empty h)
       to p (inr a) = wrong.inside a.operand
           (subst (λ (z : RawLevel). IsOneOf (operands_of z) a.operand) (sym i) a.is_operand) a.has
 
@@ -93,6 +100,7 @@ module _ (kinds : Path → Option ValueKind) where
           → IsWrongItself (NamesKind kinds) d e p ⊎ Among (MistypedOperand (NamesKind kinds)) (operands_of l) p
       from p (wrong.itself k want h w n) = inl (wrong.another k want h w n refl)
       from p (wrong.real h) = inl (wrong.real h refl)
+      from p (wrong.empty h) = inl (wrong.empty h refl)
       from p (wrong.inside o q h) =
           inr (record { operand = o; is_operand = subst (λ (z : RawLevel). IsOneOf (operands_of z) o) i q; has = h })
 
@@ -121,6 +129,7 @@ module _ (kinds : Path → Option ValueKind) where
           wrong.itself k want g (that_of (subst (λ (z : ValueKind). HasForm (NamesKind kinds) (level_of first) z)
           (of_kind w) h)) n
       to found h p (wrong.real i) = wrong.real i
+      to found h p (wrong.empty i) = wrong.empty i
       to found h p (wrong.inside o i m) = wrong.inside o i m
 
       that : {k : ValueKind} → IsWantedKind (NamesKind kinds) (Like first) k
@@ -135,6 +144,7 @@ module _ (kinds : Path → Option ValueKind) where
           (subst (λ (z : ValueKind). IsWantedKind (NamesKind kinds) (OfKind j) z) (one_of h (that w))
           this) n
       from found h p (wrong.real i) = wrong.real i
+      from found h p (wrong.empty i) = wrong.empty i
       from found h p (wrong.inside o i m) = wrong.inside o i m
 
   -- the sides of a comparison

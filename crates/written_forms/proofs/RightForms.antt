@@ -15,16 +15,16 @@ use Rattle.typed_expr.specs.declared.expr.Expr.{Expr, out-Expr}
 use Rattle.typed_expr.specs.declared.expr.Expr.TheOpen as form
 use Rattle.typed_expr.specs.declared.expr.ValueKind.{ValueKind}
 use Rattle.typed_expr.specs.declared.expr.ValueKind.TheVariants.{Truth, Whole, Symbol}
-use Rattle.written_forms.specs.Operands.{RawLevel, level_of, AnyKind, OfKind, Like, OperandOfKind, wanting, each_wanting, first_branch, is_equality, sides_by, operands_of, PathIn}
+use Rattle.written_forms.specs.Operands.{RawLevel, level_of, AnyKind, OfKind, Like, OperandOfKind, wanting, each_wanting, first_branch, is_equality, sides_by, operands_of, HasOperands, PathIn}
 use Rattle.written_forms.specs.Operands as in_form
 use Rattle.written_forms.specs.Forms.{own_kind, HasForm}
 use Rattle.written_forms.specs.Forms as of_form
-use Rattle.written_forms.specs.Full.{HasOperands, IsFull, full}
 use Rattle.written_forms.specs.Wrong.{NamesKind, IsNamedPath, IsWantedKind, this, that_of, IsMisnamed, IsMistyped}
 use Rattle.written_forms.specs.Wrong as wrong
 use Rattle.written_forms.specs.Translating.{Becomes, All_become, Parts_become, Cases_become}
 use Rattle.written_forms.specs.Relations.{relation_of}
 use Rattle.written_forms.specs.Translating as t
+use Rattle.written_forms.proofs.FullForms.{IsFull, full, full_whole}
 use Rattle.written_forms.proofs.KindsFound.{one_form, one_named}
 use Rattle.written_forms.proofs.OperandLists.{mapped_one, test_one, branch_one, other_one, first_one}
 
@@ -292,13 +292,16 @@ module _ {V : Type 0} (names : Path → Level V → Type 0) (kinds : Path → Op
 pub typed_whole : {V : Type 0} (names : Path → Level V → Type 0) (kinds : Path → Option ValueKind)
     (sorts : V → ValueKind)
     → ((p : Path) (l : Level V) (k : ValueKind) → names p l → kinds p ≡ Some k → HasKind sorts l k)
-    → (r : RawExpr) (y : Level V) (k : ValueKind) → IsFull (level_of r)
+    → (r : RawExpr) (y : Level V) (k : ValueKind)
     → ((at : Place) → IsMisnamed (IsNamedPath kinds) (level_of r) at → ⊥)
     → ((at : Place) → IsMistyped (NamesKind kinds) (OfKind k) r at → ⊥) → Becomes names (level_of r) y
     → HasKind sorts y k
-typed_whole names kinds sorts compatible r y k f n w b =
+typed_whole names kinds sorts compatible r y k n w b =
     typed names kinds sorts compatible b g k (wanted (some_form kinds (level_of r) f named))
   where
+    f : IsFull (level_of r)
+    f = full_whole names (NamesKind kinds) (OfKind k) r y w b
+
     told : (p : Path) (found : Option ValueKind) → kinds p ≡ found → PathIn p (level_of r) → IsNamedPath kinds p
     told p (Some j) e i = (j, e)
     told p None e i = absurd (n p.at (record { path = p; is_in = i; not = λ h. let d = h.1 in cc; place = refl }))

@@ -1,5 +1,5 @@
 -- The operands of written expressions, each with the kind that is wanted of it, and the paths in an expression.
-use Rattle.std.specs.Prelude.{Bool, true, false, List, [], ◌∷◌, ◌++◌, map}
+use Rattle.std.specs.Prelude.{◌<◌, Bool, true, false, List, [], ◌∷◌, ◌++◌, map, length}
 use Rattle.ar_base.specs.Lists.{IsOneOf}
 use Rattle.ar_syntax.specs.declared.expressions.RawExpr.{RawExpr}
 use Rattle.ar_syntax.specs.declared.expressions.RawForm.{RawForm, out-RawForm}
@@ -97,6 +97,24 @@ operands_of (raw.Least es) = each_wanting (OfKind Whole) es.items
 operands_of (raw.Greatest es) = each_wanting (OfKind Whole) es.items
 operands_of (raw.Count es) = each_wanting (OfKind Truth) es.items
 operands_of (raw.Choose cases other) = choice_operands cases.items other.value
+
+-- the form's own list of operands, where it has one, is not empty
+abbrev pub HasOperands : RawLevel → Type 0
+HasOperands (raw.Truth b) = Unit {0}
+HasOperands (raw.Whole n) = Unit {0}
+HasOperands raw.Real = Unit {0}
+HasOperands (raw.Path p) = Unit {0}
+HasOperands (raw.Not a) = Unit {0}
+HasOperands (raw.Minus a) = Unit {0}
+HasOperands (raw.All es) = 0 < length es.items
+HasOperands (raw.Any es) = 0 < length es.items
+HasOperands (raw.Compare r a b) = Unit {0}
+HasOperands (raw.Sum parts) = 0 < length parts.items
+HasOperands (raw.Product es) = 0 < length es.items
+HasOperands (raw.Least es) = 0 < length es.items
+HasOperands (raw.Greatest es) = 0 < length es.items
+HasOperands (raw.Count es) = 0 < length es.items
+HasOperands (raw.Choose cases other) = 0 < length cases.items
 
 -- the path stands in the expression
 pub data PathIn (p : Path) : RawLevel → Type 0 where

@@ -6,7 +6,7 @@ use Rattle.ar_syntax.specs.declared.expressions.RawExpr.{RawExpr}
 use Rattle.ar_syntax.specs.declared.expressions.RawForm.TheOpen as raw
 use Rattle.ar_syntax.specs.declared.paths.Path.{Path}
 use Rattle.typed_expr.specs.declared.expr.ValueKind.{ValueKind}
-use Rattle.written_forms.specs.Operands.{RawLevel, level_of, Demand, AnyKind, OfKind, Like, OperandOfKind, operands_of, PathIn}
+use Rattle.written_forms.specs.Operands.{RawLevel, level_of, Demand, AnyKind, OfKind, Like, OperandOfKind, operands_of, HasOperands, PathIn}
 use Rattle.typed_expr.specs.declared.expr.ValueKind.TheVariants.{Whole}
 use Rattle.written_forms.specs.Forms.{HasForm, IsFormOf}
 
@@ -26,13 +26,14 @@ pub data IsWantedKind (names : Path → ValueKind → Type 0) : Demand → Value
   this : {k : ValueKind} → IsWantedKind names (OfKind k) k
   that_of : {e : RawExpr} {k : ValueKind} → HasForm names (level_of e) k → IsWantedKind names (Like e) k
 
--- the expression, of which this is wanted, has another kind, or it is a real, or one in it has a wrong kind; that one
--- stands here
+-- the expression, of which this is wanted, has another kind, or it is a real, or its list of operands is empty, which
+-- no text has, or one in it has a wrong kind; that one stands here
 pub data IsMistyped (names : Path → ValueKind → Type 0) : Demand → RawExpr → Place → Type 0 where
   itself : {d : Demand} {e : RawExpr} (k want : ValueKind) → HasForm names (level_of e) k → IsWantedKind names d want
       → (k ≡ want → ⊥)
       → IsMistyped names d e e.at
   real : {d : Demand} {e : RawExpr} → level_of e ≡ raw.Real → IsMistyped names d e e.at
+  empty : {d : Demand} {e : RawExpr} → (HasOperands (level_of e) → ⊥) → IsMistyped names d e e.at
   inside : {d : Demand} {e : RawExpr} {at : Place} (o : OperandOfKind) → IsOneOf (operands_of (level_of e)) o
       → IsMistyped names o.demand o.written at → IsMistyped names d e at
 
@@ -58,11 +59,12 @@ abbrev pub AreWanted : (Path → ValueKind → Type 0) → Bool → RawLevel →
 AreWanted names true a kinds = (kinds.0 ≡ None) × IsFormOf names a kinds.1
 AreWanted names false a kinds = (kinds.0 ≡ Some Whole) × (kinds.1 ≡ Some Whole)
 
--- the expression itself has another kind than is wanted of it, or it is a real
+-- the expression itself has another kind than is wanted of it, or it is a real, or its list of operands is empty
 pub data IsWrongItself (names : Path → ValueKind → Type 0) (d : Demand) (e : RawExpr) (at : Place) : Type 0 where
   another : (k want : ValueKind) → HasForm names (level_of e) k → IsWantedKind names d want → (k ≡ want → ⊥) → at ≡ e.at
       → IsWrongItself names d e at
   real : level_of e ≡ raw.Real → at ≡ e.at → IsWrongItself names d e at
+  empty : (HasOperands (level_of e) → ⊥) → at ≡ e.at → IsWrongItself names d e at
 
 -- Operands
 

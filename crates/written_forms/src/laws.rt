@@ -10,7 +10,6 @@ ghost use Rattle.typed_expr.specs.declared.expr.Expr.{Expr, out-Expr};
 ghost use Rattle.typed_expr.specs.declared.expr.ValueKind.{ValueKind};
 ghost use Rattle.written_forms.specs.Operands.{RawLevel, level_of, OfKind};
 ghost use Rattle.written_forms.specs.Forms.{HasForm};
-ghost use Rattle.written_forms.specs.Full.{IsFull};
 ghost use Rattle.written_forms.specs.Wrong.{NamesKind, IsNamedPath, IsMisnamed, IsMistyped};
 ghost use Rattle.written_forms.specs.Translating.{leaf_level, BecomesBy};
 ghost use Rattle.written_forms.specs.declared.naming.Leaf.{Leaf};
@@ -22,13 +21,12 @@ pub fn one_kind()
         → HasForm (NamesKind kinds) e k → j ≡ k }
 {}
 
-/// An expression without empty lists of operands, in which each path names something and nothing
-/// has a wrong kind where this kind is wanted of the whole, becomes an expression of that kind,
-/// where what stands for a path has its kind.
+/// An expression in which each path names something and nothing has a wrong kind where this kind is
+/// wanted of the whole becomes an expression of that kind, where what stands for a path has its kind.
 pub fn right_expressions()
     ensures { (kinds : Path → Option ValueKind) (leaves : Path → Leaf) (sorts : VarId → ValueKind)
         → ((p : Path) (k : ValueKind) → kinds p ≡ Some k → HasKind sorts (leaf_level (leaves p)) k)
-        → (e : RawExpr) (f : Expr VarId) (k : ValueKind) → IsFull (level_of e)
+        → (e : RawExpr) (f : Expr VarId) (k : ValueKind)
         → ((at : Place) → IsMisnamed (IsNamedPath kinds) (level_of e) at → ⊥)
         → ((at : Place) → IsMistyped (NamesKind kinds) (OfKind k) e at → ⊥) → BecomesBy leaves e f
         → HasKind sorts (out-Expr VarId f) k }

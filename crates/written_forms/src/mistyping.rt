@@ -5,7 +5,7 @@ ghost use Rattle.ar_syntax.specs.declared.expressions.RawExpr.{RawExpr};
 ghost use Rattle.ar_syntax.specs.declared.expressions.RawForm.TheOpen.{Real as RealForm};
 ghost use Rattle.class_table.specs.Earliest.{IsEarliest};
 ghost use Rattle.written_forms.specs.Forms.{IsFormOf};
-ghost use Rattle.written_forms.specs.Operands.{level_of, OfKind, each_wanting, terms, tests, branches, is_equality};
+ghost use Rattle.written_forms.specs.Operands.{level_of, HasOperands, OfKind, each_wanting, terms, tests, branches, is_equality};
 ghost use Rattle.written_forms.specs.Wrong.{IsMistyped, NamesKind, Among, MistypedOperand, demanding, AreTwoKinds, AreWanted, IsWrongItself};
 
 use crate::kinds::form_kind;
@@ -18,8 +18,8 @@ use typed_expr::ValueKind;
 /// The earliest place in the expression where something has a wrong kind, where this kind is wanted
 /// of the whole, or any.
 ///
-/// An expression of a wrong kind stands at its first token, and a real has a wrong kind everywhere.
-/// Takes no memory.
+/// An expression of a wrong kind stands at its first token. A real has a wrong kind everywhere, and so
+/// has an empty list of operands, which no text has. Takes no memory.
 #[cycle(mistyped)]
 pub fn first_mistyped<N: Naming>(
     expr: &RawExpr,
@@ -58,13 +58,17 @@ pub fn first_mistyped<N: Naming>(
     }
 }
 
-// The place of the expression, where its own kind is wrong or it is a real.
+// The place of the expression, where its own kind is wrong, it is a real, or it has an empty list of
+// operands.
 fn wrong_itself<N: Naming>(expr: &RawExpr, want: Option<ValueKind>, naming: &N) -> Option<Place>
     requires { N.is_sound naming.now }
     ensures { IsEarliest (IsWrongItself (NamesKind (N.kind_at naming.now))
         (demanding want) expr.now) result }
 {
     if is_real(expr) {
+        return Some(expr.at);
+    }
+    if !has_operands(expr) {
         return Some(expr.at);
     }
     if differ(form_kind(expr, naming), want) {
@@ -132,6 +136,29 @@ fn is_real(expr: &RawExpr) -> bool
     ensures { IsTrue result ↔ (level_of expr.now ≡ RealForm) }
 {
     matches!(&expr.form, RawForm::Real)
+}
+
+// Whether the expression's list of operands, where it has one, is not empty.
+fn has_operands(expr: &RawExpr) -> bool
+    ensures { IsTrue result ↔ HasOperands (level_of expr.now) }
+{
+    match &expr.form {
+        RawForm::Truth(_) => true,
+        RawForm::Whole(_) => true,
+        RawForm::Real => true,
+        RawForm::Path(_) => true,
+        RawForm::Not(_) => true,
+        RawForm::Minus(_) => true,
+        RawForm::All(es) => !es.is_empty(),
+        RawForm::Any(es) => !es.is_empty(),
+        RawForm::Compare(_, _, _) => true,
+        RawForm::Sum(parts) => !parts.is_empty(),
+        RawForm::Product(es) => !es.is_empty(),
+        RawForm::Least(es) => !es.is_empty(),
+        RawForm::Greatest(es) => !es.is_empty(),
+        RawForm::Count(es) => !es.is_empty(),
+        RawForm::Choose(cases, _) => !cases.is_empty(),
+    }
 }
 
 // The kinds that are wanted of the two sides of a comparison, by the kind of the first.

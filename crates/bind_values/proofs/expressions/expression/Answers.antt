@@ -22,5 +22,5 @@ returns-clause-typed c = λ m units u k s at tested.
     let e = c.args.written.now in
     ok_map c.translated.result
     (λ f b. expression_typed h e f k (λ p w. s.names.naming p (rule.in_expression Everything k e tested w))
-    (λ p w. s.names.kinds p (rule.in_expression Everything k e tested w)) b
-    (c.is_full.ensures c.if-not-is_full.false)) c.translated.ensures
+    (λ p w. s.names.kinds p (rule.in_expression Everything k e tested w)) b)
+    c.translated.ensures

@@ -10,8 +10,6 @@ returns c = λ m units u to_state s at keeps.
     let leaves : UnitLeaves = record { scopes = c.args.scopes; unit = c.args.unit; parameters = c.deref.result } in
     let h = settled_leaves leaves c.args.values.now s at c.deref.ensures.value in
     let whole = out-Instr c.args.written.now in
-    ok_map c.acted.result (λ a x. (
-      instruction_bound h to_state whole a keeps x,
-      instruction_sound h to_state whole a
-          (c.has_full.ensures c.if-not-has_full.false) keeps x,
-    )) c.acted.ensures
+    ok_map c.acted.result
+    (λ a x. (instruction_bound h to_state whole a keeps x, instruction_sound h to_state whole a keeps x))
+    c.acted.ensures

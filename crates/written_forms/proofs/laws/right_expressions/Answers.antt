@@ -7,6 +7,6 @@ use Rattle.written_forms.proofs.RightForms.{typed_whole}
 use Rattle.written_forms.proofs.laws.right_expressions.Goals as goal
 
 pub returns : goal.returns
-returns c = λ kinds leaves sorts compatible e f k is_full named right becomes.
+returns c = λ kinds leaves sorts compatible e f k named right becomes.
     typed_whole (StandsFor leaves) kinds sorts (λ p l j s h. subst (λ z. HasKind sorts z j) s (compatible p j h)) e
-    (out-Expr VarId f) k is_full named right becomes
+    (out-Expr VarId f) k named right becomes

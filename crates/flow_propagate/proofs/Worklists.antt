@@ -5,8 +5,7 @@ use Rattle.std.proofs.lemmas.Bool.{cases_eq}
 use Rattle.std.proofs.lemmas.List.Sorted.{Contains-permutation, IsPermutation-sym}
 use Rattle.std.proofs.lemmas.Option.{slice_get-get_or}
 use Rattle.ar_base.specs.Lists.{Stands, IsOneOf}
-use Rattle.ar_base.proofs.Standing.{stands_one, stands_within, stands_some, stands_map, stands_map_back, one_contains, contains_one, at_most, one_left}
-use Rattle.ar_base.proofs.Items.{one_last, last_cases}
+use Rattle.ar_base.proofs.Standing.{stands_one, stands_within, stands_some, stands_map, stands_map_back, one_contains, contains_one, at_most}
 use Rattle.gts_core.specs.declared.system.GtsParts.{GtsParts}
 use Rattle.flow_propagate.specs.Plan.{ComesBefore, AreReaders, IsOrder, Reader, plain_pair}
 use Rattle.flow_propagate.specs.Closing.{IsAgain, WaitsAt, Waits, IsWorklist, TakesPlace, Takes, AddsWork}
@@ -162,19 +161,6 @@ no_reader = (record { n = 0; of = record {} }, record { n = 0; of = record {} })
 
 pub reader_at : (readers : List Reader) (i : ℕ) → i < length readers → Stands readers i (get_or readers i no_reader)
 reader_at readers i h = slice_get-get_or readers i no_reader h
-
--- the numbers so far, and one more
-pub numbers_more : (i : ℕ) (old new : List ℕ) → new ≡ old ++ i ∷ []
-    → ((n : ℕ) → n < i → IsOneOf old n) × ((n : ℕ) → IsOneOf old n → n < i)
-    → ((n : ℕ) → n < i + 1 → IsOneOf new n) × ((n : ℕ) → IsOneOf new n → n < i + 1)
-numbers_more i old new e a = (
-  λ n h. subst (λ (z : List ℕ). IsOneOf z n) (sym e)
-      (elim (at_most n i h) [
-        | inl l ↦ one_left old (i ∷ []) n (a.0 n l)
-        | inr j ↦ subst (λ (z : ℕ). IsOneOf (old ++ i ∷ []) z) (sym j) (one_last old i)
-      ]),
-  λ n o. elim (last_cases old i n (subst (λ (z : List ℕ). IsOneOf z n) e o)) [ inl k ↦ (let l = a.1 n k in omega (arith, l)) | inr j ↦ omega (arith, j) ],
-)
 
 -- numbers in another order
 pub order_moved : (count : ℕ) (xs ys : List ℕ) → IsPermutation xs ys → IsOrder count xs → IsOrder count ys

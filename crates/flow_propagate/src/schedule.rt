@@ -1,11 +1,11 @@
 //! The order in which assignments are looked at.
 
-ghost use Rattle.std.specs.Prelude.{◌≡◌, ◌<◌, ◌^◌, ℕ, length, IfOk};
-ghost use Rattle.ar_base.specs.Lists.{IsOneOf, Stands};
+ghost use Rattle.std.specs.Prelude.{◌≡◌, ℕ, length, IfOk};
+ghost use Rattle.ar_base.specs.Lists.{Stands};
 ghost use Rattle.gts_core.specs.Sound.{IsSound};
 ghost use Rattle.flow_propagate.specs.Plan.{IsOrder};
 
-use ar_base::{AssignId, Memory, VarId};
+use ar_base::{AssignId, Memory, VarId, numbers_below};
 use flow_blocks::Block;
 use gts_core::{GtsParts, Variable};
 use std::alloc::Global;
@@ -54,19 +54,6 @@ fn widths(
         }
     }
     Ok(widths)
-}
-
-// The numbers below a count.
-fn numbers_below(alloc: Global, count: usize) -> Result<Vec<u32>, Memory>
-    requires { count < 2 ^ 32 }
-    ensures all { IfOk result (λ v. (n : ℕ) → n < count → IsOneOf v.items n) }
-    ensures below { IfOk result (λ v. (n : ℕ) → IsOneOf v.items n → n < count) }
-{
-    let mut numbers = Vec::new(alloc);
-    for number in 0..count as u32 {
-        numbers.push(number)?;
-    }
-    Ok(numbers)
 }
 
 // The place of this number.

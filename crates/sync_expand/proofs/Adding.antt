@@ -1,5 +1,5 @@
 -- Ways that are added to a plan, one piece after the other.
-use Rattle.std.proofs.Common.{◌≡◌, ℕ, zero, suc, ◌+◌, ◌-◌, ◌≤◌, Bool, List, [], ◌∷◌, ◌++◌, length, map, take, drop, refl, sym, ◌∙◌, ap, subst, arith, length-append, append_assoc}
+use Rattle.std.proofs.Common.{◌≡◌, ℕ, zero, suc, ◌+◌, ◌-◌, ◌<◌, ◌≤◌, Bool, List, [], ◌∷◌, ◌++◌, length, map, take, drop, refl, sym, ◌∙◌, ap, subst, arith, length-append, append_assoc}
 use Rattle.std.proofs.lemmas.List.{append-nil, length-map}
 use Rattle.std.specs.List.{flat_map}
 use Rattle.ar_base.specs.Lists.{Stands}
@@ -7,15 +7,17 @@ use Rattle.ar_base.proofs.Standing.{stands_none}
 use Rattle.ar_meaning.specs.Expand.{EventDeclaration, Member, One, Synchronises}
 use Rattle.ar_meaning.specs.Numbered.{Body, Joins}
 use Rattle.ar_meaning.specs.Systems.{Transition}
-use Rattle.gts_core.specs.Bound.{declared_from, declared_of, member_of}
+use Rattle.ar_base.specs.Numbers.{EventId}
+use Rattle.gts_core.specs.Bound.{declared_from, declared_of, event_part_of, member_of}
 use Rattle.gts_core.specs.declared.bound.DeclaredEvent.{DeclaredEvent}
 use Rattle.gts_core.specs.declared.bound.DeclaredWay.{DeclaredWay}
-use Rattle.sync_expand.specs.Counts.{member_count, way_count}
-use Rattle.sync_expand.specs.Planning.{Adds}
+use Rattle.sync_expand.specs.Counts.{choice_count, member_count, way_count}
+use Rattle.sync_expand.specs.Planning.{Adds, HasRoom}
 use Rattle.sync_expand.specs.Plans.{PlannedWay, bodies_by, choices_by, numbered_from, planned_ways, ways_of_event}
 use Rattle.sync_expand.specs.Planned.{planned_of}
 use Rattle.sync_expand.specs.declared.plans.WayPlan.{WayPlan}
-use Rattle.sync_expand.proofs.Capping.{drop_next, drop_end}
+use Rattle.sync_expand.proofs.Capping.{drop_next, drop_end, ways_next}
+use Rattle.sync_expand.proofs.Choosing.{choices_length}
 use Rattle.sync_expand.proofs.DeclaredLemmas.{declared_stands}
 use Rattle.sync_expand.proofs.Placed.{take_next}
 use Rattle.sync_expand.proofs.WaysLemmas.{map_join}
@@ -158,3 +160,54 @@ event_end counts ways e first i old new l so =
 pub event_longer : (counts : List ℕ) (ways : List DeclaredWay) (e first i : ℕ) (old new : List WayPlan)
     → EventSoFar counts ways e first i old new → length old ≤ length new
 event_longer counts ways e first i old new so = let h = adds_length e first so.bodies old new so.adds in omega (arith, h)
+
+-- Room
+
+-- members have as many bodies as ways
+pub bodies_length : {L M : Type 0} (act : ℕ → L → M) (counts : List ℕ) (k : ℕ) (ms : List (Member L ℕ))
+    → length (bodies_by act counts k ms) ≡ way_count counts ms
+bodies_length act counts k [] = refl
+bodies_length act counts k (One l ∷ ms) = let i = bodies_length act counts (k + 1) ms in omega (arith, i)
+bodies_length {M = M} act counts k (Synchronises parts ∷ ms) =
+    let joined : List (Bool × ℕ) → Body M = Joins in
+    let i = bodies_length act counts (k + 1) ms in
+    let c = choices_length counts parts in
+    let m : length (map joined (choices_by counts parts)) ≡ length (choices_by counts parts) =
+    length-map (choices_by counts parts) joined in
+    let a = length-append (map joined (choices_by counts parts)) (bodies_by act counts (k + 1) ms) in
+    omega (arith, i, c, m, a)
+
+take_short : {A : Type 0} (n : ℕ) (xs : List A) → length (take n xs) ≤ n
+take_short zero [] = omega arith
+take_short (suc n) [] = omega arith
+take_short zero (x ∷ xs) = omega arith
+take_short (suc n) (x ∷ xs) = let h = take_short n xs in omega (arith, h)
+
+-- there is room for one choice more
+pub choices_room : (counts : List ℕ) (parts : List (Bool × EventId)) (e first place : ℕ) (old new : List WayPlan)
+    → HasRoom first (choice_count counts (map event_part_of parts)) old
+    → place < choice_count counts (map event_part_of parts)
+    → Adds e first (map Joins (take place (choices_by counts (map event_part_of parts)))) old new → HasRoom first 1 new
+choices_room counts parts e first place old new room l a =
+    let chosen = take place (choices_by counts (map event_part_of parts)) in
+    let joined : List (Bool × ℕ) → Body ℕ = Joins in
+    let n = adds_length e first (map joined chosen) old new a in
+    let m = length-map chosen joined in
+    let t = take_short place (choices_by counts (map event_part_of parts)) in
+    let low = room.low in
+    let within = room.room in
+    record { low = omega (arith, n, low); room = omega (arith, n, m, t, l, low, within) }
+
+-- and for the ways of the next member of an event
+pub event_room : (counts : List ℕ) (ways : List DeclaredWay) (e first i : ℕ) (w : DeclaredWay) (old new : List WayPlan)
+    → Stands ways i w → way_count counts (map member_of ways) ≤ 256 → first ≡ length old
+    → EventSoFar counts ways e (length old) i old new → HasRoom first (member_count counts (member_of w)) new
+event_room counts ways e first i w old new s few f so =
+    let n = adds_length e (length old) so.bodies old new so.adds in
+    let j = ap length so.all in
+    let a = length-append so.bodies
+    (bodies_by (λ (k : ℕ) (l : Transition ℕ). k) counts i (map member_of (drop i ways))) in
+    let b = bodies_length (λ (k : ℕ) (l : Transition ℕ). k) counts i (map member_of (drop i ways)) in
+    let d = bodies_length (λ (k : ℕ) (l : Transition ℕ). k) counts 0 (map member_of ways) in
+    let g = ways_next counts ways i w s in
+    record { low = omega (arith, n, f); room = omega (arith, n, f, j, a, b, d, g, few) }

@@ -1,5 +1,5 @@
 -- The choice at a place in lexicographic order.
-use Rattle.std.proofs.Common.{◌≡◌, ◌<◌, ◌≤◌, ◌+◌, ◌*◌, ℕ, zero, suc, Bool, List, [], ◌∷◌, ◌++◌, length, map, drop, slice_index, refl, sym, ◌∙◌, ap, subst, arith, inl, inr, length-append}
+use Rattle.std.proofs.Common.{◌≡◌, ◌<◌, ◌≤◌, ◌+◌, ◌*◌, ◌/◌, ◌%◌, ℕ, zero, suc, Bool, List, [], ◌∷◌, ◌++◌, length, map, drop, slice_index, refl, sym, ◌∙◌, ap, subst, arith, inl, inr, length-append}
 use Rattle.std.proofs.Math.Nat.{mul-le-mul_left}
 use Rattle.std.proofs.lemmas.Bool.{cases_lt}
 use Rattle.std.proofs.lemmas.List.{length-map}
@@ -115,6 +115,71 @@ choice_next counts parts i p span left count next over digit rest s c e l f g h 
         n ((p.0, first_of counts p.1.n + digit) ∷ tail)) left_is k in
         subst (λ (ps : List (Bool × EventId)). Stands (choices_by counts (map event_part_of ps)) left
         ((p.0, first_of counts p.1.n + digit) ∷ tail)) (sym (drop_next parts i p s)) m
+
+-- a number below a product: neither factor is 0
+factors : (count r span left : ℕ) → span ≡ count * r → left < span → (0 < count) × (0 < r)
+factors zero r span left e l = let z : 0 * r ≡ 0 = omega arith in absurd (omega (arith, e, z, l))
+factors (suc c) zero span left e l = let z : suc c * 0 ≡ 0 = omega arith in absurd (omega (arith, e, z, l))
+factors (suc c) (suc r) span left e l = (omega arith, omega arith)
+
+-- a choice is split into a way of its first part and a choice for the others, which has the place that is left
+pub record IsSplit (counts : List ℕ) (parts : List (Bool × EventId)) (i : ℕ) (p : Bool × EventId)
+    (left count next : ℕ) : Type 0 where
+  pub count_some : 0 < count
+  pub next_some : 0 < next
+  pub next_is : next ≡ choice_count counts (map event_part_of (drop (i + 1) parts))
+  pub digit : left / next < slice_index counts p.1.n
+  pub rest : left % next < next
+  pub stands : (tail : List (Bool × ℕ))
+      → Stands (choices_by counts (map event_part_of (drop (i + 1) parts))) (left % next) tail
+      → Stands (choices_by counts (map event_part_of (drop i parts))) left
+      ((p.0, first_of counts p.1.n + left / next) ∷ tail)
+
+pub choice_split : (counts : List ℕ) (parts : List (Bool × EventId)) (i : ℕ) (p : Bool × EventId)
+    (span left count : ℕ) → Stands parts i p → slice_index counts p.1.n ≡ count
+    → span ≡ choice_count counts (map event_part_of (drop i parts)) → left < span
+    → IsSplit counts parts i p left count (span / count)
+choice_split counts parts i p span left count s c e l = record {
+  count_some = some.0;
+  next_some = next_some;
+  next_is = next_is;
+  digit = all.1;
+  rest = rest (span / count) next_some;
+  stands = all.2;
+}
+  where
+    span_is : span ≡ count * choice_count counts (map event_part_of (drop (i + 1) parts))
+    span_is = e ∙ (choices_next counts parts i p s
+        ∙ ap (λ (n : ℕ). n * choice_count counts (map event_part_of (drop (i + 1) parts))) c)
+
+    some : (0 < count) × (0 < choice_count counts (map event_part_of (drop (i + 1) parts)))
+    some = factors count (choice_count counts (map event_part_of (drop (i + 1) parts))) span left span_is l
+
+    divides : (n k : ℕ) → 0 < k → (n / k) * k + n % k ≡ n
+    divides n k h = omega arith
+
+    rest : (k : ℕ) → 0 < k → left % k < k
+    rest k h = omega arith
+
+    over : (n k : ℕ) → 0 < k → n % k < k
+    over n k h = omega arith
+
+    next_is : span / count ≡ choice_count counts (map event_part_of (drop (i + 1) parts))
+    next_is = one_quotient count (choice_count counts (map event_part_of (drop (i + 1) parts))) (span / count)
+        (span % count) (divides span count some.0 ∙ span_is) (over span count some.0)
+
+    next_some : 0 < span / count
+    next_some = let h = some.1 in omega (arith, h, next_is)
+
+    all : (span / count ≡ choice_count counts (map event_part_of (drop (i + 1) parts)))
+        × (left / (span / count) < slice_index counts p.1.n)
+        × ((tail : List (Bool × ℕ))
+        → Stands (choices_by counts (map event_part_of (drop (i + 1) parts))) (left % (span / count)) tail
+        → Stands (choices_by counts (map event_part_of (drop i parts))) left
+        ((p.0, first_of counts p.1.n + left / (span / count)) ∷ tail))
+    all = choice_next counts parts i p span left count (span / count) (span % count) (left / (span / count))
+        (left % (span / count)) s c e l (divides span count some.0) (over span count some.0)
+        (divides left (span / count) next_some)
 
 -- what is planned of a choice with one part more
 pub part_more : (chosen : List (Bool × WayId)) (w : Bool × WayId) (tail : List (Bool × ℕ))

@@ -6,8 +6,10 @@ pub mod Capping
 pub mod Choosing
 pub mod LinkLemmas
 pub mod RuleLemmas
+pub mod Walking
 pub mod WaysLemmas
 pub mod KnownLemmas
+pub mod Ordering
 pub mod Adding
 pub mod Composing
 pub mod Totals

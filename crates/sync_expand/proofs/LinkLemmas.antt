@@ -1,17 +1,16 @@
--- Links of one synchronisation, and lists of events that are opened.
-use Rattle.std.proofs.Common.{◌≡◌, ℕ, Bool, List, [], Option, Some, None, Vec, refl, sym, ◌∙◌, ap, subst, inl, inr}
+-- Links of one synchronisation.
+use Rattle.std.proofs.Common.{◌≡◌, ℕ, Bool, List, Option, None, Vec, refl, sym, ◌∙◌, ap, subst, Some}
 use Rattle.std.specs.Global.{Global}
 use Rattle.typed_expr.specs.declared.expr.Expr.{Expr}
-use Rattle.ar_base.specs.Lists.{Stands, IsOneOf}
+use Rattle.ar_base.specs.Lists.{Stands}
 use Rattle.ar_base.specs.Numbers.{EventId, VarId}
 use Rattle.ar_base.specs.declared.places.Place.{Place}
-use Rattle.ar_base.proofs.Standing.{one_here, one_none}
 use Rattle.ar_base.proofs.Comparing.{not_before}
 use Rattle.gts_core.specs.declared.bound.Act.{Act}
 use Rattle.gts_core.specs.declared.bound.DeclaredEvent.{DeclaredEvent}
 use Rattle.gts_core.specs.declared.bound.DeclaredWay.{DeclaredWay}
 use Rattle.gts_core.specs.declared.bound.DeclaredWay.TheVariants.{Local, Sync}
-use Rattle.sync_expand.specs.Links.{IsClimbAmong, IsClimbOf, IsClimbIn, IsClimb, IsFirstLink, nowhere, there, OpensWays, OpensParts, OpensOne, AreReached}
+use Rattle.sync_expand.specs.Links.{IsClimbAmong, IsClimbOf, IsClimbIn, IsClimb, IsFirstLink, nowhere, there}
 use Rattle.sync_expand.specs.declared.links.Link.{Link}
 use Rattle.sync_expand.proofs.FirstLinks.{first_same, IsOfEvent, AtItem}
 
@@ -72,41 +71,3 @@ climb_back events ranks gap l h = (
   record
       { item = h.declared; stands = h.stands; has = record { number = refl; climb = h.climb } },
 )
-
--- one part more is opened
-pub opens_part : (parts : List (Bool × EventId)) (i : ℕ) (p : Bool × EventId) (old mid new : List EventId)
-    → Stands parts i p → OpensParts parts old mid → OpensOne p.1 mid new → OpensParts parts old new
-opens_part parts i p old mid new s a b = record {
-  only = λ x h. elim (b.only x h) [
-    | inl m ↦ a.only x m
-    | inr e ↦ inr (p.0, one_here parts i (p.0, x) (subst (λ (y : EventId). Stands parts i (p.0, y)) (sym e) s))
-  ];
-}
-
--- the parts of one way more are opened
-pub opens_way : (ways : List DeclaredWay) (i : ℕ) (w : DeclaredWay) (parts : Vec (Bool × EventId) Global) (at : Place)
-    (old mid new : List EventId) → Stands ways i w → w ≡ Sync parts at
-    → OpensWays ways old mid → OpensParts parts.items mid new → OpensWays ways old new
-opens_way ways i w parts at old mid new s e a b = record {
-  only = λ x h. elim (b.only x h) [
-    | inl m ↦ a.only x m
-    | inr p ↦ inr (record {
-      parts = parts;
-      at = at;
-      is_way = one_here ways i (Sync parts at) (subst (λ (v : DeclaredWay). Stands ways i v) e s);
-      must =
-          p.0;
-      is_part = p.1;
-    })
-  ];
-}
-
--- the first event that is opened is reached from itself
-pub reached_first : (events : List DeclaredEvent) (from : EventId) (old new : List EventId) → old ≡ []
-    → OpensOne from old new → AreReached events from.n new
-reached_first events from old new e h = record {
-  each = λ x i. elim (h.only x i) [
-    | inl o ↦ absurd (one_none x (subst (λ (xs : List EventId). IsOneOf xs x) e o))
-    | inr k ↦ inl (ap (λ (y : EventId). y.n) (sym k))
-  ];
-}

@@ -1,12 +1,10 @@
 -- What is reached from an event.
-use Rattle.std.proofs.Common.{ℕ, ◌<◌, ◌≤◌, List, refl, sym, subst, inl, inr, arith, slice_index}
-use Rattle.ar_base.specs.Lists.{Stands}
-use Rattle.ar_base.specs.Numbers.{EventId}
+use Rattle.std.proofs.Common.{ℕ, ◌<◌, ◌≤◌, List, sym, subst, inl, inr, arith, slice_index}
 use Rattle.ar_meaning.specs.Expand.{EventDeclaration, HasPart, ReachesPart, part_of, further}
 use Rattle.gts_core.specs.Bound.{declared_from}
 use Rattle.gts_core.specs.declared.bound.DeclaredEvent.{DeclaredEvent}
-use Rattle.sync_expand.specs.Links.{IsReached, AreReached, IsPartOf, OpensWays, Falls}
-use Rattle.sync_expand.proofs.DeclaredLemmas.{NamesPart, part_named}
+use Rattle.sync_expand.specs.Links.{Falls}
+use Rattle.sync_expand.specs.Reached.{IsReached}
 
 -- one step further
 pub reaches_on : {L E : Type 0} {ds : List (EventDeclaration L E)} {a b c : E} → ReachesPart ds a b → HasPart ds b c
@@ -18,28 +16,6 @@ module _ (events : List DeclaredEvent) (from : ℕ) where
   pub reached_on : (b c : ℕ) → IsReached events from b → HasPart (declared_from 0 events) b c → IsReached events from c
   reached_on b c (inl e) k = inr (part_of (subst (λ (n : ℕ). HasPart (declared_from 0 events) n c) (sym e) k))
   reached_on b c (inr r) k = inr (reaches_on r k)
-
-  -- an event's parts are reached where it is
-  pub opened_reached : (event : EventId) (d : DeclaredEvent) (old new : List EventId) → Stands events event.n d
-      → IsReached events from event.n
-      → AreReached events from old → OpensWays d.ways.items old new → AreReached events from new
-  opened_reached event d old new s r are opens =
-      record {
-        each = λ x i. elim (opens.only x i)
-            [ inl o ↦ are.each x o | inr p ↦ reached_on event.n x.n r (part_named events event.n x.n (named p)) ];
-      }
-    where
-      named : {x : EventId} → IsPartOf d.ways.items x → NamesPart events event.n x.n
-      named {x = x} p = record {
-        declared = d;
-        stands = s;
-        parts = p.parts;
-        at = p.at;
-        is_way = p.is_way;
-        part = (p.must, x);
-        is_part = p.is_part;
-        number = refl;
-      }
 
 -- ranks that never rise never rise along what is reached, and ranks that fall fall
 module _ (events : List DeclaredEvent) (ranks : List ℕ) where

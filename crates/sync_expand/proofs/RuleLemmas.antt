@@ -1,19 +1,20 @@
 -- Rule L14 by links whose ranks climb.
-use Rattle.std.proofs.Common.{◌≡◌, ℕ, zero, suc, ◌+◌, ◌≤◌, Bool, List, [], map, Option, Some, None, slice_index, refl, sym, ◌∙◌, ap, subst, inl, inr, arith}
+use Rattle.std.proofs.Common.{◌≡◌, ℕ, zero, suc, ◌+◌, ◌<◌, ◌≤◌, length, Bool, List, [], map, Option, Some, None, slice_index, refl, sym, ◌∙◌, ap, subst, inl, inr, arith}
 use Rattle.std.proofs.lemmas.Bool.{cases_lt}
 use Rattle.ar_base.specs.Breach.{IsEarlier, IsBroken, AreKept}
 use Rattle.ar_base.specs.Lists.{Stands, IsOneOf}
 use Rattle.ar_base.specs.declared.places.Place.{Place}
-use Rattle.ar_base.proofs.Standing.{stands_one, stands_map, stands_map_back, one_here}
+use Rattle.ar_base.proofs.Standing.{stands_one, stands_within, stands_map, stands_map_back, one_here}
 use Rattle.ar_meaning.specs.Systems.{Transition}
 use Rattle.ar_meaning.specs.Expand.{EventDeclaration, Member, Synchronises, HasPart, ReachesPart, part_of, further}
 use Rattle.gts_core.specs.Bound.{declared_from, declared_of, member_of, event_part_of}
 use Rattle.gts_core.specs.declared.bound.DeclaredEvent.{DeclaredEvent}
 use Rattle.gts_core.specs.declared.bound.DeclaredWay.{DeclaredWay}
 use Rattle.gts_core.specs.declared.bound.DeclaredWay.TheVariants.{Sync}
-use Rattle.sync_expand.specs.Expanding.{BreaksNumberedSynchronisation, BreaksNumberedWayRule, l14}
+use Rattle.sync_expand.specs.Expanding.{AreExpandable, BreaksNumberedSynchronisation, BreaksNumberedWayRule, l14}
 use Rattle.sync_expand.specs.Counting.{way_rules}
-use Rattle.sync_expand.specs.Links.{Climbs, IsClimb, IsFirstLink, nowhere, there, IsReached, Falls}
+use Rattle.sync_expand.specs.Links.{Climbs, IsClimb, IsFirstLink, nowhere, there, Falls}
+use Rattle.sync_expand.specs.Reached.{IsReached}
 use Rattle.sync_expand.specs.declared.links.Link.{Link}
 use Rattle.sync_expand.proofs.DeclaredLemmas.{NamesPart, named_part, part_named, declared_stands, declared_back, declared_key}
 use Rattle.sync_expand.proofs.Reaching.{never_rises, always_falls}
@@ -46,6 +47,38 @@ module _ (events : List DeclaredEvent) (ranks : List ℕ) where
     refl,
     h.number,
   )
+
+  -- a link names a part of its event
+  pub climb_named : (gap : ℕ) (l : Link) → IsClimb events ranks gap l → NamesPart events l.event.n l.part.n
+  climb_named gap l h = record {
+    declared = h.declared;
+    stands = h.stands;
+    parts = h.climb.climb.parts;
+    at = l.at;
+    is_way = one_here _ h.climb.is_way.place _
+        (subst (λ (w : DeclaredWay). Stands h.declared.ways.items h.climb.is_way.place w) h.climb.climb.is
+        h.climb.is_way.stands);
+    part = (h.climb.climb.climb.must, l.part);
+    is_part = h.climb.climb.climb.is_part;
+    number = refl;
+  }
+
+  -- both are events
+  pub link_within : AreExpandable events → (gap : ℕ) (l : Link) → IsClimb events ranks gap l
+      → (l.event.n < length events) × (l.part.n < length events)
+  link_within sound gap l h =
+      let n = climb_named gap l h in (
+        stands_within events l.event.n n.declared n.stands,
+        subst (λ (k : ℕ). k < length events) n.number
+            (sound.parts l.event.n n.is_way.place n.declared n.parts n.at n.stands n.is_way.stands n.part n.is_part),
+      )
+
+  -- the first link is one
+  pub first_link : {P : Link → Type 0} (f : Option Link) (l : Link) → f ≡ Some l → IsFirstLink P f → P l
+  first_link {P = P} f l e h = by (subst (λ (z : Option Link). IsFirstLink P z) e h)
+    where
+      by : IsFirstLink P (Some l) → P l
+      by (there is before) = is
 
   no_links : {P : Link → Type 0} → IsFirstLink P None → (l : Link) → P l → ⊥
   no_links (nowhere n) l p = n l p

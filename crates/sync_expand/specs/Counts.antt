@@ -1,5 +1,5 @@
 -- How many ways declared events have, told by sums and products.
-use Rattle.std.specs.Prelude.{◌≡◌, ℕ, ◌+◌, ◌*◌, ◌<◌, ◌≤◌, Bool, List, [], ◌∷◌, length, Option, Some, slice_index}
+use Rattle.std.specs.Prelude.{◌≡◌, ℕ, ◌+◌, ◌*◌, ◌<◌, ◌≤◌, Bool, List, [], ◌∷◌, length, slice_index}
 use Rattle.ar_base.specs.Lists.{Stands, IsOneOf}
 use Rattle.ar_meaning.specs.Expand.{EventDeclaration, Member, One, Synchronises}
 use Rattle.sync_expand.specs.Plans.{first_of}
@@ -40,12 +40,6 @@ pub record AreCounts {L : Type 0} (events : List (EventDeclaration L ℕ)) (coun
   pub long : length counts ≡ length events
   pub each : (n : ℕ) (d : EventDeclaration L ℕ) → Stands events n d
       → Stands counts n (way_count counts d.members)
-
--- what is known of the counts is right, and within the limit
-pub record AreKnown (counts : List ℕ) (found : List (Option ℕ)) : Type 0 where
-  pub long : length found ≡ length counts
-  pub right : (n c : ℕ) → Stands found n (Some c) → Stands counts n c
-  pub small : (n c : ℕ) → Stands found n (Some c) → c ≤ 256
 
 -- how many ways each event has, and the number of its first way
 pub record AreFirsts (counts : List ℕ) (firsts : List ℕ) : Type 0 where

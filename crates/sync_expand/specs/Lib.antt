@@ -3,5 +3,7 @@ pub mod Planned
 pub mod Expanding
 pub mod Counting
 pub mod Counts
+pub mod Tallies
 pub mod Links
+pub mod Reached
 pub mod Planning

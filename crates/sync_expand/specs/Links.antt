@@ -1,11 +1,11 @@
 -- Which synchronisations may lead an event back to itself, told by ranks.
-use Rattle.std.specs.Prelude.{◌≡◌, ℕ, ◌+◌, ◌<◌, ◌≤◌, ◌⊎◌, Bool, List, Option, Some, None, Vec, slice_index}
+use Rattle.std.specs.Prelude.{◌≡◌, ℕ, ◌+◌, ◌<◌, ◌≤◌, Bool, List, Option, Some, None, Vec, slice_index}
 use Rattle.std.specs.Global.{Global}
 use Rattle.ar_base.specs.Breach.{IsEarlier}
 use Rattle.ar_base.specs.Lists.{Stands, IsOneOf}
 use Rattle.ar_base.specs.Numbers.{EventId}
 use Rattle.ar_base.specs.declared.places.Place.{Place}
-use Rattle.ar_meaning.specs.Expand.{HasPart, ReachesPart}
+use Rattle.ar_meaning.specs.Expand.{HasPart}
 use Rattle.gts_core.specs.Bound.{declared_from}
 use Rattle.gts_core.specs.declared.bound.DeclaredEvent.{DeclaredEvent}
 use Rattle.gts_core.specs.declared.bound.DeclaredWay.{DeclaredWay}
@@ -65,35 +65,13 @@ pub record Until (P : ℕ → Link → Type 0) (n : ℕ) (l : Link) : Type 0 whe
   pub below : k < n
   pub holds : P k l
 
--- the second event is the first or is reached from it
-abbrev pub IsReached : List DeclaredEvent → ℕ → ℕ → Type 0
-IsReached events from to = (from ≡ to) ⊎ ReachesPart (declared_from 0 events) from to
-
--- each of these events is reached from that one
-pub record AreReached (events : List DeclaredEvent) (from : ℕ)
-    (opened : List EventId) : Type 0 where
-  pub each : (x : EventId) → IsOneOf opened x → IsReached events from x.n
-
--- these are parts of one of the ways
+-- the event is a part of one of the ways
 pub record IsPartOf (ways : List DeclaredWay) (x : EventId) : Type 0 where
   pub parts : Vec (Bool × EventId) Global
   pub at : Place
   pub is_way : IsOneOf ways (Sync parts at)
   pub must : Bool
   pub is_part : IsOneOf parts.items (must, x)
-
--- the new list has no events besides those of the old one and parts of the ways
-pub record OpensWays (ways : List DeclaredWay) (old new : List EventId) : Type 0 where
-  pub only : (x : EventId) → IsOneOf new x → IsOneOf old x ⊎ IsPartOf ways x
-
--- the same of parts
-pub record OpensParts (parts : List (Bool × EventId)) (old new : List EventId) : Type 0 where
-  pub only : (x : EventId) → IsOneOf new x
-      → IsOneOf old x ⊎ ((must : Bool) × IsOneOf parts (must, x))
-
--- the same of one event
-pub record OpensOne (event : EventId) (old new : List EventId) : Type 0 where
-  pub only : (x : EventId) → IsOneOf new x → IsOneOf old x ⊎ (x ≡ event)
 
 -- each part has a lesser rank than the event whose synchronisation names it
 pub record Falls (events : List DeclaredEvent) (ranks : List ℕ) : Type 0 where

@@ -1,7 +1,7 @@
 -- Ways that are added to a plan.
-use Rattle.std.specs.Prelude.{◌≡◌, ℕ, ◌+◌, ◌-◌, ◌<◌, ◌^◌, List, ◌++◌, map, length, sum, Option}
+use Rattle.std.specs.Prelude.{◌≡◌, ℕ, ◌+◌, ◌-◌, ◌<◌, ◌≤◌, ◌^◌, List, ◌++◌, map, length, sum}
 use Rattle.ar_meaning.specs.Numbered.{Body}
-use Rattle.sync_expand.specs.Counts.{AreKnown, AreFirsts}
+use Rattle.sync_expand.specs.Counts.{AreFirsts}
 use Rattle.sync_expand.specs.Plans.{numbered_from}
 use Rattle.sync_expand.specs.Planned.{planned_of}
 use Rattle.sync_expand.specs.declared.planning.Numbering.{Numbering}
@@ -13,12 +13,17 @@ pub record Adds (event first : ℕ) (bodies : List (Body ℕ)) (old new : List W
   pub is : map planned_of new ≡ map planned_of old
       ++ numbered_from event (length old - first + 1) bodies
 
--- the events have so many ways each, and these are the numbers of their first ways
-pub record IsNumbering (counts : List ℕ) (found : List (Option ℕ)) (firsts : List ℕ) : Type 0 where
-  pub are_known : AreKnown counts found
+-- the numbers of the first ways are right where the events have so many ways, which all have numbers
+pub record IsNumbering (counts firsts : List ℕ) : Type 0 where
   pub are_firsts : AreFirsts counts firsts
   pub small : sum counts < 2 ^ 32
 
 -- the same of what the code keeps
-abbrev pub Numbers : List ℕ → Numbering → Type 0
-Numbers counts numbering = IsNumbering counts numbering.counts.items numbering.firsts.items
+abbrev pub IsNumbered : Numbering → Type 0
+IsNumbered numbering = IsNumbering numbering.counts.items numbering.firsts.items
+
+-- the plan has so few ways of the event whose first way has the place `first` that with so many more it is within the
+-- limit
+pub record HasRoom (first more : ℕ) (plan : List WayPlan) : Type 0 where
+  pub low : first ≤ length plan
+  pub room : length plan - first + more ≤ 256

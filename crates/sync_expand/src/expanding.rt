@@ -5,10 +5,9 @@ ghost use Rattle.sync_expand.specs.Expanding.{AreExpandable, Expands};
 ghost use Rattle.sync_expand.specs.Planned.{IsPlan};
 
 use crate::counting::{count_ways, fit_parts};
-use crate::links::keep_rule;
+use crate::links::falling_ranks;
 use crate::planning::{Numbering, plan};
 use crate::plans::WayPlan;
-use crate::search::parts_first;
 use ar_base::RuleFault;
 use gts_core::DeclaredEvent;
 use std::alloc::Global;
@@ -24,9 +23,8 @@ pub fn ways(alloc: Global, events: &[DeclaredEvent]) -> Result<Vec<WayPlan>, Rul
     requires { AreExpandable events.now }
     ensures { Meets Expands (λ ways plan. IsPlan events.now ways plan.items) events.now result }
 {
-    let order = parts_first(alloc, events)?;
-    keep_rule(alloc, events, &order.ranks)?;
-    let counts = count_ways(alloc, events, &order.events)?;
+    let ranks = falling_ranks(alloc, events)?;
+    let counts = count_ways(alloc, events, &ranks)?;
     fit_parts(events, &counts)?;
     let numbering = Numbering::new(alloc, counts)?;
     Ok(plan(alloc, events, &numbering)?)

@@ -6,8 +6,10 @@ mod counting;
 mod expanding;
 pub mod laws;
 mod links;
+mod numbers;
 mod planning;
 mod plans;
+mod reach;
 mod search;
 
 pub use expanding::ways;

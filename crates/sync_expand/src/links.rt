@@ -1,15 +1,17 @@
 //! The rule that no event is reached from one of its own synchronisations.
 
-ghost use Rattle.std.specs.Prelude.{◌≡◌, ◌↔◌, ◌≤◌, ℕ, Some, IsTrue, IfOk, IfErr, OnOk, IfNone, IfSome, length, slice_index};
-ghost use Rattle.ar_base.specs.Breach.{IsEarlier};
+ghost use Rattle.std.specs.Prelude.{◌≡◌, ◌↔◌, ◌≤◌, Some, IsTrue, IfOk, IfErr, IfNone, IfSome, length};
 ghost use Rattle.ar_base.specs.Stages.{Keeps, IsRefusal, rule_told};
 ghost use Rattle.ar_base.specs.declared.numbers.Id.{Id};
 ghost use Rattle.ar_base.specs.declared.numbers.EventKind.{EventKind};
 ghost use Rattle.sync_expand.specs.Expanding.{AreExpandable, BreaksNumberedWayRule};
 ghost use Rattle.sync_expand.specs.Counting.{way_rules};
-ghost use Rattle.sync_expand.specs.Links.{Climbs, IsClimbAmong, IsClimbOf, IsClimbIn, IsClimb, IsFirstLink, IsEarlierOf, IsReached, AreReached, OpensWays, OpensParts, OpensOne, Falls};
+ghost use Rattle.sync_expand.specs.Links.{Climbs, IsClimbAmong, IsClimbOf, IsClimbIn, IsClimb, IsFirstLink, IsEarlierOf, Falls};
 
-use ar_base::{EventId, Memory, Place, RuleFault};
+use crate::numbers::number_at;
+use crate::reach::{reach_counts, reached_from};
+use crate::search::ranks_of;
+use ar_base::{EventId, Place, RuleFault};
 use gts_core::{DeclaredEvent, DeclaredWay};
 use std::alloc::Global;
 
@@ -21,37 +23,32 @@ pub(crate) struct Link {
     pub at: Place,
 }
 
-/// Refuses where an event is reached from one of its own synchronisations, with the earliest place
-/// of one.
+/// Ranks by which each part has a lesser rank than the event that names it. Refuses where an event
+/// is reached from one of its own synchronisations, with the earliest place of one.
 ///
-/// The ranks tell it: where each part has a lesser rank than the event that names it, no event is
-/// reached from itself. Elsewhere, where no part has a greater rank, only parts of the event's own
-/// rank can lead back to it, and the earliest of these is followed.
-pub(crate) fn keep_rule(
-    alloc: Global,
-    events: &[DeclaredEvent],
-    ranks: &[u32],
-) -> Result<(), RuleFault>
+/// Where the ranks that were found fall from each event to its parts, no event is reached from
+/// itself. Elsewhere, where no part has a greater rank, only parts of the event's own rank can lead
+/// back to it, and the earliest of these is followed. Ranks that show neither are replaced by the
+/// counts of what is reached from each event, which show one of both.
+pub(crate) fn falling_ranks(alloc: Global, events: &[DeclaredEvent]) -> Result<Vec<u32>, RuleFault>
     requires { AreExpandable events.now }
-    ensures kept { OnOk result (Falls events.now ranks.now) }
+    ensures falls { IfOk result (λ ranks. Falls events.now ranks.items) }
     ensures refused { IfErr result
         (λ e. IsRefusal (Keeps way_rules BreaksNumberedWayRule events.now) (rule_told e)) }
 {
-    let Some(link) = first_climb(events, ranks, 0) else {
-        return Ok(());
+    let ranks = ranks_of(alloc, events)?;
+    let Some(link) = first_climb(events, &ranks, 0) else {
+        return Ok(ranks);
     };
-    let rises = first_climb(events, ranks, 1);
-    if rises.is_none() && is_reached(alloc, events, link.part, link.event)? {
+    let reached = reached_from(alloc, events, link.part)?;
+    if first_climb(events, &ranks, 1).is_none() && reached[link.event.n as usize] {
         return Err(RuleFault::Rule(14, link.at));
     }
-    Err(RuleFault::Memory)
-}
-
-// Whether the first place comes before the second in the text.
-fn is_earlier(first: Place, second: Place) -> bool
-    ensures { IsTrue result ↔ IsEarlier first second }
-{
-    first.line < second.line || first.line == second.line && first.column < second.column
+    let counts = reach_counts(alloc, events)?;
+    match first_climb(events, &counts, 0) {
+        Some(link) => Err(RuleFault::Rule(14, link.at)),
+        None => Ok(counts),
+    }
 }
 
 // The earlier of two links, as far as there are any.
@@ -70,7 +67,7 @@ fn earlier(found: Option<Link>, other: Option<Link>) -> Option<Link>
 fn earlier_of(first: Link, second: Link) -> Option<Link>
     ensures { IsEarlierOf (Some first) (Some second) result }
 {
-    if is_earlier(second.at, first.at) {
+    if second.at.is_before(first.at) {
         Some(second)
     } else {
         Some(first)
@@ -81,15 +78,9 @@ fn earlier_of(first: Link, second: Link) -> Option<Link>
 fn climbs(ranks: &[u32], event: EventId, part: EventId, gap: u32) -> bool
     ensures { IsTrue result ↔ Climbs ranks.now gap event.n part.n }
 {
-    let low = u64::from(rank_of(ranks, event));
-    let high = u64::from(rank_of(ranks, part));
+    let low = u64::from(number_at(ranks, event));
+    let high = u64::from(number_at(ranks, part));
     low + u64::from(gap) <= high
-}
-
-fn rank_of(ranks: &[u32], event: EventId) -> u32
-    ensures { result ≡ slice_index ranks.now event.n }
-{
-    ranks.get(event.n as usize).copied().unwrap_or(0)
 }
 
 // The earliest link that climbs by so much.
@@ -147,87 +138,4 @@ fn climb_among(
         }
     }
     None
-}
-
-// Whether the second event is the first or is found among those that are reached from it.
-fn is_reached(
-    alloc: Global,
-    events: &[DeclaredEvent],
-    from: EventId,
-    to: EventId,
-) -> Result<bool, Memory>
-    ensures { IfOk result (λ found. IsTrue found → IsReached events.now from.n to.n) }
-{
-    let mut seen = vec![in alloc; false; events.len()]?;
-    let mut opened = Vec::new(alloc);
-    open(&mut opened, &mut seen, from)?;
-    for next in 0..events.len() {
-        let Some(event) = opened.get(next).copied() else {
-            return Ok(false);
-        };
-        if event.n == to.n {
-            return Ok(true);
-        }
-        open_event(&mut opened, &mut seen, events, event)?;
-    }
-    Ok(false)
-}
-
-// Opens the parts of an event.
-fn open_event(
-    opened: &mut Vec<EventId>,
-    seen: &mut [bool],
-    events: &[DeclaredEvent],
-    event: EventId,
-) -> Result<(), Memory>
-    ensures { (from : ℕ) → IsReached events.now from event.n
-        → AreReached events.now from opened.old.items
-        → OnOk result (AreReached events.now from opened.new.items) }
-{
-    match events.get(event.n as usize) {
-        Some(declared) => open_ways(opened, seen, &declared.ways),
-        None => Ok(()),
-    }
-}
-
-// Opens the parts of these ways.
-fn open_ways(
-    opened: &mut Vec<EventId>,
-    seen: &mut [bool],
-    ways: &[DeclaredWay],
-) -> Result<(), Memory>
-    ensures { OnOk result (OpensWays ways.now opened.old.items opened.new.items) }
-{
-    for way in ways {
-        if let DeclaredWay::Sync(parts, _) = way {
-            open_parts(opened, seen, parts)?;
-        }
-    }
-    Ok(())
-}
-
-fn open_parts(
-    opened: &mut Vec<EventId>,
-    seen: &mut [bool],
-    parts: &[(bool, EventId)],
-) -> Result<(), Memory>
-    ensures { OnOk result (OpensParts parts.now opened.old.items opened.new.items) }
-{
-    for (_, part) in parts {
-        open(opened, seen, *part)?;
-    }
-    Ok(())
-}
-
-// Opens an event that was not seen before.
-fn open(opened: &mut Vec<EventId>, seen: &mut [bool], event: EventId) -> Result<(), Memory>
-    ensures { OnOk result (OpensOne event opened.old.items opened.new.items) }
-{
-    let place = event.n as usize;
-    if place >= seen.len() || seen[place] {
-        return Ok(());
-    }
-    seen[place] = true;
-    opened.push(event)?;
-    Ok(())
 }

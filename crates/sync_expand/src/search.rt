@@ -1,21 +1,14 @@
-//! An order of events in which parts come first, and ranks by which those that lead back to
-//! themselves are told.
+//! Ranks of events, by which those that lead back to themselves are told.
 //!
 //! One search through the parts of each event, which opens each event once and holds the events that
 //! are open in a list. Events that are reached from one another get one rank; any other event has a
-//! greater rank than its parts. Nothing is proved of the order and the ranks: who uses them tests
-//! what it rests on, and refuses for want of memory where the test fails.
+//! greater rank than its parts. Nothing is proved of the ranks: who uses them tests them, and goes
+//! another way where the test fails.
 
+use crate::numbers::number_at;
 use ar_base::{EventId, Memory};
 use gts_core::{DeclaredEvent, DeclaredWay};
 use std::alloc::Global;
-
-/// The events, parts first, and the rank of each.
-#[derive(Drop)]
-pub(crate) struct Order {
-    pub events: Vec<EventId>,
-    pub ranks: Vec<u32>,
-}
 
 // An event whose parts are being looked at, with the way and the part that come next.
 #[derive(Clone, Copy)]
@@ -26,8 +19,8 @@ struct Open {
 }
 
 // When each event was met, counted from 1; the earliest event without a rank that was found to be
-// reached from it; the events that are open; those that were met and have no rank yet; and how many
-// were met and how many ranks were given.
+// reached from it; the events that are open; those that were met and have no rank yet; how many were
+// met and how many ranks were given; and the rank of each event.
 #[derive(Drop)]
 struct Search {
     met: Vec<u32>,
@@ -36,11 +29,11 @@ struct Search {
     waiting: Vec<EventId>,
     count: u32,
     rank: u32,
-    order: Order,
+    ranks: Vec<u32>,
 }
 
-/// The order and the ranks of events.
-pub(crate) fn parts_first(alloc: Global, events: &[DeclaredEvent]) -> Result<Order, Memory> {
+/// The ranks of events.
+pub(crate) fn ranks_of(alloc: Global, events: &[DeclaredEvent]) -> Result<Vec<u32>, Memory> {
     let mut search = Search {
         met: vec![in alloc; 0; events.len()]?,
         earliest: vec![in alloc; 0; events.len()]?,
@@ -48,10 +41,7 @@ pub(crate) fn parts_first(alloc: Global, events: &[DeclaredEvent]) -> Result<Ord
         waiting: Vec::new(alloc),
         count: 0,
         rank: 0,
-        order: Order {
-            events: Vec::new(alloc),
-            ranks: vec![in alloc; 0; events.len()]?,
-        },
+        ranks: vec![in alloc; 0; events.len()]?,
     };
     for n in 0..events.len() {
         if let Ok(n) = u32::try_from(n) {
@@ -65,13 +55,9 @@ pub(crate) fn parts_first(alloc: Global, events: &[DeclaredEvent]) -> Result<Ord
         waiting: _,
         count: _,
         rank: _,
-        order,
+        ranks,
     } = search;
-    Ok(order)
-}
-
-fn at(list: &[u32], event: EventId) -> u32 {
-    list.get(event.n as usize).copied().unwrap_or(0)
+    Ok(ranks)
 }
 
 fn put(list: &mut [u32], event: EventId, value: u32) {
@@ -92,7 +78,7 @@ fn search_from(events: &[DeclaredEvent], root: EventId, search: &mut Search) -> 
                 search.open.push(next)?;
                 look(search, top.event, part)?;
             }
-            None => leave(search, top.event)?,
+            None => leave(search, top.event),
         }
     }
     Ok(())
@@ -125,7 +111,7 @@ fn part_at(way: &DeclaredWay, place: usize) -> Option<EventId> {
 
 // Opens an event that was not met before.
 fn meet(search: &mut Search, event: EventId) -> Result<(), Memory> {
-    if event.n as usize >= search.met.len() || at(&search.met, event) > 0 {
+    if event.n as usize >= search.met.len() || number_at(&search.met, event) > 0 {
         return Ok(());
     }
     search.count = search.count.saturating_add(1);
@@ -142,35 +128,33 @@ fn meet(search: &mut Search, event: EventId) -> Result<(), Memory> {
 
 // Looks at a part of an event.
 fn look(search: &mut Search, event: EventId, part: EventId) -> Result<(), Memory> {
-    let met = at(&search.met, part);
+    let met = number_at(&search.met, part);
     if met == 0 {
         return meet(search, part);
     }
-    if at(&search.order.ranks, part) == 0 {
-        let earliest = at(&search.earliest, event).min(met);
+    if number_at(&search.ranks, part) == 0 {
+        let earliest = number_at(&search.earliest, event).min(met);
         put(&mut search.earliest, event, earliest);
     }
     Ok(())
 }
 
 // Leaves an event whose parts were all looked at.
-fn leave(search: &mut Search, event: EventId) -> Result<(), Memory> {
-    search.order.events.push(event)?;
-    let earliest = at(&search.earliest, event);
-    if earliest == at(&search.met, event) {
+fn leave(search: &mut Search, event: EventId) {
+    let earliest = number_at(&search.earliest, event);
+    if earliest == number_at(&search.met, event) {
         search.rank = search.rank.saturating_add(1);
         rank_down_to(search, event);
     } else if let Some(above) = search.open.last().copied() {
-        let least = at(&search.earliest, above.event).min(earliest);
+        let least = number_at(&search.earliest, above.event).min(earliest);
         put(&mut search.earliest, above.event, least);
     }
-    Ok(())
 }
 
 // Gives the rank to the event and to all that were met behind it and have none.
 fn rank_down_to(search: &mut Search, event: EventId) {
     while let Some(last) = search.waiting.pop() {
-        put(&mut search.order.ranks, last, search.rank);
+        put(&mut search.ranks, last, search.rank);
         if last.n == event.n {
             return;
         }

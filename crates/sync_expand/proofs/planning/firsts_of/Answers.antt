@@ -1,20 +1,19 @@
-use Rattle.std.proofs.Common.{arith, subst, ℕ, Option, None}
-use Rattle.ar_base.specs.Lists.{Stands}
-use Rattle.ar_base.proofs.Standing.{stands_get}
-use Rattle.sync_expand.proofs.KnownLemmas.{first_next, firsts_numbering}
+use Rattle.std.proofs.Common.{arith, refl}
+use Rattle.sync_expand.proofs.KnownLemmas.{first_next, first_fits}
 use Rattle.sync_expand.proofs.planning.firsts_of.Goals as goal
 
+pub overflow_add-next : goal.overflow_add-next
+overflow_add-next c =
+    let f = first_fits c.args.counts.now c.loop-count.count-index c.requires c.loop-count-test.true in
+    omega (arith, f, c.loop-count.invariant.0)
+
 pub loop-count-preserved : goal.loop-count-preserved
-loop-count-preserved c = λ counts e small.
-    let s = subst (λ (o : Option ℕ). Stands c.args.counts.now c.loop-count.count-index o) c.in-Some.is
-    (stands_get c.args.counts.now c.loop-count.count-index None c.loop-count-test.true) in
-    let i = c.loop-count.invariant counts e small in
-    first_next counts c.args.counts.now c.loop-count.count-index c.in-Some.count c.loop-count.next
-    c.saturating_add-next.result c.loop-count.firsts.items c.push.new.self.items e small
-    s i.0 i.1 i.2 c.saturating_add-next.ensures c.in_ok-push.ensures.items
+loop-count-preserved c =
+    let i = c.loop-count.invariant in
+    first_next c.args.counts.now c.loop-count.count-index c.loop-count.next _ c.loop-count.firsts.items
+    c.push.new.self.items c.loop-count-test.true i.0 i.1 i.2 refl c.in_ok-push.ensures.items
 
 pub returns : goal.returns
-returns c = λ counts e most small.
-    let i = c.loop-count.invariant counts e small in
-    firsts_numbering counts c.args.counts.now c.loop-count.count-index c.loop-count.firsts.items e most small
-    (omega arith) c.loop-count-test.false i.1 i.2
+returns c =
+    let i = c.loop-count.invariant in
+    record { long = omega (arith, i.1, c.loop-count-test.false); each = λ n l. i.2 n (omega (arith, l, c.loop-count-test.false)) }

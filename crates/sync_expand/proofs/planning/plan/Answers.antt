@@ -10,19 +10,24 @@ use Rattle.sync_expand.proofs.DeclaredLemmas.{declared_stands, declared_length}
 use Rattle.sync_expand.proofs.Adding.{plan_next}
 use Rattle.sync_expand.proofs.planning.plan.Goals as goal
 
-pub loop-place-preserved : goal.loop-place-preserved
-loop-place-preserved c = λ counts num few.
+pub plan_event-requires-clause-within : goal.plan_event-requires-clause-within
+plan_event-requires-clause-within c =
     let s = item_stands c.args.events.now c.loop-place.place c.index-events-place.result (omega arith)
     c.index-events-place.is in
     let d = declared_stands 0 c.args.events.now c.loop-place.place c.index-events-place.result s in
-    let a = (rw c.deref.ensures.value at c.in_ok-plan_event.ensures) counts num
-    (few.few _ (one_here _ c.loop-place.place _ d)) in
-    plan_next counts c.args.events.now c.loop-place.place c.index-events-place.result _ _ _ s c.new-event.ensures
-    (c.loop-place.invariant counts num few) a
+    rw c.deref.ensures.value (c.requires.within.few _ (one_here _ c.loop-place.place _ d))
+
+pub loop-place-preserved : goal.loop-place-preserved
+loop-place-preserved c =
+    let s = item_stands c.args.events.now c.loop-place.place c.index-events-place.result (omega arith)
+    c.index-events-place.is in
+    let a = rw c.deref.ensures.value at c.in_ok-plan_event.ensures in
+    plan_next c.args.numbering.now.counts.items c.args.events.now c.loop-place.place c.index-events-place.result _ _ _ s
+    c.new-event.ensures c.loop-place.invariant a
 
 pub returns : goal.returns
-returns c = λ counts num few.
+returns c =
     let l = declared_length 0 c.args.events.now in
-    c.loop-place.invariant counts num few
-    ∙ ap (λ (ds : List (EventDeclaration (Transition ℕ) ℕ)). planned_ways counts ds)
+    c.loop-place.invariant
+    ∙ ap (λ (ds : List (EventDeclaration (Transition ℕ) ℕ)). planned_ways c.args.numbering.now.counts.items ds)
     (take_all c.loop-place.place (declared_from 0 c.args.events.now) (omega (arith, l)))

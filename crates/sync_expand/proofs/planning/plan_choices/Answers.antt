@@ -1,4 +1,4 @@
-use Rattle.std.proofs.Common.{arith, subst, ◌≡◌, ℕ, Bool, List, map}
+use Rattle.std.proofs.Common.{◌≡◌, ◌≤◌, ℕ, Bool, List, map, subst, arith}
 use Rattle.std.proofs.lemmas.List.{take_all}
 use Rattle.ar_meaning.specs.Numbered.{Joins}
 use Rattle.gts_core.specs.Bound.{event_part_of}
@@ -6,22 +6,33 @@ use Rattle.sync_expand.specs.Planning.{Adds}
 use Rattle.sync_expand.specs.Counts.{choice_count}
 use Rattle.sync_expand.specs.Plans.{choices_by}
 use Rattle.sync_expand.proofs.Choosing.{choices_length}
-use Rattle.sync_expand.proofs.Adding.{adds_choice}
+use Rattle.sync_expand.proofs.Adding.{adds_choice, choices_room}
 use Rattle.sync_expand.proofs.planning.plan_choices.Goals as goal
 
+pub choice-requires-clause-total : goal.choice-requires-clause-total
+choice-requires-clause-total c =
+    let n = rw c.deref.ensures.value at c.choice_count-total.ensures in
+    let r = c.requires.room.room in
+    omega (arith, n, r)
+
+pub push-requires : goal.push-requires
+push-requires c =
+    let n = rw c.deref.ensures.value at c.choice_count-total.ensures in
+    let counts = c.args.numbering.now.counts.items in
+    choices_room counts c.args.parts.now c.args.event.n c.args.first c.loop-place.place c.args.plan.now.items
+    c.loop-place.plan.items c.requires.room (omega (arith, n, c.loop-place-test.true)) c.loop-place.invariant
+
 pub loop-place-preserved : goal.loop-place-preserved
-loop-place-preserved c = λ counts num few low.
-    let n = (rw c.deref.ensures.value at c.in_ok-total.ensures) counts num.are_known in
-    let t : c.in_ok-total.total ≡ choice_count counts (map event_part_of c.args.parts.now) = omega (arith, n, few) in
-    adds_choice c.args.event.n c.args.first c.loop-place.place _ _ _ _ _ low
-    (c.in_ok-chosen.ensures counts num t c.loop-place-test.true) (c.loop-place.invariant counts num few low)
-    c.in_ok-push.ensures
+loop-place-preserved c = adds_choice c.args.event.n c.args.first c.loop-place.place _ _ _ _ _ c.requires.room.low
+    c.in_ok-chosen.ensures c.loop-place.invariant c.in_ok-push.ensures
 
 pub returns : goal.returns
-returns c = λ counts num few low.
-    let n = (rw c.deref.ensures.value at c.in_ok-total.ensures) counts num.are_known in
+returns c =
+    let counts = c.args.numbering.now.counts.items in
+    let n = rw c.deref.ensures.value at c.choice_count-total.ensures in
     let l = choices_length counts (map event_part_of c.args.parts.now) in
+    let r = c.requires.room.room in
     let e = take_all c.loop-place.place (choices_by counts (map event_part_of c.args.parts.now))
-    (omega (arith, n, l, few, c.loop-place-test.false)) in
+    (omega (arith, n, l, r, c.loop-place-test.false)) in
     subst (λ (cs : List (List (Bool × ℕ))). Adds c.args.event.n c.args.first (map Joins cs) c.args.plan.now.items
-    c.loop-place.plan.items) e (c.loop-place.invariant counts num few low)
+    c.loop-place.plan.items) e c.loop-place.invariant

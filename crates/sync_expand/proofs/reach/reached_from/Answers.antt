@@ -1,0 +1,43 @@
+use Rattle.std.proofs.Common.{◌≡◌, ◌<◌, ◌+◌, ◌-◌, ℕ, Bool, true, false, [], length, get_or, refl, sym, ap, arith, rules}
+use Rattle.ar_base.proofs.Standing.{stands_within, stands_get, one_right, one_first}
+use Rattle.sync_expand.proofs.Walking.{walk_start, walk_next, walk_end, part_within, event_ahead, walk_spent}
+use Rattle.sync_expand.proofs.reach.reached_from.Goals as goal
+
+pub loop-event-init : goal.loop-event-init
+loop-event-init c =
+    walk_start c.args.events.now c.requires.expandable c.args.from.n c.args.from _ _ refl c.in_ok-no_marks.ensures.long
+    (λ n s. let e : true ≡ false = c.in_ok-no_marks.ensures.none n true s in absurd (cc e)) (search rules)
+    c.in_ok-meet.ensures
+
+pub bounds-events-event : goal.bounds-events-event
+bounds-events-event c =
+    event_ahead c.args.events.now c.requires.expandable c.args.from.n c.in-Some.event c.loop-event.walk c.pop.new.self.items
+    c.in-Some.ensures.items c.loop-event.invariant
+
+pub meet_parts-requires : goal.meet_parts-requires
+meet_parts-requires c = λ x h.
+    let l = event_ahead c.args.events.now c.requires.expandable c.args.from.n c.in-Some.event c.loop-event.walk c.pop.new.self.items
+    c.in-Some.ensures.items c.loop-event.invariant in
+    let d = get_or c.args.events.now c.in-Some.event.n c.index-events-event.result in
+    let s = stands_get c.args.events.now c.in-Some.event.n c.index-events-event.result l in
+    let w = part_within c.args.events.now c.requires.expandable c.args.from.n c.in-Some.event d x s (rw c.deref.ensures.value at h) in
+    let n = c.loop-event.invariant.long in
+    omega (arith, w, n)
+
+pub loop-event-preserved : goal.loop-event-preserved
+loop-event-preserved c =
+    let l = event_ahead c.args.events.now c.requires.expandable c.args.from.n c.in-Some.event c.loop-event.walk c.pop.new.self.items
+    c.in-Some.ensures.items c.loop-event.invariant in
+    let d = get_or c.args.events.now c.in-Some.event.n c.index-events-event.result in
+    let s = stands_get c.args.events.now c.in-Some.event.n c.index-events-event.result l in
+    walk_next c.args.events.now c.requires.expandable c.args.from.n c.in-Some.event d
+    c.loop-event.walk _ _ s refl c.in-Some.ensures.items (rw c.deref.ensures.value at c.in_ok-meet_parts.ensures)
+    c.loop-event.invariant
+
+pub loop-event-smaller : goal.loop-event-smaller
+loop-event-smaller c = walk_spent _ c.loop-event.walk _ _ c.in-Some.event refl c.in-Some.ensures.items
+    c.in_ok-meet_parts.ensures
+
+pub returns : goal.returns
+returns c = walk_end c.args.events.now c.requires.expandable c.args.from.n c.loop-event.walk (search rules)
+    c.loop-event.invariant

@@ -269,6 +269,8 @@ if [ "$(head -c 4 "$ALTARICA" | tail -c 3)" = ELF ] && [ -d "/proc/$$" ]; then
   : >"$lab/calls"
   run --unproved --why check plant.alt
   point "--unproved --why runs tools/why" both '[ $status -eq 0 ]' 'grep -q "check plant.alt$" "$lab/out"' 'calls 0'
+  run --why check plant.alt
+  point "--why where no proved program is built takes the unproved one" both '[ $status -eq 0 ]' 'said "takes the program without its proofs"' 'calls 0'
   echo more >"$copy/crates/low/src/text"
   run --unproved check plant.alt
   point "--unproved: another source is compiled" both '[ $status -eq 0 ]' 'wrote "$answer"' 'calls 1'

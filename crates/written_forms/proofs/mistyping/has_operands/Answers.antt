@@ -1,5 +1,4 @@
 use Rattle.std.proofs.Common.{refl, arith}
-use Rattle.ar_syntax.specs.declared.expressions.RawForm.TheOpen as raw
 use Rattle.ar_syntax.proofs.Opened as opened
 use Rattle.written_forms.proofs.SomeOperands.{none_needed, some_needed}
 use Rattle.written_forms.proofs.mistyping.has_operands.Goals as goal

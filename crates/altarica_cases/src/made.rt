@@ -183,3 +183,44 @@ pub(crate) fn counting_flows(
         "domain N [0, 60] block B {flows} (reset = 0); observer Boolean o = s1;{states} assertion{assertions} end"
     )
 }
+
+// So many names that begin with this letter.
+fn row(rt: &HostRuntime, letter: &str, count: u32) -> Result<Vec<String>, AllocError> {
+    let mut names = Vec::new(rt.alloc());
+    for place in 0..count {
+        let number = place.saturating_add(100);
+        names.push(format!(in rt.alloc(); "{letter}{number}")?)?;
+    }
+    Ok(names)
+}
+
+// That one of a row has failed.
+fn one_failed(rt: &HostRuntime, row: &[String]) -> Result<String, AllocError> {
+    let mut text = String::from_str(rt.alloc(), "(false")?;
+    for name in row {
+        let next = format!(in rt.alloc(); " or not {name}.works")?;
+        text.push_str(&next)?;
+    }
+    text.push_str(")")?;
+    Ok(text)
+}
+
+/// A main block with two rows of so many instances, whose observer is that one of each row has failed.
+pub(crate) fn two_rows(rt: &HostRuntime, count: u32) -> Result<String, AllocError> {
+    let mut text = String::from_str(
+        rt.alloc(),
+        "class C Boolean works (init = true); event fail; transition fail: works -> works := false; end block B",
+    )?;
+    let rows = [row(rt, "a", count)?, row(rt, "b", count)?];
+    for row in &rows {
+        for name in row {
+            let next = format!(in rt.alloc(); " C {name};")?;
+            text.push_str(&next)?;
+        }
+    }
+    let first = one_failed(rt, &rows[0])?;
+    let second = one_failed(rt, &rows[1])?;
+    let observer = format!(in rt.alloc(); " observer Boolean lost = {first} and {second}; end")?;
+    text.push_str(&observer)?;
+    Ok(text)
+}

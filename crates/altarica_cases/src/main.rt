@@ -5,7 +5,8 @@
 //! bytes. For each case its name, the status, how many faults the shelf and the sink counted, and the bytes that
 //! were written are printed; behind a listing of cuts also how many of its orders, fired as a script, end with the
 //! wanted value, and what is said of it where it is given back to be checked. Then the limits are run, each at its
-//! number and one past it, over texts that are made here, and last the plants of the examples.
+//! number and one past it, over texts that are made here, then a long listing over sinks that fail, and last the
+//! plants of the examples.
 #![tactic(auto)]
 
 mod checked;
@@ -13,6 +14,7 @@ mod limits;
 mod made;
 mod orders;
 mod plants;
+mod sinks;
 
 use altarica_run::altarica;
 use ar_base::Memory;
@@ -21,6 +23,7 @@ use checked::run_checks;
 use limits::run_limits;
 use orders::run_orders;
 use plants::run_plants;
+use sinks::run_sinks;
 use std::io::Write;
 use std::str::from_utf8;
 use std::{fs, io};
@@ -96,7 +99,7 @@ pub(crate) fn run_job(rt: &HostRuntime, name: &str, texts: [&str; 2], job: &str)
 }
 
 // The words of a line.
-fn words_of(rt: &HostRuntime, line: &str) -> io::Result<Vec<String>> {
+pub(crate) fn words_of(rt: &HostRuntime, line: &str) -> io::Result<Vec<String>> {
     let mut words = Vec::new(rt.alloc());
     for word in line.split(' ') {
         words.push(String::from_str(rt.alloc(), word)?)?;
@@ -143,5 +146,6 @@ fn main(rt: HostRuntime) -> io::Result<()> {
         run_line(&rt, line)?;
     }
     run_limits(&rt)?;
+    run_sinks(&rt)?;
     run_plants(&rt)
 }

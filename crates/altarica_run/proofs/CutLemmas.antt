@@ -76,6 +76,8 @@ use Rattle.job_inputs.specs.Chains.{cut_of}
 use Rattle.job_inputs.specs.CutLists.{CutLine}
 use Rattle.cut_text.specs.declared.faults.PrintFault.{PrintFault}
 use Rattle.cut_text.specs.declared.faults.PrintFault.TheVariants as print
+use Rattle.run_words.specs.Commands.{shape_of}
+use Rattle.run_words.proofs.Reaches.{cuts_to_forest, cuts_to_table}
 use Rattle.run_words.specs.declared.jobs.Job.{Job}
 use Rattle.run_words.specs.declared.verbs.Verb.{Verb}
 use Rattle.run_words.specs.declared.verbs.Verb.TheVariants.{Check, Flat, Replay, Fragment, Equations, Cuts, Make, Explain, CheckCuts, Modules}
@@ -141,28 +143,10 @@ few_counted sections room s n limit sound is few more =
 
 -- a command that lists cuts, or tells of them, asks for a static system and is about the gate table
 lists_static : (v : Verb) → lists_cuts v ≡ true → asks_static v ≡ true
-lists_static Check e = e
-lists_static Flat e = e
-lists_static Replay e = e
-lists_static Fragment e = refl
-lists_static Equations e = refl
-lists_static Cuts e = refl
-lists_static Make e = refl
-lists_static Explain e = e
-lists_static CheckCuts e = refl
-lists_static Modules e = refl
+lists_static v e = cuts_to_forest (shape_of v).reach e
 
 lists_table : (v : Verb) → lists_cuts v ≡ true → has_table v ≡ true
-lists_table Check e = e
-lists_table Flat e = e
-lists_table Replay e = e
-lists_table Fragment e = e
-lists_table Equations e = refl
-lists_table Cuts e = refl
-lists_table Make e = refl
-lists_table Explain e = e
-lists_table CheckCuts e = refl
-lists_table Modules e = refl
+lists_table v e = cuts_to_table (shape_of v).reach e
 
 -- these commands list cuts, or tell of them
 pub one_lists : (v : Verb) → (v ≡ Cuts) ⊎ ((v ≡ Make) ⊎ ((v ≡ CheckCuts) ⊎ (v ≡ Modules))) → lists_cuts v ≡ true

@@ -7,6 +7,7 @@ use Rattle.ar_io.specs.Writing.{SinkState, WroteFront}
 use Rattle.ar_io.proofs.Writing.{front_nothing}
 use Rattle.job_inputs.specs.Scripts.{Why, IsNoCommand, LacksWay, NamesNoEvent}
 use Rattle.replayer.specs.declared.replaying.End.TheVariants as end
+use Rattle.run_words.specs.Commands.{shape_of, is_script, is_list}
 use Rattle.run_words.specs.declared.jobs.Job.{Job}
 use Rattle.run_words.specs.Jobs.{IsJob}
 use Rattle.altarica_run.specs.Elaborates.{Elaborates, no_tokens, no_reading, too_deep, breaks, exceeds}
@@ -16,7 +17,7 @@ use Rattle.altarica_run.specs.Jobs.{IsNoJob}
 use Rattle.altarica_run.specs.Refusals.{line_of, status_of}
 use Rattle.altarica_run.specs.Says.{Says, usage, refuses, tells, EndsSo}
 use Rattle.altarica_run.specs.Says as says
-use Rattle.altarica_run.specs.Stages.{Ready, bare, Passes, not_loaded, loaded, line_refused, cut_refused, Scripted, has_script, ListsCuts, has_list, Drops, Wanting, Showing, explains, Static, is_static, Tabled, has_table, observer_asked}
+use Rattle.altarica_run.specs.Stages.{Ready, bare, Passes, not_loaded, loaded, line_refused, cut_refused, Scripted, ListsCuts, Drops, Wanting, Showing, Static, is_static, Tabled, has_table, observer_asked}
 use Rattle.altarica_run.specs.Stages as stages
 use Rattle.altarica_run.specs.Statuses.{IsTold, IsRefused, Meaning_of}
 use Rattle.altarica_run.specs.Tells.{Tells, check, flat, replay, fragment, equations, cuts, make, unsettled, checks, in_short, conflict, nodes}
@@ -103,9 +104,9 @@ pub of_stages : (files : List ℕ → Told) (job : Job) (r : Refusal) → Passes
 of_stages files job r (not_loaded h) = of_files files (files_of job) r h
 of_stages files job r (loaded texts l t (then.refuses h)) = of_text job.main _ r h
 of_stages files job r (loaded texts l t (then.passes x p (then.refuses (then.refuses h)))) =
-    of_script (has_script job.command) texts (bare x) r h
+    of_script (is_script (shape_of job.command).files) texts (bare x) r h
 of_stages files job r (loaded texts l t (then.passes x p (then.refuses (then.passes w q (then.refuses h))))) =
-    of_cuts (has_list job.command) texts w r h
+    of_cuts (is_list (shape_of job.command).files) texts w r h
 of_stages files job r (loaded texts l t
     (then.passes x p (then.refuses (then.passes w q (then.passes v k (then.refuses h)))))) =
     of_list job.dropped v r h
@@ -114,7 +115,7 @@ of_stages files job r (loaded texts l t
     of_observer (has_table job.command) (observer_asked job) job.value u r h
 of_stages files job r (loaded texts l t
     (then.passes x p (then.refuses (then.passes w q (then.passes v k (then.passes u m (then.passes y n h))))))) =
-    of_shown (explains job.command) job.observer y r h
+    of_shown (shape_of job.command).explains job.observer y r h
 of_stages files job r (loaded texts l t (then.passes x p (then.passes w q (then.refuses h)))) =
     of_fragment (is_static job.command) w r h
 of_stages files job r (loaded texts l t (then.passes x p (then.passes w q (then.passes v k h)))) =

@@ -26,7 +26,8 @@ use Rattle.mode_trees.specs.declared.forests.Forest.{Forest}
 use Rattle.mode_trees.specs.declared.forests.ModeTree.{ModeTree}
 use Rattle.run_words.specs.declared.jobs.Job.{Job}
 use Rattle.run_words.specs.declared.verbs.Verb.{Verb}
-use Rattle.run_words.specs.declared.verbs.Verb.TheVariants.{Check, Flat, Replay, Fragment, Equations, Cuts, Make, Explain, CheckCuts, Modules}
+use Rattle.run_words.specs.Commands.{shape_of}
+use Rattle.run_words.proofs.Reaches.{table_to_forest}
 use Rattle.static_fragment.specs.Recognised.{IsRecognised, IsOutside, spot_of}
 use Rattle.static_fragment.specs.declared.faults.Spot as there
 use Rattle.altarica_run.specs.Passing.{stop_told, IsStageOf, AreDropped, CanBeWritten, IsForestOf, HasForest, HasTable, HasRanges, IsRequested, IsReady}
@@ -128,31 +129,19 @@ none_given v e w p f i = (
 )
 
 -- a command that is about the gate table asks for a forest
-table_static : (v : Verb) → has_table v ≡ true → is_static v ≡ true
-table_static Check e = e
-table_static Flat e = e
-table_static Replay e = e
-table_static Fragment e = refl
-table_static Equations e = refl
-table_static Cuts e = refl
-table_static Make e = refl
-table_static Explain e = e
-table_static CheckCuts e = refl
-table_static Modules e = refl
-
 pub table_trees : (v : Verb) (p : GtsParts) (w : Ready) (f : Forest) → HasForest v p w.dropped f → has_table v ≡ true
     → IsForestOf p w.dropped f
-table_trees v p w f h e = h.own (table_static v e)
+table_trees v p w f h e = h.own (table_to_forest (shape_of v).reach e)
 
 -- no units, where the command does not speak of units
-pub no_ranges : (v : Verb) (x : Elaborated) (ranges : List Range) → ranges ≡ [] → (v ≡ Modules → ⊥)
+pub no_ranges : (v : Verb) (x : Elaborated) (ranges : List Range) → ranges ≡ [] → (shape_of v).units ≡ false
     → HasRanges v x ranges
 no_ranges v x ranges e other = record {
   are = record {
     ascend = λ j k a b h s t. absurd (stands_none j a (subst (λ (z : List Range). Stands z j a) e s));
     nested = λ j k a b h s t m n. absurd (stands_none j a (subst (λ (z : List Range). Stands z j a) e s));
   };
-  own = λ i. absurd (other i);
+  own = λ i. let k : true ≡ false = sym i ∙ other in absurd cc;
 }
 
 -- What the command demands of the system, once the words and the script have asked

@@ -1,12 +1,14 @@
 -- Words that give a job, and words that give none.
 use Rattle.std.proofs.Common.{◌≡◌, ◌≤◌, ℕ, true, false, List, Option, Some, None, Result, Err, refl, sym, ◌∙◌, ap, subst, arith}
-use Rattle.run_words.specs.Jobs.{IsJob, IsJobOf, IsNodes, NamesFiles, form_of_verb}
+use Rattle.run_words.specs.Commands.{shape_of, is_made}
+use Rattle.run_words.specs.Jobs.{IsJob, IsJobOf, IsNodes, NamesFiles, nodes_by_default}
 use Rattle.run_words.specs.Lines.{CommandWords}
 use Rattle.run_words.specs.declared.jobs.Job.{Job}
 use Rattle.run_words.specs.declared.jobs.JobFault.{JobFault}
 use Rattle.run_words.specs.declared.jobs.JobFault.TheVariants as words
-use Rattle.run_words.specs.declared.verbs.Verb.{Verb}
-use Rattle.run_words.specs.declared.verbs.Verb.TheVariants.{Check, Flat, Replay, Fragment, Equations, Cuts, Make, Explain, CheckCuts, Modules}
+use Rattle.run_words.specs.declared.shapes.Form.{Form}
+use Rattle.run_words.specs.declared.shapes.Form.TheVariants as form
+use Rattle.run_words.specs.declared.shapes.Shape.{Shape}
 use Rattle.altarica_run.specs.Jobs.{makes_model, AnswersJob}
 use Rattle.altarica_run.specs.Passing.{stop_of_words}
 use Rattle.altarica_run.specs.declared.stops.Stop.{Stop}
@@ -23,34 +25,25 @@ job_stops ws r d e i j h = subst (AnswersJob ws) (sym (i ∙ ap Err j)) (go e h)
     go words.Memory h = tt
 
 -- the limit of nodes of a job
-few_given : (v : Verb) (given : Option (List ℕ)) (n : ℕ) → IsNodes v given n → n ≤ 16777216
-few_given Check None n e = omega (arith, e)
-few_given Flat None n e = omega (arith, e)
-few_given Replay None n e = omega (arith, e)
-few_given Fragment None n e = omega (arith, e)
-few_given Equations None n e = omega (arith, e)
-few_given Cuts None n e = omega (arith, e)
-few_given Make None n e = omega (arith, e)
-few_given Explain None n e = omega (arith, e)
-few_given CheckCuts None n e = omega (arith, e)
-few_given Modules None n e = omega (arith, e)
-few_given v (Some text) n h = h.1.at_most
+few_usual : (f : Form) → nodes_by_default f ≤ 16777216
+few_usual form.Model = omega arith
+few_usual form.ModelAndScript = omega arith
+few_usual form.ModelAndList = omega arith
+few_usual form.Number = omega arith
+
+few_given : (s : Shape) (given : Option (List ℕ)) (n : ℕ) → IsNodes s given n → n ≤ 16777216
+few_given s None n e = let few = few_usual s.files in omega (arith, e, few)
+few_given s (Some text) n h = h.1.at_most
 
 pub few_nodes : (ws : List (List ℕ)) (job : Job) → IsJob ws job → job.nodes ≤ 16777216
-few_nodes ws job b = few_given job.command _ job.nodes b.job_of.nodes
+few_nodes ws job b = few_given (shape_of job.command) _ job.nodes b.job_of.nodes
 
--- a command that makes its model
-pub makes : (v : Verb) → makes_model v ≡ true → v ≡ Make
-makes Check e = let k : false ≡ true = e in absurd cc
-makes Flat e = let k : false ≡ true = e in absurd cc
-makes Replay e = let k : false ≡ true = e in absurd cc
-makes Fragment e = let k : false ≡ true = e in absurd cc
-makes Equations e = let k : false ≡ true = e in absurd cc
-makes Cuts e = let k : false ≡ true = e in absurd cc
-makes Make e = refl
-makes Explain e = let k : false ≡ true = e in absurd cc
-makes CheckCuts e = let k : false ≡ true = e in absurd cc
-makes Modules e = let k : false ≡ true = e in absurd cc
+-- a command that makes its model has a number behind it
+number_behind : (f : Form) → is_made f ≡ true → f ≡ form.Number
+number_behind form.Model e = let k : false ≡ true = e in absurd cc
+number_behind form.ModelAndScript e = let k : false ≡ true = e in absurd cc
+number_behind form.ModelAndList e = let k : false ≡ true = e in absurd cc
+number_behind form.Number e = refl
 
 -- the words of such a command have a number from 1 to 200 and no script
 pub record IsMade (job : Job) : Type 0 where
@@ -60,9 +53,8 @@ pub record IsMade (job : Job) : Type 0 where
 
 made_line : (line : CommandWords) (job : Job) → IsJobOf line job → makes_model job.command ≡ true → IsMade job
 made_line line job of e =
-    let f =
-    subst (λ (v : Verb). NamesFiles (form_of_verb v) line.files job.model job.script job.number) (makes job.command e)
-    of.files in
+    let f = subst (λ (z : Form). NamesFiles z line.files job.model job.script job.number)
+    (number_behind (shape_of job.command).files e) of.files in
     record { at_least = f.0.2.at_least; at_most = f.0.2.at_most; script = f.2 }
 
 pub made_job : (ws : List (List ℕ)) (job : Job) → IsJob ws job → makes_model job.command ≡ true → IsMade job

@@ -6,6 +6,7 @@ pub mod PassLemmas
 pub mod ForestLemmas
 pub mod TableLemmas
 pub mod TellLemmas
+pub mod GatherLemmas
 pub mod CutLemmas
 pub mod EndLemmas
 pub mod FollowLemmas

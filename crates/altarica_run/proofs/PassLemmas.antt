@@ -26,9 +26,12 @@ use Rattle.job_inputs.specs.declared.commands.Command.{Command}
 use Rattle.job_inputs.specs.declared.commands.Command.TheVariants.{Fire}
 use Rattle.job_inputs.specs.declared.commands.ScriptFault.{ScriptFault}
 use Rattle.job_inputs.specs.declared.commands.ScriptFault.TheVariants as script
-use Rattle.run_words.specs.Jobs.{IsJob, NamesFiles, form_of_verb, IsJobOf, OptionsFit}
+use Rattle.run_words.specs.Commands.{shape_of, is_script, is_list, is_second, is_made}
+use Rattle.run_words.specs.Jobs.{IsJob, NamesFiles, IsJobOf, OptionsFit}
 use Rattle.run_words.specs.Lines.{CommandWords}
 use Rattle.run_words.specs.declared.jobs.Job.{Job}
+use Rattle.run_words.specs.declared.shapes.Form.{Form}
+use Rattle.run_words.specs.declared.shapes.Form.TheVariants as form
 use Rattle.run_words.specs.declared.verbs.Verb.{Verb}
 use Rattle.run_words.specs.declared.verbs.Verb.TheVariants.{Check, Flat, Replay, Fragment, Equations, Cuts, Make, Explain, CheckCuts, Modules}
 use Rattle.altarica_run.specs.Files.{files_of}
@@ -41,8 +44,8 @@ use Rattle.job_inputs.specs.declared.wanting.Wanted.{Wanted}
 use Rattle.job_inputs.specs.declared.wanting.WantedFault.{WantedFault}
 use Rattle.job_inputs.specs.declared.wanting.WantedFault.TheVariants as wanted
 use Rattle.altarica_run.specs.Passing as passing
-use Rattle.altarica_run.specs.Passing.{stop_of_wanted, stop_of_script, stop_of_cuts, stop_of_list, stop_told, IsStageOf, AreCommands, ReadsScript, no_script, gives, bad, AreLines, ReadsCuts, no_cuts, lists, bad_line, too_many, IsSecond, IsThere, has_second, where_asked, ReadsList, no_list, names, names_none, AreDropped, ReadsWanted, AreWanted, ReadsShown, no_path, shows, shows_none, IsShown, IsRequested, IsReady, RefusesWords, no_job, stage, not_read, AnswersWords}
-use Rattle.altarica_run.specs.Stages.{Ready, bare, has_script, has_list, has_table, explains, path_asked, observer_asked, Scripted, ListsCuts, Drops, Wanting, Showing, AsksByWords, Asks, Readies, Stages, not_loaded, loaded}
+use Rattle.altarica_run.specs.Passing.{stop_of_wanted, stop_of_script, stop_of_cuts, stop_of_list, stop_told, IsStageOf, AreCommands, ReadsScript, no_script, gives, bad, AreLines, ReadsCuts, no_cuts, lists, bad_line, too_many, IsSecond, IsThere, where_asked, ReadsList, no_list, names, names_none, AreDropped, ReadsWanted, AreWanted, ReadsShown, no_path, shows, shows_none, IsShown, IsRequested, IsReady, RefusesWords, no_job, stage, not_read, AnswersWords}
+use Rattle.altarica_run.specs.Stages.{Ready, bare, has_table, path_asked, observer_asked, Scripted, ListsCuts, Drops, Wanting, Showing, AsksByWords, Asks, Readies, Stages, not_loaded, loaded}
 use Rattle.altarica_run.specs.Stages as stages
 use Rattle.altarica_run.specs.declared.loading.Texts.{Texts}
 use Rattle.altarica_run.specs.declared.refusals.Refusal.{Refusal}
@@ -98,57 +101,33 @@ abbrev with_wanted : Elaborated → List runs.Command → List CutLine → List 
 with_wanted x cs cuts events wanted = asked_so_far x cs cuts events wanted None
 
 -- where a second file is read, the script is there, and so is the list
-script_second : (v : Verb) (texts : List (List ℕ)) (s : Option (Vec ℕ Global)) → IsSecond (has_second v) texts s
-    → IsSecond (has_script v) texts (where_asked (has_script v) s)
-script_second Check texts s h = tt
-script_second Flat texts s h = tt
-script_second Replay texts s h = h
-script_second Fragment texts s h = tt
-script_second Equations texts s h = tt
-script_second Cuts texts s h = tt
-script_second Make texts s h = tt
-script_second Explain texts s h = h
-script_second CheckCuts texts s h = tt
-script_second Modules texts s h = tt
+script_second : (f : Form) (texts : List (List ℕ)) (s : Option (Vec ℕ Global)) → IsSecond (is_second f) texts s
+    → IsSecond (is_script f) texts (where_asked (is_script f) s)
+script_second form.Model texts s h = tt
+script_second form.ModelAndScript texts s h = h
+script_second form.ModelAndList texts s h = tt
+script_second form.Number texts s h = tt
 
-script_given_there : (v : Verb) (s : Option (Vec ℕ Global)) → IsThere (has_second v) s
-    → IsThere (has_script v) (where_asked (has_script v) s)
-script_given_there Check s h = refl
-script_given_there Flat s h = refl
-script_given_there Replay s h = h
-script_given_there Fragment s h = refl
-script_given_there Equations s h = refl
-script_given_there Cuts s h = refl
-script_given_there Make s h = refl
-script_given_there Explain s h = h
-script_given_there CheckCuts s h = refl
-script_given_there Modules s h = refl
+script_given_there : (f : Form) (s : Option (Vec ℕ Global)) → IsThere (is_second f) s
+    → IsThere (is_script f) (where_asked (is_script f) s)
+script_given_there form.Model s h = refl
+script_given_there form.ModelAndScript s h = h
+script_given_there form.ModelAndList s h = refl
+script_given_there form.Number s h = refl
 
-list_second : (v : Verb) (texts : List (List ℕ)) (s : Option (Vec ℕ Global)) → IsSecond (has_second v) texts s
-    → IsSecond (has_list v) texts (where_asked (has_list v) s)
-list_second Check texts s h = tt
-list_second Flat texts s h = tt
-list_second Replay texts s h = tt
-list_second Fragment texts s h = tt
-list_second Equations texts s h = tt
-list_second Cuts texts s h = tt
-list_second Make texts s h = tt
-list_second Explain texts s h = tt
-list_second CheckCuts texts s h = h
-list_second Modules texts s h = tt
+list_second : (f : Form) (texts : List (List ℕ)) (s : Option (Vec ℕ Global)) → IsSecond (is_second f) texts s
+    → IsSecond (is_list f) texts (where_asked (is_list f) s)
+list_second form.Model texts s h = tt
+list_second form.ModelAndScript texts s h = tt
+list_second form.ModelAndList texts s h = h
+list_second form.Number texts s h = tt
 
-list_given_there : (v : Verb) (s : Option (Vec ℕ Global)) → IsThere (has_second v) s
-    → IsThere (has_list v) (where_asked (has_list v) s)
-list_given_there Check s h = refl
-list_given_there Flat s h = refl
-list_given_there Replay s h = refl
-list_given_there Fragment s h = refl
-list_given_there Equations s h = refl
-list_given_there Cuts s h = refl
-list_given_there Make s h = refl
-list_given_there Explain s h = refl
-list_given_there CheckCuts s h = h
-list_given_there Modules s h = refl
+list_given_there : (f : Form) (s : Option (Vec ℕ Global)) → IsThere (is_second f) s
+    → IsThere (is_list f) (where_asked (is_list f) s)
+list_given_there form.Model s h = refl
+list_given_there form.ModelAndScript s h = refl
+list_given_there form.ModelAndList s h = h
+list_given_there form.Number s h = refl
 
 -- the commands of the script are what the command asks, where there is a script exactly where it asks for one
 asks_bad : (b : Bool) (texts : List (List ℕ)) (s : Option (Vec ℕ Global)) (x : Elaborated) (r : Refusal)
@@ -196,17 +175,15 @@ drops_good list x cs cuts events (no_list i) = stages.no_list i
 drops_good list x cs cuts events (names i h) = stages.names i h
 
 -- the observer and the value are what the command asks, where there is an observer exactly where it asks for one
-wants_bad : (b : Bool) (observer word : Option (List ℕ)) (w : Ready) (r : Refusal) → IsThere b observer
-    → ReadsWanted observer word w.source (Err r) → Where b (Wanting observer word) w (Err r)
-wants_bad true observer word w r there (passing.no_observer i h) = stages.no_observer i h
-wants_bad true observer word w r there (passing.no_value i h) = stages.no_value i h
-wants_bad false observer word w r there (passing.no_observer {path = path} i h) =
-    let k : None ≡ Some path = sym there ∙ i in cc
-wants_bad false observer word w r there (passing.no_value {path = path} i h) =
-    let k : None ≡ Some path = sym there ∙ i in cc
+wants_bad : (b : Bool) (observer word : Option (List ℕ)) (w : Ready) (r : Refusal)
+    → ReadsWanted (where_asked b observer) word w.source (Err r) → Where b (Wanting observer word) w (Err r)
+wants_bad true observer word w r (passing.no_observer i h) = stages.no_observer i h
+wants_bad true observer word w r (passing.no_value i h) = stages.no_value i h
+wants_bad false observer word w r (passing.no_observer {path = path} i h) = let k : None ≡ Some path = i in cc
+wants_bad false observer word w r (passing.no_value {path = path} i h) = let k : None ≡ Some path = i in cc
 
 wants_good : (b : Bool) (observer word : Option (List ℕ)) (w : Ready) (given : Option Wanted) → w.wanted ≡ None
-    → IsThere b observer → ReadsWanted observer word w.source (Ok given)
+    → IsThere b (where_asked b observer) → ReadsWanted (where_asked b observer) word w.source (Ok given)
     → Where b (Wanting observer word) w (Ok (record w { wanted = given })) × IsThere b given
 wants_good true observer word w given e there (passing.not_asked i) =
     let k : None ≡ Some there.0 = sym i ∙ there.1 in cc
@@ -214,7 +191,7 @@ wants_good true observer word w given e there (passing.wants {w = v} i h) = (sta
 wants_good false observer word w given e there (passing.not_asked i) =
     (subst (λ (z : Option Wanted). (let r : Result Ready Refusal = Ok (record w { wanted = z }) in r ≡ Ok w)) e refl, refl)
 wants_good false observer word w given e there (passing.wants {path = path} i h) =
-    let k : None ≡ Some path = sym there ∙ i in cc
+    let k : None ≡ Some path = i in cc
 
 -- the observer is the one to explain, where one is asked for
 shows_bad : (b : Bool) (path : Option (List ℕ)) (w : Ready) (r : Refusal)
@@ -234,8 +211,18 @@ shows_good false path w given e (shows {text = text} i h) = let k : None ≡ Som
 
 -- what the words, the script, the list and the command ask for
 module _ (job : Job) (texts : List (List ℕ)) (x : Elaborated) (p : GtsParts) (s : Option (Vec ℕ Global))
-    (second : IsSecond (has_second job.command) texts s) (there : IsThere (has_second job.command) s)
-    (seen : IsThere (has_table job.command) (observer_asked job)) where
+    (second : IsSecond (is_second (shape_of job.command).files) texts s)
+    (there : IsThere (is_second (shape_of job.command).files) s)
+    (seen : IsThere (has_table job.command) (where_asked (has_table job.command) (observer_asked job))) where
+  abbrev files : Form
+  files = (shape_of job.command).files
+
+  abbrev the_observer : Option (List ℕ)
+  the_observer = where_asked (has_table job.command) (observer_asked job)
+
+  abbrev explains : Bool
+  explains = (shape_of job.command).explains
+
   abbrev asks : Result Ready Refusal → Type 0
   asks = Asks job texts x
 
@@ -243,10 +230,10 @@ module _ (job : Job) (texts : List (List ℕ)) (x : Elaborated) (p : GtsParts) (
   stands = IsRequested job.command x p
 
   abbrev the_script : Option (Vec ℕ Global)
-  the_script = where_asked (has_script job.command) s
+  the_script = where_asked (is_script files) s
 
   abbrev the_list : Option (Vec ℕ Global)
-  the_list = where_asked (has_list job.command) s
+  the_list = where_asked (is_list files) s
 
   -- a refusal at a stage, or want of memory
   refused_at : {A : Type 0} (Q : Result A Refusal → Type 0) → ((e : Refusal) → Q (Err e) → asks (Err e))
@@ -261,22 +248,22 @@ module _ (job : Job) (texts : List (List ℕ)) (x : Elaborated) (p : GtsParts) (
   pub script_refused : (r : Result Request Stop) (d e : Stop) → r ≡ Err d → d ≡ e
       → IsRefusal (ReadsScript the_script x) (stop_told e) → IsStageOf stands asks r
   script_refused = refused_at (ReadsScript the_script x) (λ f h.
-      then.refuses (asks_bad (has_script job.command) texts the_script x f (script_second job.command texts s second)
-      (script_given_there job.command s there) h))
+      then.refuses (asks_bad (is_script files) texts the_script x f (script_second files texts s second)
+      (script_given_there files s there) h))
 
   module _ (cs : List runs.Command) (given : ReadsScript the_script x (Ok cs)) where
-    script_passed : Where (has_script job.command) (Scripted texts) (bare x) (Ok (with_commands x cs))
+    script_passed : Where (is_script files) (Scripted texts) (bare x) (Ok (with_commands x cs))
     script_passed =
-        asks_good (has_script job.command) texts the_script x cs (script_second job.command texts s second)
-        (script_given_there job.command s there) given
+        asks_good (is_script files) texts the_script x cs (script_second files texts s second)
+        (script_given_there files s there) given
 
     pub lines_refused : (r : Result Request Stop) (d e : Stop) → r ≡ Err d → d ≡ e
         → IsRefusal (ReadsCuts the_list x) (stop_told e) → IsStageOf stands asks r
     lines_refused = refused_at (ReadsCuts the_list x) (λ f h.
         then.passes (with_commands x cs) script_passed
-        (then.refuses (lists_bad (has_list job.command) texts the_list (with_commands x cs) f
-        (list_second job.command texts s second)
-        (list_given_there job.command s there) h)))
+        (then.refuses (lists_bad (is_list files) texts the_list (with_commands x cs) f
+        (list_second files texts s second)
+        (list_given_there files s there) h)))
 
     module _ (cuts : List CutLine) (listed : ReadsCuts the_list x (Ok cuts)) where
       -- what the words ask for comes once the files are read
@@ -284,8 +271,8 @@ module _ (job : Job) (texts : List (List ℕ)) (x : Elaborated) (p : GtsParts) (
       behind answer h =
           then.passes (with_commands x cs) script_passed
           (then.passes (with_lines x cs cuts)
-          (lists_good (has_list job.command) texts the_list x cs cuts (list_second job.command texts s second)
-          (list_given_there job.command s there) listed) h)
+          (lists_good (is_list files) texts the_list x cs cuts (list_second files texts s second)
+          (list_given_there files s there) listed) h)
 
       pub dropped_refused : (r : Result Request Stop) (d e : Stop) → r ≡ Err d → d ≡ e
           → IsRefusal (ReadsList job.dropped x) (stop_told e) → IsStageOf stands asks r
@@ -297,12 +284,12 @@ module _ (job : Job) (texts : List (List ℕ)) (x : Elaborated) (p : GtsParts) (
         dropped = with_dropped x cs cuts events
 
         pub wanted_refused : (r : Result Request Stop) (d e : Stop) → r ≡ Err d → d ≡ e
-            → IsRefusal (ReadsWanted (observer_asked job) job.value x) (stop_told e) → IsStageOf stands asks r
-        wanted_refused = refused_at (ReadsWanted (observer_asked job) job.value x) (λ f h.
+            → IsRefusal (ReadsWanted the_observer job.value x) (stop_told e) → IsStageOf stands asks r
+        wanted_refused = refused_at (ReadsWanted the_observer job.value x) (λ f h.
             behind (Err f) (then.passes dropped (drops_good job.dropped x cs cuts events named)
-            (then.refuses (wants_bad (has_table job.command) (observer_asked job) job.value dropped f seen h))))
+            (then.refuses (wants_bad (has_table job.command) (observer_asked job) job.value dropped f h))))
 
-        module _ (wanted : Option Wanted) (wants : ReadsWanted (observer_asked job) job.value x (Ok wanted)) where
+        module _ (wanted : Option Wanted) (wants : ReadsWanted the_observer job.value x (Ok wanted)) where
           wants_passed : Where (has_table job.command) (Wanting (observer_asked job) job.value) dropped
               (Ok (with_wanted x cs cuts events wanted))
               × IsThere (has_table job.command) wanted
@@ -311,27 +298,27 @@ module _ (job : Job) (texts : List (List ℕ)) (x : Elaborated) (p : GtsParts) (
 
           -- the observer to explain comes last
           last : (answer : Result Ready Refusal)
-              → Where (explains job.command) (Showing job.observer) (with_wanted x cs cuts events wanted) answer
+              → Where explains (Showing job.observer) (with_wanted x cs cuts events wanted) answer
               → asks answer
           last answer h =
               behind answer (then.passes dropped (drops_good job.dropped x cs cuts events named)
               (then.passes (with_wanted x cs cuts events wanted) wants_passed.0 h))
 
           pub shown_refused : (r : Result Request Stop) (d e : Stop) → r ≡ Err d → d ≡ e
-              → IsRefusal (ReadsShown (where_asked (explains job.command) job.observer) x) (stop_told e)
+              → IsRefusal (ReadsShown (where_asked explains job.observer) x) (stop_told e)
               → IsStageOf stands asks r
-          shown_refused = refused_at (ReadsShown (where_asked (explains job.command) job.observer) x) (λ f h.
-              last (Err f) (shows_bad (explains job.command) job.observer (with_wanted x cs cuts events wanted) f h))
+          shown_refused = refused_at (ReadsShown (where_asked explains job.observer) x) (λ f h.
+              last (Err f) (shows_bad explains job.observer (with_wanted x cs cuts events wanted) f h))
 
           pub all_given : (request : Request) (shown : Option ℕ)
-              → ReadsShown (where_asked (explains job.command) job.observer) x (Ok shown)
+              → ReadsShown (where_asked explains job.observer) x (Ok shown)
               → AreCommands p cs request.commands → AreLines p cuts request.chains
               → AreDropped p events request.dropped.items
               → AreWanted p wanted request.wanted → IsShown p shown request.shown → IsStageOf stands asks (Ok request)
           all_given request shown h are_commands are_lines drops wants one = (
             asked_so_far x cs cuts events wanted shown,
             last (Ok (asked_so_far x cs cuts events wanted shown))
-                (shows_good (explains job.command) job.observer (with_wanted x cs cuts events wanted) shown refl h),
+                (shows_good explains job.observer (with_wanted x cs cuts events wanted) shown refl h),
             record {
               source = refl;
               commands = are_commands;
@@ -456,62 +443,54 @@ module _ (x : Elaborated) (p : GtsParts) (text : List ℕ) where
   list_given events h = (map (λ (e : EventId). e.n) events.items, names refl h.0, record { are = refl; inside = h.1 })
 
 -- a job names a second file exactly where its command reads one
-command_asks : (v : Verb) (files : List (List ℕ)) (model : List ℕ) (name : Option (List ℕ)) (n : ℕ)
+form_asks : (f : Form) (given : List (List ℕ)) (model : List ℕ) (name : Option (List ℕ)) (n : ℕ)
     (s : Option (Vec ℕ Global))
-    → NamesFiles (form_of_verb v) files model name n → IsLoadedScript name s → IsThere (has_second v) s
-command_asks Check files model name n s f l = l.none f.1
-command_asks Flat files model name n s f l = l.none f.1
-command_asks Replay files model name n s f l = l.some f.0.0 f.0.2
-command_asks Fragment files model name n s f l = l.none f.1
-command_asks Equations files model name n s f l = l.none f.1
-command_asks Cuts files model name n s f l = l.none f.1
-command_asks Make files model name n s f l = l.none f.2
-command_asks Explain files model name n s f l = l.some f.0.0 f.0.2
-command_asks CheckCuts files model name n s f l = l.some f.0.0 f.0.2
-command_asks Modules files model name n s f l = l.none f.1
+    → NamesFiles f given model name n → IsLoadedScript name s → IsThere (is_second f) s
+form_asks form.Model given model name n s h l = l.none h.1
+form_asks form.ModelAndScript given model name n s h l = l.some h.0.0 h.0.2
+form_asks form.ModelAndList given model name n s h l = l.some h.0.0 h.0.2
+form_asks form.Number given model name n s h l = l.none h.2
 
 pub script_there : (words : List (List ℕ)) (job : Job) (s : Option (Vec ℕ Global)) → IsJob words job
-    → IsLoadedScript job.script s → IsThere (has_second job.command) s
-script_there words job s b l = command_asks job.command _ job.model job.script job.number s b.job_of.files l
+    → IsLoadedScript job.script s → IsThere (is_second (shape_of job.command).files) s
+script_there words job s b l =
+    form_asks (shape_of job.command).files _ job.model job.script job.number s b.job_of.files l
 
--- and an observer exactly where its command asks for one
+-- and an observer exactly where its command asks for the value of one
 observer_given : (o : Option (List ℕ)) → (o ≡ None → ⊥) → IsThere true o
 observer_given None h = absurd (h refl)
 observer_given (Some a) h = (a, refl)
 
-command_sees : (v : Verb) (line : CommandWords) → OptionsFit v line → IsThere (has_table v) (path_asked v line.observer)
-command_sees Check line f = f.observer
-command_sees Flat line f = f.observer
-command_sees Replay line f = f.observer
-command_sees Fragment line f = f.observer
-command_sees Equations line f = observer_given line.observer (f.observer_needed refl)
-command_sees Cuts line f = observer_given line.observer (f.observer_needed refl)
+command_sees : (v : Verb) (line : CommandWords) → OptionsFit (shape_of v) line
+    → IsThere (has_table v) (where_asked (has_table v) (path_asked (makes_model v) line.observer))
+command_sees Check line f = refl
+command_sees Flat line f = refl
+command_sees Replay line f = refl
+command_sees Fragment line f = refl
+command_sees Equations line f = observer_given line.observer f.observer
+command_sees Cuts line f = observer_given line.observer f.observer
 command_sees Make line f = (codes "lost", refl)
 command_sees Explain line f = refl
-command_sees CheckCuts line f = observer_given line.observer (f.observer_needed refl)
-command_sees Modules line f = observer_given line.observer (f.observer_needed refl)
+command_sees CheckCuts line f = observer_given line.observer f.observer
+command_sees Modules line f = observer_given line.observer f.observer
 
-line_sees : (line : CommandWords) (job : Job) → IsJobOf line job → IsThere (has_table job.command) (observer_asked job)
+line_sees : (line : CommandWords) (job : Job) → IsJobOf line job
+    → IsThere (has_table job.command) (where_asked (has_table job.command) (observer_asked job))
 line_sees line job of =
-    subst (λ (z : Option (List ℕ)). IsThere (has_table job.command) (path_asked job.command z)) (sym of.observer)
+    subst (λ (z : Option (List ℕ)). IsThere (has_table job.command)
+    (where_asked (has_table job.command) (path_asked (makes_model job.command) z))) (sym of.observer)
     (command_sees job.command line of.options)
 
 pub observer_there : (words : List (List ℕ)) (job : Job) → IsJob words job
-    → IsThere (has_table job.command) (observer_asked job)
+    → IsThere (has_table job.command) (where_asked (has_table job.command) (observer_asked job))
 observer_there words job b = line_sees _ job b.job_of
 
--- a script that a command reads is the second of the texts
-pub second_of : (v : Verb) (t : Texts) → IsSecond (has_second v) (texts_where (makes_model v) t) t.script
-second_of Check t = tt
-second_of Flat t = tt
-second_of Replay t = (t.model.items, refl)
-second_of Fragment t = tt
-second_of Equations t = tt
-second_of Cuts t = tt
-second_of Make t = tt
-second_of Explain t = (t.model.items, refl)
-second_of CheckCuts t = (t.model.items, refl)
-second_of Modules t = tt
+-- a second file that a command reads is the second of the texts
+pub second_of : (f : Form) (t : Texts) → IsSecond (is_second f) (texts_where (is_made f) t) t.script
+second_of form.Model t = tt
+second_of form.ModelAndScript t = (t.model.items, refl)
+second_of form.ModelAndList t = (t.model.items, refl)
+second_of form.Number t = tt
 
 -- The words
 

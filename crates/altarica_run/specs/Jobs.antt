@@ -1,9 +1,9 @@
 -- The jobs of words, and which commands make their model.
-use Rattle.std.specs.Prelude.{◌≡◌, Bool, true, false, ℕ, List, Result, Ok, Err}
+use Rattle.std.specs.Prelude.{◌≡◌, Bool, true, ℕ, List, Result, Ok, Err}
+use Rattle.run_words.specs.Commands.{shape_of, is_made}
 use Rattle.run_words.specs.Jobs.{IsJob}
 use Rattle.run_words.specs.declared.jobs.Job.{Job}
 use Rattle.run_words.specs.declared.verbs.Verb.{Verb}
-use Rattle.run_words.specs.declared.verbs.Verb.TheVariants.{Make}
 use Rattle.altarica_run.specs.declared.refusals.Refusal.TheVariants.{Usage}
 use Rattle.altarica_run.specs.declared.stops.Stop.{Stop}
 use Rattle.altarica_run.specs.declared.stops.Stop.TheVariants.{Refused, Memory}
@@ -14,8 +14,7 @@ IsNoJob words = (job : Job) → IsJob words job → ⊥
 
 -- the command makes its model; those of the others are files
 abbrev pub makes_model : Verb → Bool
-makes_model Make = true
-makes_model _ = false
+makes_model command = is_made (shape_of command).files
 
 -- the words ask for no file: they are no job, or the command makes its model
 abbrev pub LoadsNothing : List (List ℕ) → Type 0

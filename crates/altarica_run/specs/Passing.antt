@@ -39,9 +39,9 @@ use Rattle.job_inputs.specs.Scripts.{BadLine, Commands}
 use Rattle.job_inputs.specs.declared.commands.Command.{Command}
 use Rattle.job_inputs.specs.declared.commands.ScriptFault.{ScriptFault}
 use Rattle.job_inputs.specs.declared.commands.ScriptFault.TheVariants as script
+use Rattle.run_words.specs.Commands.{shape_of}
 use Rattle.run_words.specs.declared.jobs.Job.{Job}
 use Rattle.run_words.specs.declared.verbs.Verb.{Verb}
-use Rattle.run_words.specs.declared.verbs.Verb.TheVariants.{Replay, Explain, CheckCuts, Modules}
 use Rattle.run_words.specs.declared.jobs.JobFault.{JobFault}
 use Rattle.run_words.specs.declared.jobs.JobFault.TheVariants as words
 use Rattle.tree_equations.specs.Gives.{AtObserver}
@@ -125,13 +125,6 @@ abbrev pub IsFlattened : Elaborated → Flattened → Type 0
 IsFlattened x f = IsOfTree x f.tree f.system
 
 -- The second file
-
--- the command reads a second file, a script or a list
-abbrev pub has_second : Verb → Bool
-has_second Replay = true
-has_second Explain = true
-has_second CheckCuts = true
-has_second _ = false
 
 -- what is given, where it is asked for
 abbrev pub where_asked : {A : Type 0} → Bool → Option A → Option A
@@ -286,7 +279,7 @@ pub record HasTable (v : Verb) (p : GtsParts) (forest : Forest) (w : Ready) (t :
 -- the ranges are those of units, and those of the source's own units where the command asks for them
 pub record HasRanges (v : Verb) (x : Elaborated) (ranges : List Range) : Type 0 where
   pub are : AreRanges ranges
-  pub own : v ≡ Modules → AreRangesOf x.declarations.model x.declarations.units ranges
+  pub own : (shape_of v).units ≡ true → AreRangesOf x.declarations.model x.declarations.units ranges
 
 -- The job
 

@@ -15,14 +15,15 @@ use Rattle.hierarchy.specs.Listing.{variables}
 use Rattle.hierarchy.specs.Paths.{unit_path}
 use Rattle.job_inputs.specs.CutLists.{CutLine, CutList}
 use Rattle.job_inputs.specs.Scripts.{BadLine, Commands, Why, IsNoCommand, LacksWay, NamesNoEvent}
+use Rattle.run_words.specs.Commands.{shape_of, is_script, is_list, to_forest, to_table, to_cuts}
 use Rattle.run_words.specs.declared.jobs.Job.{Job}
 use Rattle.run_words.specs.declared.verbs.Verb.{Verb}
-use Rattle.run_words.specs.declared.verbs.Verb.TheVariants.{Replay, Fragment, Equations, Cuts, Make, Explain, CheckCuts, Modules}
 use Rattle.table_text.specs.Texts.{IsTableFor}
 use Rattle.job_inputs.specs.Wanting.{IsWanted, NamesObserver, NamesNone, WantsNone}
 use Rattle.job_inputs.specs.declared.wanting.Wanted.{Wanted}
 use Rattle.altarica_run.specs.Elaborates.{Elaborates}
 use Rattle.altarica_run.specs.Files.{files_of, Loaded, IsText}
+use Rattle.altarica_run.specs.Jobs.{makes_model}
 use Rattle.altarica_run.specs.declared.refusals.Refusal.{Refusal}
 use Rattle.altarica_run.specs.declared.refusals.Refusal.TheVariants.{NoCommand, NoCut, NeedsWay, NoEvent, NoDropped, NoObserver, NoValue, Size, Outside}
 
@@ -43,12 +44,6 @@ bare x = record { source = x; commands = []; lines = []; dropped = []; wanted = 
 
 -- The script
 
--- the command reads a script
-abbrev pub has_script : Verb → Bool
-has_script Replay = true
-has_script Explain = true
-has_script _ = false
-
 -- the refusal of a line of the script
 abbrev pub line_refused : Why → ℕ → Refusal
 line_refused IsNoCommand n = NoCommand n
@@ -63,11 +58,6 @@ pub data Scripted (texts : List (List ℕ)) (w : Ready) : Result Ready Refusal �
       → Scripted texts w (Err (line_refused l.why l.number))
 
 -- The list of cuts
-
--- the command reads a list of cuts
-abbrev pub has_list : Verb → Bool
-has_list CheckCuts = true
-has_list _ = false
 
 -- the refusal of a line of the list
 abbrev pub cut_refused : Why → ℕ → Refusal
@@ -111,29 +101,18 @@ pub data Wanting (observer word : Option (List ℕ)) (w : Ready) : Result Ready 
 
 -- the command is about the gate table of the system, for an observer and a value
 abbrev pub has_table : Verb → Bool
-has_table Equations = true
-has_table Cuts = true
-has_table Make = true
-has_table CheckCuts = true
-has_table Modules = true
-has_table _ = false
+has_table command = to_table (shape_of command).reach
 
--- the path of the observer whose value is asked for: that of the words, or for `make` that of the generated models; an
--- explanation asks for no value
-abbrev pub path_asked : Verb → Option (List ℕ) → Option (List ℕ)
-path_asked Make given = Some (codes "lost")
-path_asked Explain given = None
-path_asked _ given = given
+-- the path of the observer whose value is asked for: that of the models that are generated, where the command makes its
+-- model, else that of the words
+abbrev pub path_asked : Bool → Option (List ℕ) → Option (List ℕ)
+path_asked true given = Some (codes "lost")
+path_asked false given = given
 
 abbrev pub observer_asked : Job → Option (List ℕ)
-observer_asked job = path_asked job.command job.observer
+observer_asked job = path_asked (makes_model job.command) job.observer
 
 -- The observer to explain
-
--- the command explains the values of flows
-abbrev pub explains : Verb → Bool
-explains Explain = true
-explains _ = false
 
 -- the observer that the path names, where there is one, or that it names none
 pub data Showing (observer : Option (List ℕ)) (w : Ready) : Result Ready Refusal → Type 0 where
@@ -148,25 +127,19 @@ abbrev pub AsksByWords : Job → Ready → Result Ready Refusal → Type 0
 AsksByWords job =
     Then (Drops job.dropped)
     (Then (Where (has_table job.command) (Wanting (observer_asked job) job.value))
-    (Where (explains job.command) (Showing job.observer)))
+    (Where (shape_of job.command).explains (Showing job.observer)))
 
 -- what the words, the script, the list and the command ask of the system
 abbrev pub Asks : Job → List (List ℕ) → Elaborated → Result Ready Refusal → Type 0
 Asks job texts x =
-    Then (Where (has_script job.command) (Scripted texts))
-    (Then (Where (has_list job.command) (ListsCuts texts)) (AsksByWords job)) (bare x)
+    Then (Where (is_script (shape_of job.command).files) (Scripted texts))
+    (Then (Where (is_list (shape_of job.command).files) (ListsCuts texts)) (AsksByWords job)) (bare x)
 
 -- The static fragment
 
 -- the command is for systems of the static fragment
 abbrev pub is_static : Verb → Bool
-is_static Fragment = true
-is_static Equations = true
-is_static Cuts = true
-is_static Make = true
-is_static CheckCuts = true
-is_static Modules = true
-is_static _ = false
+is_static command = to_forest (shape_of command).reach
 
 -- the canonical path of what a broken rule is shown with; `main` for the whole model
 abbrev pub spot_path : Elaborated → Spot → List ℕ
@@ -202,11 +175,7 @@ pub data Tabled (w : Ready) : Result Ready Refusal → Type 0 where
 
 -- the command lists the cuts of the observer's value, or tells of them
 abbrev pub lists_cuts : Verb → Bool
-lists_cuts Cuts = true
-lists_cuts Make = true
-lists_cuts CheckCuts = true
-lists_cuts Modules = true
-lists_cuts _ = false
+lists_cuts command = to_cuts (shape_of command).reach
 
 -- The stages
 

@@ -57,23 +57,12 @@ pub fn forest_of(
         → IsStageOf (λ (v : Ready). HasForest command system.now v.dropped)
         (Where (is_static command) Static w) result }
 {
-    if is_static(command) {
+    if command.shape().reach.to_forest() {
         return recognised(alloc, system, dropped);
     }
     Ok(Forest {
         trees: Vec::new(alloc),
     })
-}
-
-// Whether a command is for systems of the static fragment.
-fn is_static(command: Verb) -> bool
-    ensures { result ≡ is_static command }
-{
-    match command {
-        Verb::Check | Verb::Flat | Verb::Replay | Verb::Explain => false,
-        Verb::Fragment | Verb::Equations | Verb::Cuts => true,
-        Verb::Make | Verb::CheckCuts | Verb::Modules => true,
-    }
 }
 
 // The trees of modes of a system, or the rule that it breaks.

@@ -12,7 +12,7 @@ use std::alloc::Global;
 pub fn makes_model(command: Verb) -> bool
     ensures { result ≡ makes_model command }
 {
-    matches!(command, Verb::Make)
+    command.shape().files.is_made()
 }
 
 /// The job of the words behind the program's name.

@@ -7,9 +7,10 @@ ghost use Rattle.altarica_run.specs.Answers.{Answers};
 use crate::stages::prepare;
 use crate::status::Status;
 use crate::stops::Stop;
-use crate::telling::{refuse, tell};
+use crate::telling::{refuse, tell_gathered};
 use ar_io::{Shelf, Sink};
 use std::alloc::Global;
+use std::marker::Brand;
 
 /// Does the job of the words, which stand behind the program's name: loads its files from the shelf,
 /// and writes its text, or the line that says why there is none, to the sink.
@@ -25,7 +26,7 @@ pub fn altarica<H: Shelf, K: Sink>(
         (K.state out.old).faults (K.state out.new).faults result }
 {
     match prepare(alloc, words, shelf) {
-        Ok(prepared) => tell(alloc, &prepared, out),
+        Ok(prepared) => tell_gathered::<Brand, K>(alloc, &prepared, out),
         Err(stop) => match stop {
             Stop::Refused(refusal) => refuse(&refusal, out),
             Stop::Memory => Status::Memory,

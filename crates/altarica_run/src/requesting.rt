@@ -5,8 +5,9 @@ ghost use Rattle.ar_base.specs.Counts.{limit_of};
 ghost use Rattle.ar_base.specs.declared.counts.Count.TheVariants.{ScriptBytes};
 ghost use Rattle.gts_flatten.specs.Elaborating.{Elaborated};
 ghost use Rattle.altarica_run.specs.Passing.{IsStageOf, IsFlattened, AreCommands, ReadsScript, AreLines, ReadsCuts, IsShown, ReadsShown};
-ghost use Rattle.altarica_run.specs.Passing.{IsSecond, IsShort, IsThere, IsRequested, has_second, where_asked, stop_of_cuts};
-ghost use Rattle.altarica_run.specs.Stages.{Asks, has_script, has_list, has_table, explains, observer_asked};
+ghost use Rattle.altarica_run.specs.Passing.{IsSecond, IsShort, IsThere, IsRequested, where_asked, stop_of_cuts};
+ghost use Rattle.altarica_run.specs.Stages.{Asks, has_table, observer_asked};
+ghost use Rattle.run_words.specs.Commands.{shape_of, is_second};
 
 use crate::analysing::dropped_of;
 use crate::refusals::Refusal;
@@ -16,7 +17,7 @@ use crate::tabling::wanted_of;
 use ar_base::{Count, EventId, Text};
 use gts_core::Chain;
 use job_inputs::{Command, ScriptFault, Wanted, observer_named, read_cuts, read_script};
-use run_words::{Job, Verb};
+use run_words::Job;
 use std::alloc::Global;
 
 /// What the words, the script, the list and the command ask of a system.
@@ -43,19 +44,21 @@ pub fn request_of(
 ) -> Result<Request, Stop>
     requires source { (x : Elaborated) × IsFlattened x flattened.now }
     requires short { IsShort script.now }
-    requires there { IsThere (has_second job.now.command) script.now }
-    requires observer { IsThere (has_table job.now.command) (observer_asked job.now) }
+    requires there { IsThere (is_second (shape_of job.now.command).files) script.now }
+    requires observer { IsThere (has_table job.now.command)
+        (where_asked (has_table job.now.command) (observer_asked job.now)) }
     ensures { (texts : List (List ℕ)) (x : Elaborated)
-        → IsSecond (has_second job.now.command) texts script.now
+        → IsSecond (is_second (shape_of job.now.command).files) texts script.now
         → IsFlattened x flattened.now
         → IsStageOf (IsRequested job.now.command x flattened.now.system) (Asks job.now texts x)
         result }
 {
-    let commands = commands_of(alloc, flattened, reads_script(job.command), script)?;
-    let chains = chains_of(alloc, flattened, reads_list(job.command), script)?;
+    let shape = job.command.shape();
+    let commands = commands_of(alloc, flattened, shape.files.is_script(), script)?;
+    let chains = chains_of(alloc, flattened, shape.files.is_list(), script)?;
     let dropped = dropped_of(alloc, flattened, &job.dropped)?;
     let wanted = wanted_of(alloc, flattened, observer_of(job), &job.value)?;
-    let shown = shown_of(alloc, flattened, explains(job.command), &job.observer)?;
+    let shown = shown_of(alloc, flattened, shape.explains, &job.observer)?;
     Ok(Request {
         commands,
         chains,
@@ -65,36 +68,19 @@ pub fn request_of(
     })
 }
 
-// Whether a command reads a script.
-fn reads_script(command: Verb) -> bool
-    ensures { result ≡ has_script command }
-{
-    matches!(command, Verb::Replay | Verb::Explain)
-}
-
-// Whether a command reads a list of cuts.
-fn reads_list(command: Verb) -> bool
-    ensures { result ≡ has_list command }
-{
-    matches!(command, Verb::CheckCuts)
-}
-
-// Whether a command explains the values of flows.
-fn explains(command: Verb) -> bool
-    ensures { result ≡ explains command }
-{
-    matches!(command, Verb::Explain)
-}
-
-// The path of the observer whose value is asked for: that of the words, or for `make` that of its models.
+// The path of the observer, where its value is asked for: that of the words, or of the models that are made.
 fn observer_of(job: &Job) -> Option<&str>
-    ensures { option_map (λ t. t.now) result ≡ observer_asked job.now }
+    ensures { option_map (λ t. t.now) result
+        ≡ where_asked (has_table job.now.command) (observer_asked job.now) }
 {
-    match job.command {
-        Verb::Make => Some("lost"),
-        Verb::Explain => None,
-        _ => word_of(&job.observer),
+    let shape = job.command.shape();
+    if !shape.reach.to_table() {
+        return None;
     }
+    if shape.files.is_made() {
+        return Some("lost");
+    }
+    word_of(&job.observer)
 }
 
 /// The word of an option.

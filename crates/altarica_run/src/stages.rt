@@ -13,8 +13,9 @@ ghost use Rattle.gts_flatten.specs.Elaborating.{Elaborated};
 ghost use Rattle.altarica_run.specs.Elaborates.{Parses, Tables, Systems, Elaborates};
 ghost use Rattle.altarica_run.specs.Jobs.{LoadsNothing};
 ghost use Rattle.altarica_run.specs.Loading.{texts_of};
-ghost use Rattle.altarica_run.specs.Passing.{IsStageOf, IsFlattened, IsSecond, IsShort, IsThere, HasRanges, IsReady, has_second, AnswersWords};
+ghost use Rattle.altarica_run.specs.Passing.{IsStageOf, IsFlattened, IsSecond, IsShort, IsThere, HasRanges, IsReady, where_asked, AnswersWords};
 ghost use Rattle.altarica_run.specs.Stages.{Readies, Stages, has_table, observer_asked};
+ghost use Rattle.run_words.specs.Commands.{shape_of, is_second};
 
 use crate::analysing::forest_of;
 use crate::jobs::job_of;
@@ -85,8 +86,9 @@ pub fn prepare<H: Shelf>(alloc: Global, words: &[String], shelf: &mut H) -> Resu
 fn pass(alloc: Global, job: &Job, texts: Texts) -> Result<Prepared, Stop>
     requires model { length texts.model.items ≤ limit_of ModelBytes }
     requires script { IsShort texts.script }
-    requires there { IsThere (has_second job.now.command) texts.script }
-    requires observer { IsThere (has_table job.now.command) (observer_asked job.now) }
+    requires there { IsThere (is_second (shape_of job.now.command).files) texts.script }
+    requires observer { IsThere (has_table job.now.command)
+        (where_asked (has_table job.now.command) (observer_asked job.now)) }
     ensures { IsStageOf (IsReady job.now)
         (Stages job.now (texts_of job.now texts) texts.model.items) result }
 {
@@ -104,10 +106,11 @@ fn ready(
 ) -> Result<Prepared, Stop>
     requires source { (x : Elaborated) × IsFlattened x flattened }
     requires short { IsShort script.now }
-    requires there { IsThere (has_second job.now.command) script.now }
-    requires observer { IsThere (has_table job.now.command) (observer_asked job.now) }
+    requires there { IsThere (is_second (shape_of job.now.command).files) script.now }
+    requires observer { IsThere (has_table job.now.command)
+        (where_asked (has_table job.now.command) (observer_asked job.now)) }
     ensures { (texts : List (List ℕ)) (x : Elaborated)
-        → IsSecond (has_second job.now.command) texts script.now
+        → IsSecond (is_second (shape_of job.now.command).files) texts script.now
         → IsFlattened x flattened → IsStageOf (IsReady job.now) (Readies job.now texts x) result }
 {
     let request = request_of(alloc, job, &flattened, script)?;
@@ -132,10 +135,10 @@ fn ranges_of(alloc: Global, command: Verb, tree: &Tree) -> Result<Vec<Range>, Me
     ensures { (x : Elaborated) → IsTreeOf x.declarations.model x.declarations.units tree.now
         → IfOk result (λ ranges. HasRanges command x ranges.items) }
 {
-    match command {
-        Verb::Modules => ranges(alloc, tree),
-        _ => Ok(Vec::new(alloc)),
+    if command.shape().units {
+        return ranges(alloc, tree);
     }
+    Ok(Vec::new(alloc))
 }
 
 // The system that the text means from the main block of this name, else from the last.

@@ -16,7 +16,7 @@ use crate::pieces::{put, put_count};
 use crate::refusals::Refusal;
 use crate::stages::Prepared;
 use crate::status::Status;
-use ar_io::{Sink, SinkFailed};
+use ar_io::{Beginning, Gathered, Sink, SinkFailed, room};
 use aralia_text::print;
 use cut_text::forest_laws::forests_of_the_source;
 use cut_text::{PrintFault, print_forest};
@@ -26,8 +26,31 @@ use replayer::{End, ReplayFault, replay};
 use run_words::Verb;
 use std::alloc::Global;
 
-/// Writes the text of the job.
-pub fn tell<K: Sink>(alloc: Global, prepared: &Prepared, out: &mut K) -> Status
+/// Writes the text of the job, gathered. The room for that is taken before the first byte is written;
+/// where it is refused, nothing is.
+pub fn tell_gathered<S: Beginning, K: Sink>(
+    alloc: Global,
+    prepared: &Prepared,
+    out: &mut K,
+) -> Status
+    requires begins { S.start ≡ K.state out.old }
+    requires commands { AreFirable prepared.now.system prepared.now.request.commands.items }
+    requires forest { CanBeWritten prepared.now.system prepared.now.forest }
+    requires ready { (job : Job) × (w : Ready) × IsReady job w prepared.now }
+    requires nodes { prepared.now.nodes ≤ 16777216 }
+    ensures { (job : Job) (w : Ready) → IsReady job w prepared.now
+        → IsWrittenFor job (Tells job w) (K.state out.old) (K.state out.new) result }
+{
+    let Ok(mut room) = room(alloc) else {
+        return Status::Memory;
+    };
+    let mut gathered: Gathered<'_, S, K> = Gathered::new(&mut room, out);
+    let status = tell(alloc, prepared, &mut gathered);
+    written(status, gathered.finish())
+}
+
+// Writes the text of the job.
+fn tell<K: Sink>(alloc: Global, prepared: &Prepared, out: &mut K) -> Status
     requires commands { AreFirable prepared.now.system prepared.now.request.commands.items }
     requires forest { CanBeWritten prepared.now.system prepared.now.forest }
     requires ready { (job : Job) × (w : Ready) × IsReady job w prepared.now }

@@ -10,12 +10,14 @@ use Rattle.job_inputs.specs.CutLines.{is_comma}
 use Rattle.job_inputs.specs.CutLists.{CutLine, CutList, HaveOneMeaning}
 use Rattle.job_inputs.specs.Lines.{pieces}
 use Rattle.job_inputs.specs.Scripts.{BadLine, Commands}
+use Rattle.run_words.specs.Commands.{shape_of, is_script, is_list}
 use Rattle.run_words.specs.declared.jobs.Job.{Job}
+use Rattle.run_words.specs.declared.shapes.Shape.{Shape}
 use Rattle.job_inputs.specs.Wanting.{IsWanted, NamesObserver, NamesNone, WantsNone}
 use Rattle.job_laws.proofs.Labels.{along_one, one_event, one_meaning}
 use Rattle.job_laws.proofs.Observers.{observer_once, wanted_once, wanted_apart}
 use Rattle.job_laws.proofs.Scripts.{script_once}
-use Rattle.altarica_run.specs.Stages.{Ready, bare, has_script, line_refused, Scripted, has_list, cut_refused, ListsCuts, Drops, Wanting, has_table, observer_asked, explains, Showing, AsksByWords, Asks}
+use Rattle.altarica_run.specs.Stages.{Ready, bare, line_refused, Scripted, cut_refused, ListsCuts, Drops, Wanting, has_table, observer_asked, Showing, AsksByWords, Asks}
 use Rattle.altarica_run.specs.Stages as s
 use Rattle.altarica_run.specs.declared.refusals.Refusal.{Refusal}
 use Rattle.job_laws.specs.Definite.{IsDefinite}
@@ -210,6 +212,9 @@ module _ (observer : Option (List ℕ)) where
 -- All of them
 
 module _ (job : Job) (texts : List (List ℕ)) where
+  abbrev shape : Shape
+  shape = shape_of job.command
+
   abbrev Drop : Ready → Result Ready Refusal → Type 0
   Drop = Drops job.dropped
 
@@ -217,13 +222,13 @@ module _ (job : Job) (texts : List (List ℕ)) where
   Want = Where (has_table job.command) (Wanting (observer_asked job) job.value)
 
   abbrev Show : Ready → Result Ready Refusal → Type 0
-  Show = Where (explains job.command) (Showing job.observer)
+  Show = Where shape.explains (Showing job.observer)
 
   abbrev Script : Ready → Result Ready Refusal → Type 0
-  Script = Where (has_script job.command) (Scripted texts)
+  Script = Where (is_script shape.files) (Scripted texts)
 
   abbrev Cuts : Ready → Result Ready Refusal → Type 0
-  Cuts = Where (has_list job.command) (ListsCuts texts)
+  Cuts = Where (is_list shape.files) (ListsCuts texts)
 
   want_one : IsOne OfDefinite Want
   want_one = where_one OfDefinite (Wanting (observer_asked job) job.value) (has_table job.command)
@@ -234,10 +239,10 @@ module _ (job : Job) (texts : List (List ℕ)) where
       (wanting_on (observer_asked job) job.value)
 
   show_one : IsOne OfDefinite Show
-  show_one = where_one OfDefinite (Showing job.observer) (explains job.command) (showing_one job.observer)
+  show_one = where_one OfDefinite (Showing job.observer) shape.explains (showing_one job.observer)
 
   show_on : PassesOn OfDefinite Show OfDefinite
-  show_on = where_on OfDefinite (Showing job.observer) (explains job.command) (showing_on job.observer)
+  show_on = where_on OfDefinite (Showing job.observer) shape.explains (showing_on job.observer)
 
   words_one : IsOne OfDefinite (AsksByWords job)
   words_one =
@@ -250,16 +255,16 @@ module _ (job : Job) (texts : List (List ℕ)) where
       (then_on OfDefinite OfDefinite Want Show OfDefinite want_on show_on)
 
   script_one : IsOne OfDefinite Script
-  script_one = where_one OfDefinite (Scripted texts) (has_script job.command) (scripted_one texts)
+  script_one = where_one OfDefinite (Scripted texts) (is_script shape.files) (scripted_one texts)
 
   script_on : PassesOn OfDefinite Script OfDefinite
-  script_on = where_on OfDefinite (Scripted texts) (has_script job.command) (scripted_on texts)
+  script_on = where_on OfDefinite (Scripted texts) (is_script shape.files) (scripted_on texts)
 
   cuts_one : OneList → IsOne OfDefinite Cuts
-  cuts_one one_list = where_one OfDefinite (ListsCuts texts) (has_list job.command) (lists_one one_list texts)
+  cuts_one one_list = where_one OfDefinite (ListsCuts texts) (is_list shape.files) (lists_one one_list texts)
 
   cuts_on : PassesOn OfDefinite Cuts OfDefinite
-  cuts_on = where_on OfDefinite (ListsCuts texts) (has_list job.command) (lists_on texts)
+  cuts_on = where_on OfDefinite (ListsCuts texts) (is_list shape.files) (lists_on texts)
 
   pub asks_one : OneList → IsOne IsDefinite (Asks job texts)
   asks_one one_list x is a b h k =

@@ -6,9 +6,9 @@ use Rattle.ar_firing.specs.Static.{IsKeyedStatic}
 use Rattle.ar_firing.proofs.RulesHold.{excludes, first_broken_same, all_static}
 use Rattle.eq_core.specs.Gates.{Table}
 use Rattle.hierarchy.specs.Listing.{variables}
+use Rattle.run_words.specs.Commands.{shape_of}
+use Rattle.run_words.proofs.Reaches.{table_to_forest}
 use Rattle.run_words.specs.declared.jobs.Job.{Job}
-use Rattle.run_words.specs.declared.verbs.Verb.{Verb}
-use Rattle.run_words.specs.declared.verbs.Verb.TheVariants as verb
 use Rattle.job_inputs.specs.declared.wanting.Wanted.{Wanted}
 use Rattle.altarica_run.specs.Stages.{Ready, is_static, spot_path, Static, keeps, outside, has_table, IsTableOf, Tabled, fits, exceeds, Asks, Demands, Readies}
 use Rattle.altarica_run.specs.declared.refusals.Refusal.{Refusal}
@@ -106,26 +106,13 @@ table_same false w v h = same_ok v w h
 both_on : (s t : Bool) → PassesOn OfDefinite (Both s t) (IsFitWhere s)
 both_on s t w v is (passes u h k) = subst (IsFitWhere s) (sym (table_same t u v k)) (static_where s w u is h)
 
--- a command that asks for a gate table is for static systems
-table_static : (v : Verb) → has_table v ≡ true → is_static v ≡ true
-table_static verb.Check e = let k : false ≡ true = e in cc
-table_static verb.Flat e = let k : false ≡ true = e in cc
-table_static verb.Replay e = let k : false ≡ true = e in cc
-table_static verb.Fragment e = refl
-table_static verb.Equations e = refl
-table_static verb.Cuts e = refl
-table_static verb.Make e = refl
-table_static verb.Explain e = let k : false ≡ true = e in cc
-table_static verb.CheckCuts e = refl
-table_static verb.Modules e = refl
-
 -- All stages behind the source
 
 module _ (job : Job) (texts : List (List ℕ)) where
   pub readies_one : OneList → IsOne IsDefinite (Readies job texts)
   readies_one one_list x is a b h k =
       then_one IsDefinite OfDefinite (Asks job texts) (Demands job.command) (asks_one job texts one_list)
-      (asks_on job texts) (both_one (is_static job.command) (has_table job.command) (table_static job.command)) x
+      (asks_on job texts) (both_one (is_static job.command) (has_table job.command) (table_to_forest (shape_of job.command).reach)) x
       is a b h k
 
   pub readies_on : PassesOn IsDefinite (Readies job texts) (IsFitWhere (is_static job.command))

@@ -21,6 +21,8 @@ use Rattle.hierarchy.specs.Listing.{AreUnits}
 use Rattle.hierarchy.specs.Models.{RootedModel, KeepsTextRules}
 use Rattle.hierarchy.specs.Units.{UnitPath, Thing}
 use Rattle.module_text.specs.Texts.{IsModuleText}
+use Rattle.run_words.specs.Commands.{shape_of, is_script, is_list}
+use Rattle.run_words.proofs.Reaches.{cuts_to_forest}
 use Rattle.run_words.specs.declared.jobs.Job.{Job}
 use Rattle.run_words.specs.declared.verbs.Verb.{Verb}
 use Rattle.run_words.specs.declared.verbs.Verb.TheVariants.{Check, Flat, Replay, Fragment, Equations, Cuts, Make, Explain, CheckCuts, Modules}
@@ -34,7 +36,7 @@ use Rattle.altarica_run.specs.Elaborates.{Elaborates, rooted, reads}
 use Rattle.altarica_run.specs.Elaborates as e
 use Rattle.altarica_run.specs.Follows.{Call, Gave, Wrote}
 use Rattle.altarica_run.specs.Listings.{IsCut}
-use Rattle.altarica_run.specs.Stages.{Ready, bare, Passes, loaded, Scripted, gives, has_script, ListsCuts, lists, has_list, Drops, no_list, names, Wanting, wants, observer_asked, Showing, no_path, shows, explains, Static, keeps, is_static, Tabled, fits, has_table, Readies, lists_cuts}
+use Rattle.altarica_run.specs.Stages.{Ready, bare, Passes, loaded, Scripted, gives, ListsCuts, lists, Drops, no_list, names, Wanting, wants, observer_asked, Showing, no_path, shows, Static, keeps, is_static, Tabled, fits, has_table, Readies, lists_cuts}
 use Rattle.altarica_run.specs.Tells.{IsShortText, Tells, check, flat, replay, fragment, equations, cuts, make, unsettled, checks, in_short, conflict, nodes}
 use Rattle.altarica_run.specs.Tells as told
 use Rattle.altarica_run.specs.declared.status.Status.{Status}
@@ -86,11 +88,11 @@ readies_source job texts x w
     (passes a (passes b h (passes d k (passes f l (passes g m n)))) (passes i o p)) =
     tabled_source (has_table job.command) i w p
     ∙ static_source (is_static job.command) a i o
-    ∙ shown_source (explains job.command) job.observer g a n
+    ∙ shown_source (shape_of job.command).explains job.observer g a n
     ∙ wanted_source (has_table job.command) (observer_asked job) job.value f g m
     ∙ dropped_source job.dropped d f l
-    ∙ listed_source (has_list job.command) texts b d k
-    ∙ scripted_source (has_script job.command) texts (bare x) b h
+    ∙ listed_source (is_list (shape_of job.command).files) texts b d k
+    ∙ scripted_source (is_script (shape_of job.command).files) texts (bare x) b h
 
 -- The source of a text keeps the rules over the whole text, and its units are those of its main block
 
@@ -189,19 +191,6 @@ conflict_undropped sys dropped (fire w r o s) =
     (record { is_kept = record { is_way = o.is_kept.is_way; stays = λ i. let h = i.stands in cc }; visible = o.visible })
     s
 
--- a command that tells of cuts asks for a static system
-listing_static : (v : Verb) → lists_cuts v ≡ true → is_static v ≡ true
-listing_static Check i = i
-listing_static Flat i = i
-listing_static Replay i = i
-listing_static Fragment i = refl
-listing_static Equations i = refl
-listing_static Cuts i = refl
-listing_static Make i = refl
-listing_static Explain i = i
-listing_static CheckCuts i = refl
-listing_static Modules i = refl
-
 all_listed : {P : List ℕ → Type 0} (fs : List (List ℕ)) → ((k : ℕ) (set : List ℕ) → Stands fs k set → P set)
     → AllByRecursion P fs
 all_listed [] each = tt
@@ -253,7 +242,7 @@ module _ (keep : (text : List ℕ) → TreesKeep text) (c : Call) (job : Job)
         → IsConflictText (naming_of w.source.declarations) w.source.system w.dropped text → IsConflictOf c job
     conflict_given asked h =
         let ready = ready_for keep c job w p in
-        let static = keyed_static w (ready.fit.0, ready.fit.1 (listing_static job.command asked)) in
+        let static = keyed_static w (ready.fit.0, ready.fit.1 (cuts_to_forest (shape_of job.command).reach asked)) in
         let legal = line_is_legal w.source.system w.dropped static.keyed static.static h.is_line in
         let run = conflict_replays w.source.system w.dropped h.conflicts in
         record {

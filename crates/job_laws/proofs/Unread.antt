@@ -6,6 +6,7 @@ use Rattle.ar_parser.specs.Models.{Reads}
 use Rattle.parser_laws.specs.Models.{HasOneTree}
 use Rattle.ar_syntax.specs.declared.items.Model.{Model}
 use Rattle.job_inputs.specs.Scripts.{Why, IsNoCommand, LacksWay, NamesNoEvent}
+use Rattle.run_words.specs.Commands.{shape_of, is_script, is_list}
 use Rattle.run_words.specs.declared.jobs.Job.{Job}
 use Rattle.altarica_run.specs.Elaborates.{Parses, reads, breaks, exceeds as exceeds_limit}
 use Rattle.run_words.specs.Jobs.{IsJob}
@@ -13,7 +14,7 @@ use Rattle.altarica_run.specs.Follows.{Call, Gave}
 use Rattle.altarica_run.specs.Refusals.{status_of}
 use Rattle.altarica_run.specs.Statuses.{Meaning_of}
 use Rattle.altarica_run.specs.Files.{File, files_of, Loaded, IsText, first, made}
-use Rattle.altarica_run.specs.Stages.{Ready, bare, Passes, not_loaded, loaded, Stages, line_refused, cut_refused, Scripted, bad, has_script, ListsCuts, bad_line, exceeds_lines, has_list, Drops, names_none, Wanting, no_observer, no_value, observer_asked, Showing, shows_none, explains, Static, outside, is_static, Tabled, exceeds, has_table}
+use Rattle.altarica_run.specs.Stages.{Ready, bare, Passes, not_loaded, loaded, Stages, line_refused, cut_refused, Scripted, bad, ListsCuts, bad_line, exceeds_lines, Drops, names_none, Wanting, no_observer, no_value, observer_asked, Showing, shows_none, Static, outside, is_static, Tabled, exceeds, has_table}
 use Rattle.altarica_run.specs.declared.refusals.Refusal.{Refusal}
 use Rattle.altarica_run.specs.declared.refusals.Refusal.TheVariants.{Usage, NotRead, Size, Syntax, Rule, NoCommand, NoCut, NeedsWay, NoEvent, NoDropped, NoObserver, NoValue, Outside}
 use Rattle.altarica_run.specs.declared.status.Status.{Status}
@@ -77,14 +78,14 @@ module _ (text : List ℕ) (one : HasOneTree text) (job : Job) (texts : List (Li
   later_refused m is r (refuses (refuses h)) = absurd (parses_one text one (Ok m) (Err r) (reads is) h)
   later_refused m is r (refuses (passes n p (breaks h))) = refl
   later_refused m is r (refuses (passes n p (exceeds_limit h))) = refl
-  later_refused m is r (passes x p (refuses (refuses h))) = of_script (has_script job.command) texts (bare x) r h
+  later_refused m is r (passes x p (refuses (refuses h))) = of_script (is_script (shape_of job.command).files) texts (bare x) r h
   later_refused m is r (passes x p (refuses (passes w q (refuses h)))) =
-      of_list (has_list job.command) texts w r h
+      of_list (is_list (shape_of job.command).files) texts w r h
   later_refused m is r (passes x p (refuses (passes w q (passes v k (refuses h))))) = of_dropped job.dropped v r h
   later_refused m is r (passes x p (refuses (passes w q (passes v k (passes u l (refuses h)))))) =
       of_wanted (has_table job.command) (observer_asked job) job.value u r h
   later_refused m is r (passes x p (refuses (passes w q (passes v k (passes u l (passes y n h)))))) =
-      of_shown (explains job.command) job.observer y r h
+      of_shown (shape_of job.command).explains job.observer y r h
   later_refused m is r (passes x p (passes w q (refuses h))) = of_static (is_static job.command) w r h
   later_refused m is r (passes x p (passes w q (passes v k h))) = of_table (has_table job.command) v r h
 

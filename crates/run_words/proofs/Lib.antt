@@ -2,4 +2,5 @@ mod Digits
 mod Pieces
 mod Program
 mod OneJob
+pub mod Reaches
 mod Lengths

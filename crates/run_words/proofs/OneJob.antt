@@ -5,10 +5,12 @@ use Rattle.std.specs.Str.{bytes_eq}
 use Rattle.std.proofs.lemmas.Fmt.{decimal_injective}
 use Rattle.std.proofs.lemmas.Option.{same_Some}
 use Rattle.run_words.specs.Lines.{CommandWords}
-use Rattle.run_words.specs.Jobs.{IsJob, IsJobOf, IsNodes, IsNumberText, NamesFiles, form_of_verb, word_of}
+use Rattle.run_words.specs.Commands.{shape_of, word_of}
+use Rattle.run_words.specs.Jobs.{IsJob, IsJobOf, IsNodes, IsNumberText, NamesFiles}
 use Rattle.run_words.specs.declared.jobs.Job.{Job}
-use Rattle.run_words.specs.declared.verbs.Form.{Form}
-use Rattle.run_words.specs.declared.verbs.Form.TheVariants as form
+use Rattle.run_words.specs.declared.shapes.Form.{Form}
+use Rattle.run_words.specs.declared.shapes.Form.TheVariants as form
+use Rattle.run_words.specs.declared.shapes.Shape.{Shape}
 use Rattle.run_words.specs.declared.verbs.Verb.{Verb}
 use Rattle.run_words.specs.declared.verbs.Verb.TheVariants.{Check, Flat, Replay, Fragment, Equations, Cuts, Make, Explain, CheckCuts, Modules}
 
@@ -61,6 +63,9 @@ same_files form.Model files ma mb sa sb na nb a b =
 same_files form.ModelAndScript files ma mb sa sb na nb a b =
     let both = two_same (sym a.0.1 ∙ b.0.1) in
     record { model = both.0; script = a.0.2 ∙ ap (λ t. Some t) both.1 ∙ sym b.0.2; number = a.1 ∙ sym b.1 }
+same_files form.ModelAndList files ma mb sa sb na nb a b =
+    let both = two_same (sym a.0.1 ∙ b.0.1) in
+    record { model = both.0; script = a.0.2 ∙ ap (λ t. Some t) both.1 ∙ sym b.0.2; number = a.1 ∙ sym b.1 }
 same_files form.Number files ma mb sa sb na nb a b =
     let word = one_and_same (sym a.0.1 ∙ b.0.1) in
     record {
@@ -69,9 +74,9 @@ same_files form.Number files ma mb sa sb na nb a b =
       number = same_number 1 200 b.0.0 na nb (omega arith) (subst (λ w. IsNumberText 1 200 w na) word a.0.2) b.0.2;
     }
 
-same_nodes : (v : Verb) (given : Option (List ℕ)) (m n : ℕ) → IsNodes v given m → IsNodes v given n → m ≡ n
-same_nodes v None m n a b = a ∙ sym b
-same_nodes v (Some text) m n a b = same_number 1 16777216 text m n (omega arith) a.1 b.1
+same_nodes : (s : Shape) (given : Option (List ℕ)) (m n : ℕ) → IsNodes s given m → IsNodes s given n → m ≡ n
+same_nodes s None m n a b = a ∙ sym b
+same_nodes s (Some text) m n a b = same_number 1 16777216 text m n (omega arith) a.1 b.1
 
 same_job : (a b : Job) → a.command ≡ b.command → SameFiles a.model b.model a.script b.script a.number b.number
     → a.nodes ≡ b.nodes
@@ -115,10 +120,11 @@ same_job a b command files nodes main observer value dropped =
 of_one_line : (l : CommandWords) (a b : Job) → IsJobOf l a → IsJobOf l b → a ≡ b
 of_one_line l a b x y =
     let command = same_command a.command b.command (same_Some _ _ (sym x.command ∙ y.command)) in
-    let files = same_files (form_of_verb b.command) l.files a.model b.model a.script b.script a.number b.number
-    (subst (λ v. NamesFiles (form_of_verb v) l.files a.model a.script a.number) command x.files) y.files in
-    let nodes = same_nodes b.command l.nodes a.nodes b.nodes (subst (λ v. IsNodes v l.nodes a.nodes) command x.nodes)
-    y.nodes in
+    let shape = ap shape_of command in
+    let files = same_files (shape_of b.command).files l.files a.model b.model a.script b.script a.number b.number
+    (subst (λ (s : Shape). NamesFiles s.files l.files a.model a.script a.number) shape x.files) y.files in
+    let nodes = same_nodes (shape_of b.command) l.nodes a.nodes b.nodes
+    (subst (λ (s : Shape). IsNodes s l.nodes a.nodes) shape x.nodes) y.nodes in
     same_job a b command files nodes (x.main ∙ sym y.main) (x.observer ∙ sym y.observer) (x.value ∙ sym y.value)
     (x.dropped ∙ sym y.dropped)
 

@@ -1,4 +1,5 @@
 pub mod Lines
+pub mod Commands
 pub mod Jobs
 pub mod Told
 pub mod Generator

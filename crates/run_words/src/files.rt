@@ -2,13 +2,13 @@
 
 ghost use Rattle.std.specs.Prelude.{◌≡◌, ℕ, List, Option, map, option_map, IfOk, IfErr};
 ghost use Rattle.run_words.specs.declared.jobs.JobFault.TheVariants.{Usage, Memory as OutOfMemory};
-ghost use Rattle.run_words.specs.declared.verbs.Form.TheVariants.{Model, ModelAndScript, Number};
+ghost use Rattle.run_words.specs.declared.shapes.Form.TheVariants.{Model, ModelAndScript, Number};
 ghost use Rattle.run_words.specs.Jobs.{NamesFiles};
 ghost use Rattle.run_words.specs.Lines.{or_none};
 
 use crate::jobs::JobFault;
 use crate::numbers::number;
-use crate::verbs::Form;
+use crate::shapes::Form;
 use ar_base::Text;
 use std::alloc::Global;
 
@@ -40,7 +40,7 @@ pub(crate) fn named_files(
 {
     match form {
         Form::Model => only_model(alloc, files),
-        Form::ModelAndScript => model_and_script(alloc, files),
+        Form::ModelAndScript | Form::ModelAndList => model_and_second(alloc, files),
         Form::Number => components(alloc, files),
     }
 }
@@ -72,7 +72,7 @@ fn only_model(alloc: Global, files: Option<&[&str]>) -> Result<Named, JobFault>
     }
 }
 
-fn model_and_script(alloc: Global, files: Option<&[&str]>) -> Result<Named, JobFault>
+fn model_and_second(alloc: Global, files: Option<&[&str]>) -> Result<Named, JobFault>
     ensures found { IfOk result (λ n.
         NamesFiles ModelAndScript (or_none (option_map (λ s. map (λ w. w.now) s.now) files.entry))
         n.model n.script n.number) }

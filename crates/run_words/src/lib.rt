@@ -8,9 +8,11 @@ pub mod laws;
 mod lines;
 mod numbers;
 mod reading;
+mod shapes;
 mod verbs;
 
 pub use generator::make_text;
 pub use jobs::{Job, JobFault};
 pub use reading::read_job;
+pub use shapes::{Form, Reach, Shape, Takes};
 pub use verbs::Verb;

@@ -5,13 +5,15 @@ ghost use Rattle.ar_base.specs.Texts.{bytes_of_all};
 ghost use Rattle.run_words.specs.declared.jobs.Job.{Job as Jobs};
 ghost use Rattle.run_words.specs.declared.verbs.Verb.{Verb as Verbs};
 ghost use Rattle.run_words.specs.declared.jobs.JobFault.TheVariants.{Usage, Memory as OutOfMemory};
-ghost use Rattle.run_words.specs.Jobs.{IsJob, IsJobOf, IsTaken, IsNodes, OptionsFit, given_words, word_of, nodes_by_default};
+ghost use Rattle.run_words.specs.Commands.{word_of};
+ghost use Rattle.run_words.specs.Jobs.{IsJob, IsJobOf, IsTaken, IsUsed, IsNodes, OptionsFit, given_words, nodes_by_default};
 ghost use Rattle.run_words.specs.Told.{told};
 
 use crate::files::{named_files, text};
 use crate::jobs::{Job, JobFault};
 use crate::lines::{CommandLine, command_line, matches};
 use crate::numbers::number;
+use crate::shapes::{Form, Shape, Takes};
 use crate::verbs::{Verb, named as named_verb};
 use ar_base::Text;
 use std::alloc::Global;
@@ -63,13 +65,14 @@ fn job_of(alloc: Global, line: &CommandLine<'_, '_>) -> Result<Job, JobFault>
     let Some(command) = command_of(line.command) else {
         return Err(JobFault::Usage);
     };
-    if !options_fit(command, line) {
+    let shape = command.shape();
+    if !options_fit(shape, line) {
         return Err(JobFault::Usage);
     }
-    let Some(nodes) = nodes_of(command, line.nodes) else {
+    let Some(nodes) = nodes_of(shape, line.nodes) else {
         return Err(JobFault::Usage);
     };
-    let named = named_files(alloc, command.form(), line.files)?;
+    let named = named_files(alloc, shape.files, line.files)?;
     let main = given(alloc, line.main)?;
     let observer = given(alloc, line.observer)?;
     let value = given(alloc, line.value)?;
@@ -99,15 +102,14 @@ fn command_of(word: Option<&str>) -> Option<Verb>
     }
 }
 
-// Whether the command takes each option that is used, but for `--nodes`, and has an observer where it needs one.
-fn options_fit(command: Verb, line: &CommandLine<'_, '_>) -> bool
-    ensures { IsTrue result ↔ OptionsFit command (told line.now) }
+// Whether each option that is used is taken, but for `--nodes`, and each that is needed is used.
+fn options_fit(shape: Shape, line: &CommandLine<'_, '_>) -> bool
+    ensures { IsTrue result ↔ OptionsFit shape (told line.now) }
 {
-    is_taken(command.takes_main(), line.main)
-        && is_taken(command.takes_observer(), line.observer)
-        && (line.observer.is_some() || !command.needs_observer())
-        && is_taken(command.takes_value(), line.value)
-        && is_taken(command.takes_drop(), line.dropped)
+    is_taken(shape.main, line.main)
+        && is_used(shape.observer, line.observer)
+        && is_taken(shape.value, line.value)
+        && is_taken(shape.dropped, line.dropped)
 }
 
 // Whether an option is used only where it is taken.
@@ -117,15 +119,26 @@ fn is_taken(takes: bool, given: Option<&str>) -> bool
     takes || given.is_none()
 }
 
+// Whether an option is used only where it is taken, and also where it is needed.
+fn is_used(takes: Takes, given: Option<&str>) -> bool
+    ensures { IsTrue result ↔ IsUsed takes (option_map (λ s. s.now) given.entry) }
+{
+    match takes {
+        Takes::Never => given.is_none(),
+        Takes::May => true,
+        Takes::Must => given.is_some(),
+    }
+}
+
 // The node limit.
-fn nodes_of(command: Verb, given: Option<&str>) -> Option<u32>
-    ensures { MatchOption result ((n : ℕ) → IsNodes command (option_map (λ s. s.now) given.entry) n
-        → ⊥) (λ n. IsNodes command (option_map (λ s. s.now) given.entry) n) }
+fn nodes_of(shape: Shape, given: Option<&str>) -> Option<u32>
+    ensures { MatchOption result ((n : ℕ) → IsNodes shape (option_map (λ s. s.now) given.entry) n
+        → ⊥) (λ n. IsNodes shape (option_map (λ s. s.now) given.entry) n) }
 {
     match given {
-        None => Some(usual_nodes(command)),
+        None => Some(usual_nodes(shape.files)),
         Some(word) => {
-            if command.takes_nodes() {
+            if shape.nodes {
                 number(word, 1, MOST_NODES)
             } else {
                 None
@@ -135,11 +148,11 @@ fn nodes_of(command: Verb, given: Option<&str>) -> Option<u32>
 }
 
 // The node limit where none is given.
-fn usual_nodes(command: Verb) -> u32
-    ensures { result ≡ nodes_by_default command }
+fn usual_nodes(files: Form) -> u32
+    ensures { result ≡ nodes_by_default files }
 {
-    match command {
-        Verb::Make => MOST_NODES,
+    match files {
+        Form::Number => MOST_NODES,
         _ => USUAL_NODES,
     }
 }

@@ -1,8 +1,8 @@
-//! The commands, and what each takes.
+//! The commands, and the word of each.
 
 ghost use Rattle.std.specs.Prelude.{◌≡◌, ◌≢◌, MatchOption};
 ghost use Rattle.run_words.specs.declared.verbs.Verb.{Verb as Verbs};
-ghost use Rattle.run_words.specs.Jobs.{word_of, form_of_verb, takes_main, takes_observer, needs_observer, takes_value, takes_nodes, takes_drop};
+ghost use Rattle.run_words.specs.Commands.{word_of};
 
 /// A command of the program.
 #[derive(Clone, Copy)]
@@ -27,89 +27,6 @@ pub enum Verb {
     CheckCuts,
     /// `modules`: lists the cuts with the units that can be exchanged taken together.
     Modules,
-}
-
-// What stands behind the command.
-#[derive(Clone, Copy)]
-pub enum Form {
-    // The name of the model's file.
-    Model,
-    // The names of the model's file and of the script's or the list's.
-    ModelAndScript,
-    // A number from 1 to 200.
-    Number,
-}
-
-impl Verb {
-    // What stands behind the command.
-    pub(crate) fn form(self) -> Form
-        ensures { result ≡ form_of_verb self }
-    {
-        match self {
-            Verb::Check
-            | Verb::Flat
-            | Verb::Fragment
-            | Verb::Equations
-            | Verb::Cuts
-            | Verb::Modules => Form::Model,
-            Verb::Replay | Verb::Explain | Verb::CheckCuts => Form::ModelAndScript,
-            Verb::Make => Form::Number,
-        }
-    }
-
-    // Whether the command takes `--main`.
-    pub(crate) fn takes_main(self) -> bool
-        ensures { result ≡ takes_main self }
-    {
-        !matches!(self, Verb::Make)
-    }
-
-    // Whether the command takes `--observer`.
-    pub(crate) fn takes_observer(self) -> bool
-        ensures { result ≡ takes_observer self }
-    {
-        matches!(
-            self,
-            Verb::Equations | Verb::Cuts | Verb::Explain | Verb::CheckCuts | Verb::Modules
-        )
-    }
-
-    // Whether the command cannot do without `--observer`.
-    pub(crate) fn needs_observer(self) -> bool
-        ensures { result ≡ needs_observer self }
-    {
-        matches!(
-            self,
-            Verb::Equations | Verb::Cuts | Verb::CheckCuts | Verb::Modules
-        )
-    }
-
-    // Whether the command takes `--value`.
-    pub(crate) fn takes_value(self) -> bool
-        ensures { result ≡ takes_value self }
-    {
-        matches!(
-            self,
-            Verb::Equations | Verb::Cuts | Verb::CheckCuts | Verb::Modules
-        )
-    }
-
-    // Whether the command takes `--nodes`.
-    pub(crate) fn takes_nodes(self) -> bool
-        ensures { result ≡ takes_nodes self }
-    {
-        matches!(self, Verb::Cuts | Verb::CheckCuts | Verb::Modules)
-    }
-
-    // Whether the command takes `--drop`.
-    pub(crate) fn takes_drop(self) -> bool
-        ensures { result ≡ takes_drop self }
-    {
-        matches!(
-            self,
-            Verb::Fragment | Verb::Equations | Verb::Cuts | Verb::CheckCuts | Verb::Modules
-        )
-    }
 }
 
 // The command that a word names.

@@ -7,17 +7,17 @@ use Rattle.altarica_run.proofs.EndLemmas.{job_told, refusal_told, memory_told, s
 use Rattle.altarica_run.proofs.JobLemmas.{few_nodes}
 use Rattle.altarica_run.proofs.program.altarica.Goals as goal
 
-pub tell-requires-clause-commands : goal.tell-requires-clause-commands
-tell-requires-clause-commands g c = c.in-Ok.ensures.words.is_ready.requested.commands.firable
+pub tell_gathered-requires-clause-commands : goal.tell_gathered-requires-clause-commands
+tell_gathered-requires-clause-commands g c = c.in-Ok.ensures.words.is_ready.requested.commands.firable
 
-pub tell-requires-clause-forest : goal.tell-requires-clause-forest
-tell-requires-clause-forest g c = c.in-Ok.ensures.words.is_ready.forest.written
+pub tell_gathered-requires-clause-forest : goal.tell_gathered-requires-clause-forest
+tell_gathered-requires-clause-forest g c = c.in-Ok.ensures.words.is_ready.forest.written
 
-pub tell-requires-clause-ready : goal.tell-requires-clause-ready
-tell-requires-clause-ready g c = let p = c.in-Ok.ensures.words in (p.job, p.ready, p.is_ready)
+pub tell_gathered-requires-clause-ready : goal.tell_gathered-requires-clause-ready
+tell_gathered-requires-clause-ready g c = let p = c.in-Ok.ensures.words in (p.job, p.ready, p.is_ready)
 
-pub tell-requires-clause-nodes : goal.tell-requires-clause-nodes
-tell-requires-clause-nodes g c =
+pub tell_gathered-requires-clause-nodes : goal.tell_gathered-requires-clause-nodes
+tell_gathered-requires-clause-nodes g c =
     let p = c.in-Ok.ensures.words in
     let few = few_nodes _ p.job p.is_job in
     let same = p.is_ready.nodes in
@@ -31,7 +31,7 @@ returns-in-Ok g c =
     let p = c.in-Ok.ensures.words in
     record {
       ends = job_told files rose (bytes_of_all c.args.words.now) _ _ p.job p.ready p.is_job p.passes _
-          (c.tell.ensures p.job p.ready p.is_ready);
+          (c.tell_gathered.ensures p.job p.ready p.is_ready);
       untouched = λ none. same_shelf g.H.Shelf.holds g.H.Shelf.faults c.args.shelf.now c.prepare.new.shelf
           (c.in-Ok.ensures.untouched none);
     }

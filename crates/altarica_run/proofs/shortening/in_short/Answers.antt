@@ -1,5 +1,8 @@
-use Rattle.std.proofs.Common.{ap}
+use Rattle.std.proofs.Common.{◌≡◌, true, ap}
 use Rattle.std.proofs.lemmas.Result.{err_from_is_err_and}
+use Rattle.run_words.specs.Commands.{shape_of}
+use Rattle.run_words.specs.declared.verbs.Verb.{Verb}
+use Rattle.run_words.specs.declared.verbs.Verb.TheVariants.{Modules}
 use Rattle.gate_diagrams.specs.declared.answer.Drawn.TheVariants.{Cuts}
 use Rattle.table_laws.specs.Drawn.{sets_of}
 use Rattle.altarica_run.specs.Stages.{lists_cuts}
@@ -7,6 +10,10 @@ use Rattle.altarica_run.specs.Tells.{Tells}
 use Rattle.altarica_run.specs.declared.status.Status.TheVariants.{Done}
 use Rattle.altarica_run.proofs.CutLemmas.{forest_is, table, observed, source_observer, renamed, are_drawn, few_counted, short_told, none_printed, printed_partly, printed_whole}
 use Rattle.altarica_run.proofs.shortening.in_short.Goals as goal
+
+-- the command speaks of the units of the model
+units_asked : {v : Verb} → v ≡ Modules → (shape_of v).units ≡ true
+units_asked e = ap (λ (v : Verb). (shape_of v).units) e
 
 pub shorten-requires-clause-root : goal.shorten-requires-clause-root
 shorten-requires-clause-root g c = c.requires.answer.1
@@ -41,7 +48,7 @@ returns-in_err-print_modules g c = λ job w is e.
     c.len-sound_store.ensures.sound c.requires.answer.1 c.requires.within in
     let told = short_told job w p is i e (sets_of f) _ d.0 d.1
     (c.modules_of_the_source.ensures w.source p.system is.flat.flat w.dropped p.forest forest o (observed job w p is i)
-    q t.wanted.value (sets_of f) d.1 p.ranges.items (is.ranges.own e) c.in_ok-short.short
+    q t.wanted.value (sets_of f) d.1 p.ranges.items (is.ranges.own (units_asked e)) c.in_ok-short.short
     (rw c.deref.ensures.value at c.in_ok-short.ensures.short))
     few in
     printed_partly (Tells job w) _ Done told _ c.in_err-print_modules.ensures _ _ r.1 r.2
@@ -63,7 +70,7 @@ returns g c = λ job w is e.
     c.len-sound_store.ensures.sound c.requires.answer.1 c.requires.within in
     let told = short_told job w p is i e (sets_of f) _ d.0 d.1
     (c.modules_of_the_source.ensures w.source p.system is.flat.flat w.dropped p.forest forest o (observed job w p is i)
-    q t.wanted.value (sets_of f) d.1 p.ranges.items (is.ranges.own e) c.in_ok-short.short
+    q t.wanted.value (sets_of f) d.1 p.ranges.items (is.ranges.own (units_asked e)) c.in_ok-short.short
     (rw c.deref.ensures.value at c.in_ok-short.ensures.short))
     few in
     printed_whole (Tells job w) _ Done told tt c.in_ok-print_modules.ensures

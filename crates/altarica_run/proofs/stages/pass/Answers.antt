@@ -1,5 +1,6 @@
 use Rattle.std.proofs.lemmas.Result.{err_from_is_err_and}
 use Rattle.ar_base.proofs.Stages.{stage_stops, stage_passes}
+use Rattle.run_words.specs.Commands.{shape_of}
 use Rattle.altarica_run.specs.Elaborates.{Elaborates}
 use Rattle.altarica_run.specs.Loading.{texts_of}
 use Rattle.altarica_run.specs.Passing.{stop_told, IsFlattened, IsReady}
@@ -24,4 +25,4 @@ returns c =
     let t = c.args.texts in
     let f = c.in_ok-flattened.ensures in
     stage_passes stop_told (Elaborates job.main) (Readies job (texts_of job t)) t.model.items IsFlattened
-    (IsReady job) f.0 _ f.1 (c.ready.ensures (texts_of job t) f.0 (second_of job.command t) f.2)
+    (IsReady job) f.0 _ f.1 (c.ready.ensures (texts_of job t) f.0 (second_of (shape_of job.command).files t) f.2)

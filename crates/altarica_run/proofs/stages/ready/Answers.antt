@@ -5,7 +5,7 @@ use Rattle.gts_flatten.specs.Elaborating.{Elaborated}
 use Rattle.gts_flatten.specs.Flat.{IsFlat}
 use Rattle.altarica_run.specs.Loading.{script_texts}
 use Rattle.altarica_run.specs.Passing.{stop_told, IsRequested, HasRanges, IsReady}
-use Rattle.altarica_run.specs.Passing.{has_second}
+use Rattle.run_words.specs.Commands.{shape_of, is_second}
 use Rattle.altarica_run.specs.Stages.{Asks, Demands}
 use Rattle.altarica_run.specs.declared.stages.Prepared.{Prepared}
 use Rattle.altarica_run.proofs.ForestLemmas.{forest_stops, forest_here, table_trees, table_stops, all_ready}
@@ -24,7 +24,7 @@ pub forest_of-requires : goal.forest_of-requires
 forest_of-requires c =
     let source = c.requires.source in
     let f = c.in_ok-request.ensures ([] ∷ script_texts c.args.script.now) source.0
-    (second_here (has_second c.args.job.now.command) [] c.args.script.now) source.1 in
+    (second_here (is_second (shape_of c.args.job.now.command).files) [] c.args.script.now) source.1 in
     rw c.deref.ensures.value f.2.dropped.inside
 
 pub returns-in_err-forest : goal.returns-in_err-forest
@@ -43,7 +43,7 @@ pub table_of-requires : goal.table_of-requires
 table_of-requires c =
     let source = c.requires.source in
     let f = c.in_ok-request.ensures ([] ∷ script_texts c.args.script.now) source.0
-    (second_here (has_second c.args.job.now.command) [] c.args.script.now) source.1 in
+    (second_here (is_second (shape_of c.args.job.now.command).files) [] c.args.script.now) source.1 in
     f.2.wanted.inside
 
 pub returns-in_err-table : goal.returns-in_err-table

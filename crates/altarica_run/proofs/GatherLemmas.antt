@@ -1,0 +1,61 @@
+-- Text that was gathered and then handed on: what is so of the gathered text is so of the sink behind it.
+use Rattle.std.proofs.Common.{◌≡◌, ℕ, Bool, true, false, List, [], Option, Result, Ok, Err, sym, ap, subst}
+use Rattle.ar_io.proofs.Writing.{front_longer}
+use Rattle.ar_io.specs.Writing.{SinkState, IsFront, Appended, WroteFront, Writes}
+use Rattle.ar_io.specs.declared.outside.SinkFailed.{SinkFailed}
+use Rattle.ar_io.proofs.Gathering.{put_whole, put_front, put_nothing, rose_failed}
+use Rattle.ar_io.specs.Gathering.{gathered_state}
+use Rattle.run_words.specs.declared.jobs.Job.{Job}
+use Rattle.altarica_run.specs.Telling.{status_written, whole, cut, nothing, IsWrittenFor, written, stopped}
+use Rattle.altarica_run.specs.declared.status.Status.{Status}
+
+-- how the text of gathered output goes on to the sink in the end
+pub record IsHandedOn (start now : SinkState) (text : List ℕ) (failed : Bool) (r : Result (Unit {0}) SinkFailed)
+    : Type 0 where
+  pub writes : Writes start now text r
+  pub fails : failed ≡ true → r ≡ Err (record {})
+  pub empty : text ≡ [] → (r ≡ Ok tt) × (now ≡ start)
+
+-- first bytes of first bytes of a text are first bytes of it
+front_on : (old new : Option (List ℕ)) (t text : List ℕ) → IsFront t text → WroteFront old new t → WroteFront old new text
+front_on old new t text i h = subst (λ (z : List ℕ). WroteFront old new z) i.joined (front_longer t i.rest h)
+
+-- what was written to gathered output, of which nothing was told before
+module _ (job : Job) (told : List ℕ → Status → Type 0) {m n : ℕ} {s t : List ℕ} (a b : Bool)
+    (none : s ≡ []) where
+  -- the reference to the sink stays
+  pub same_reference : (ends : Status) → IsWrittenFor job told (gathered_state m s a) (gathered_state n t b) ends → n ≡ m
+  same_reference ends (written (whole {text = text} is h k)) = (put_whole text none h).0
+  same_reference ends (written (cut {text = text} is h k)) = (put_front text none h).0
+  same_reference ends (written (nothing e)) = (put_nothing a b none e).0
+  same_reference ends (stopped {text = text} replay is h k) = (put_front text none h).0
+
+  -- and the sink has it when it is handed on
+  module _ (fresh : a ≡ false) {start now : SinkState} where
+    pub handed_on : (r : Result (Unit {0}) SinkFailed) (ends : Status) → IsHandedOn start now t b r
+        → IsWrittenFor job told (gathered_state m s a) (gathered_state n t b) ends
+        → IsWrittenFor job told start now (status_written ends r)
+    handed_on (Ok x) ends on (written (whole {text = text} is h k)) =
+        let same = (put_whole text none h).1 in
+        written (whole is (subst (λ (z : List ℕ). Appended start.bytes now.bytes z) same on.writes.whole) on.writes.kept)
+    handed_on (Err x) ends on (written (whole {text = text} is h k)) =
+        let same = (put_whole text none h).1 in
+        written (cut is (subst (λ (z : List ℕ). WroteFront start.bytes now.bytes z) same on.writes.front) on.writes.rose)
+    handed_on (Ok x) ends on (written (cut is h k)) = let f = on.fails (rose_failed a b fresh k) in cc
+    handed_on (Err x) ends on (written (cut {text = text} is h k)) =
+        written (cut is (front_on start.bytes now.bytes t text (put_front text none h).1 on.writes.front) on.writes.rose)
+    handed_on (Ok x) ends on (written (nothing e)) = written (nothing (on.empty (put_nothing a b none e).1).1)
+    handed_on (Err x) ends on (written (nothing e)) = let i = (on.empty (put_nothing a b none e).1).0 in cc
+    handed_on (Ok x) ends on (stopped {text = text} replay is h k) =
+        stopped replay is (λ bytes e. (t, (put_front text none h).1, on.writes.whole bytes e)) on.writes.kept
+    handed_on (Err x) ends on (stopped {text = text} replay is h k) =
+        written (cut is (front_on start.bytes now.bytes t text (put_front text none h).1 on.writes.front) on.writes.rose)
+
+-- the same of the sink itself, where the reference to it is the one that was lent
+pub of_sink : {K : Type 0} (state : K → SinkState) {job : Job} {told : List ℕ → Status → Type 0} {m n : ℕ} {x y : K}
+    {start old : SinkState} {ends : Status}
+    → m ≡ n → (m ≡ n → x ≡ y) → start ≡ old → IsWrittenFor job told start (state y) ends
+    → IsWrittenFor job told old (state x) ends
+of_sink state {job} {told} {x = x} {y = y} {start = start} {ends = ends} same back begins h =
+    subst (λ (z : SinkState). IsWrittenFor job told z (state x) ends) begins
+    (subst (λ (z : SinkState). IsWrittenFor job told start z ends) (sym (ap state (back same))) h)

@@ -18,10 +18,10 @@ Note = namedtuple("Note", "file line column text cause")
 """What is shown: a place (line None: the file alone), the first line's text, and the cause or None."""
 
 FRAGMENT = {
-    "S1": "an event has a synchronised way",
+    "S1": "an event is synchronised: it fires other events",
     "S2": "a unit with transitions has no state",
-    "S3": "the guard of a way names more than its mode variable",
-    "S4": "the action of a way is about more than its mode variable, or does not give it one value of its domain",
+    "S3": "the guard of an event reads more than its own state",
+    "S4": "the action of an event is about more than its own state, or does not give it one value of its domain",
     "S5": "an event moves a state from two modes, or two states",
     "S6": "an event stays in its mode, or a mode is entered twice, or the initial mode is entered",
     "S7": "a part of an expression has more than 64 possible values",
@@ -646,6 +646,8 @@ def usage(words):
     if not found.others:
         return "there is no command: it is one of %s" % ", ".join(COMMANDS_FILES)
     command, files = found.others[0], found.others[1:]
+    if found.options.get("--drop", "").endswith(","):
+        return "the paths of --drop are joined by commas, without spaces: `%s` ends before the next one" % found.options["--drop"]
     if command not in COMMANDS_FILES:
         return "`%s` is no command%s" % (command, near(command, COMMANDS_FILES))
     if command == "make":

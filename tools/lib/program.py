@@ -11,16 +11,36 @@ TOP = os.path.dirname(os.path.dirname(HERE))
 
 STATUSES = {1: "usage", 2: "syntax", 3: "rule", 4: "outside", 5: "fault", 6: "nodes", 7: "read", 8: "write", 9: "memory",
             10: "size", 11: "script", 12: "words"}
+NAME = os.path.basename(sys.argv[0])
 VALUED = ("--main", "--observer", "--value", "--nodes", "--drop")
 
 
+def found():
+    """The program as words that call it, and whether it is one of this checkout without its proofs: the one that ALTARICA
+    names, else the proved one of this checkout, else the one that `./altarica --unproved` has compiled here, else that of the path."""
+    for path in (os.environ.get("ALTARICA"), os.path.join(TOP, "out", "altarica"),
+                 os.path.join(TOP, "crates", "altarica_main", "out", "altarica_main")):
+        if path and is_program(path):
+            return [path], False
+    path = os.path.join(TOP, "out", "unproved")
+    if is_program(path):
+        try:
+            with open(path + ".loader", "rb") as it:
+                loader = [os.fsdecode(word) for word in it.read().split(b"\0") if word]
+        except OSError:
+            loader = []
+        if all(map(is_program, loader[:1])):
+            return [*loader, path], True
+    return ["altarica"], False
+
+
+def is_program(path):
+    return os.access(path, os.X_OK) and not os.path.isdir(path)
+
+
 def program():
-    """The program under ALTARICA, else that of this checkout, else that of the path."""
-    for found in (os.environ.get("ALTARICA"), os.path.join(TOP, "out", "altarica"),
-                  os.path.join(TOP, "crates", "altarica_main", "out", "altarica_main")):
-        if found and os.access(found, os.X_OK) and not os.path.isdir(found):
-            return found
-    return "altarica"
+    """The file of the program."""
+    return found()[0][-1]
 
 
 asked = []
@@ -29,12 +49,16 @@ asked = []
 
 def run(words):
     """The status and the text that the program writes for these words."""
+    called, is_unproved = found()
+    if is_unproved and not asked:
+        sys.stderr.write("%s: no proved program is built here, so this takes out/unproved: nothing of this run is proved\n" % NAME)
     asked.append(words)
     try:
-        done = subprocess.run([program(), *words], stdout=subprocess.PIPE, stdin=subprocess.DEVNULL, check=False)
+        done = subprocess.run([*called, *words], stdout=subprocess.PIPE, stdin=subprocess.DEVNULL, check=False,
+                              env={} if is_unproved else None)
     except OSError as error:
-        sys.exit("%s: %s: there is no program: run ./altarica once, or set ALTARICA" % (
-            os.path.basename(sys.argv[0]), error.filename or program()))
+        sys.exit("%s: %s: there is no program: ./altarica --unproved check examples/ring.alt compiles one in minutes, without "
+                 "proofs; or set ALTARICA" % (NAME, error.filename or called[0]))
     return done.returncode, done.stdout.decode("latin-1")
 
 

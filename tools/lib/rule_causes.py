@@ -263,13 +263,13 @@ def setting_target(text):
                 if words in [[w.text for w in s.words] for s in member.parts[2][:number]]:
                     return "this declaration sets `%s` already" % ".".join(words)
                 inner = Scope(text.bodies.classes[member.parts[0].text], scope)
-                return target_cause(text, inner, words)
+                return target_cause(text, inner, words, member.parts[1][0].text)
         return None
     return text.first(cause)
 
 
-def target_cause(text, scope, words):
-    """Why words of a setting have no target in a scope."""
+def target_cause(text, scope, words, part):
+    """Why words of a setting have no target in a scope; `part` is the part that is set."""
     attribute = words[-1] if words[-1] in ("init", "reset") else None
     names = words[:-1] if attribute else words
     if not names:
@@ -285,10 +285,10 @@ def target_cause(text, scope, words):
                 return "`%s` in the %s is no part: a setting goes through parts, not through aliases" % (
                     name, unit_named(scope))
             scope = text.bodies.inner(scope, name, found[1])
-    return last_cause(scope, names[-1], attribute, found)
+    return last_cause(scope, names[-1], attribute, found, ".".join([part, *names]))
 
 
-def last_cause(scope, name, attribute, found):
+def last_cause(scope, name, attribute, found, path):
     kind, member = found
     if kind in ("parameter", "kept"):
         return "`%s` is a parameter: it is set by its name alone" % name if attribute else None
@@ -296,6 +296,9 @@ def last_cause(scope, name, attribute, found):
         return "`%s` in the %s is %s, and parameters, `init` and `reset` are set alone" % (name, unit_named(scope),
                                                                                         WORDS[kind])
     own = ".".join(w.text for w in member.parts[2][0].words) if member.parts[2] else "init"
+    if own == "reset" and attribute is None:
+        return ("`%s` is a flow, and a setting feeds nothing: write `assertion %s := VALUE;` in the unit above. `%s.reset` is its "
+                "value where no assertion gives it one" % (name, path, name))
     if attribute != own:
         return "`%s` is a %s: it is set as `%s.%s`" % (name, "state" if own == "init" else "flow", name, own)
     return None
@@ -331,7 +334,11 @@ def path_cause(text, scope, member):
 def named(text, scope, path, wanted):
     """Why a path names nothing of this kind."""
     if wanted == "variable" and not path.start and len(path.names) == 1 and path.names[0].text in text.bodies.symbols:
-        return None
+        name = path.names[0].text
+        kind = (text.bodies.find(scope, name) or ("variable",))[0]
+        return None if kind in ("variable", "parameter") else (
+            "`%s` is %s of the %s, which hides the symbol `%s`: give one of them another name" % (
+                name, WORDS[kind], unit_named(scope), name))
     try:
         found = text.bodies.thing(scope, path)
     except Missing as missing:
@@ -351,12 +358,28 @@ def alone(text, missing, path):
     if len(path.names) > 1 or path.start:
         if missing.found:
             return "`%s` in the %s is %s and no unit" % (missing.name, unit_named(missing.where), WORDS[missing.found[0]])
-        return "the %s has no member `%s`%s" % (
+        return "the %s has no member `%s`%s%s" % (
             unit_named(missing.where), missing.name, near(missing.name, [t.text for t, _, _ in text.bodies.names(
-                missing.where.unit)]))
+                missing.where.unit)]), of_the_main_block(text, missing, path))
+    if missing.name.lower() in ("true", "false"):
+        return "the truth values are written `true` and `false`, in small letters"
     known = [t.text for t, k, _ in text.bodies.names(missing.where.unit) if k in ("variable", "parameter")]
     return "`%s` is no variable or parameter of the %s, and no domain has such a symbol%s" % (
         missing.name, unit_named(missing.where), near(missing.name, known + list(text.bodies.symbols)))
+
+
+def of_the_main_block(text, missing, path):
+    """What to write where the main block has a member that a unit inside it lacks."""
+    main = text.bodies.main
+    if missing.number or main is None or missing.where.unit is main or not text.bodies.find(Scope(main, None), missing.name):
+        return ""
+    scope = missing.where
+    while scope is not None:
+        if scope.unit.kind == "class":
+            return ("; the main block has one: a class takes what is outside of it by a flow, which the unit above sets for each "
+                    "part")
+        scope = scope.owner
+    return "; the main block has one, `main.%s`" % ".".join(n.text for n in path.names)
 
 
 def constant_cause(text, scope, member):

@@ -8,6 +8,7 @@ from collections import namedtuple
 import grammar
 import hierarchy
 import program
+import settle
 import texts
 import tokens
 import values
@@ -17,10 +18,10 @@ Note = namedtuple("Note", "file line column text cause")
 """What is shown: a place (line None: the file alone), the first line's text, and the cause or None."""
 
 FRAGMENT = {
-    "S1": "an event has a synchronised way",
+    "S1": "an event is synchronised: it fires other events",
     "S2": "a unit with transitions has no state",
-    "S3": "the guard of a way names more than its mode variable",
-    "S4": "the action of a way is about more than its mode variable, or does not give it one value of its domain",
+    "S3": "the guard of an event reads more than its own state",
+    "S4": "the action of an event is about more than its own state, or does not give it one value of its domain",
     "S5": "an event moves a state from two modes, or two states",
     "S6": "an event stays in its mode, or a mode is entered twice, or the initial mode is entered",
     "S7": "a part of an expression has more than 64 possible values",
@@ -181,6 +182,10 @@ def _synchronised(asked, text, path):
 
 def _without_state(asked, text, path):
     for way in asked.flat.ways:
+        moved = list(dict.fromkeys(one.target for one in way.sets))
+        if (way.event.rpartition(".")[0] or "main") == path and len({m.rpartition(".")[0] for m in moved}) > 1:
+            return asked.at_transition(way.event, text, "it moves states of several units, %s: such a common cause is a unit with a "
+                                       "state of its own, which the others read through flows" % quoted(moved[:4]))
         if (way.event.rpartition(".")[0] or "main") == path and way.sets:
             return asked.at_transition(way.event, text, "its unit has no state of its own, and it moves `%s`: write the event in "
                                        "the unit of that state" % way.sets[0].target)
@@ -202,8 +207,10 @@ def _action(asked, text, path):
     for way in modes.ways:
         others = modes.others(way)[1]
         if modes.variable(way) == path and others:
-            return asked.at_transition(way.event, text, "its action names %s besides `%s`, and an event is about one state" % (
-                quoted(others), path))
+            units = {one.target.rpartition(".")[0] for one in way.sets}
+            common = ": what breaks several units is a common cause, a unit with a state of its own" if len(units) > 1 else ""
+            return asked.at_transition(way.event, text, "its action names %s besides `%s`, and an event is about one state%s" % (
+                quoted(others), path, common))
     for way, mode, given in modes.edges(path):
         if len(given) != 1:
             what = "nothing" if not given else "the values " + " and ".join(given)
@@ -275,18 +282,30 @@ def quoted(names):
 
 # Faults of runs and of listings.
 
-def flow_fault(asked, text, fault):
-    """A note on a fault of flows: `flow P has two values`, `flow P is outside its domain`, `assignment K .. not hold`."""
+def flow_fault(asked, text, fault, state=None):
+    """A note on a fault of flows: `flow P has two values`, `flow P is outside its domain`, `assignment K .. not hold`.
+    Where the state is known in which they have no values, the cause is that in this state."""
     found = re.fullmatch(r"assignment ([0-9]+) at ([0-9]+):([0-9]+) does not hold", fault)
     if found:
         number, line, column = map(int, found.groups())
-        return Note(asked.model, line, column, text, not_held(asked, number))
+        return Note(asked.model, line, column, text, not_held(asked.flat, number, state))
     path = re.fullmatch(r"flow (\S+) (?:has two values|is outside its domain)", fault).group(1)
     if fault.endswith("two values"):
-        return asked.note(path, text, two_values(asked.flat, path))
+        return asked.note(path, text, two_values(asked.flat, path, state))
     at = " or ".join(places(asked.flat).get(path, []))
     return asked.note(path, text, "its domain is %s, and an assignment at %s gives it another value" % (
         asked.flat.variables[path].domain, at))
+
+
+def state_after(flat, labels):
+    """The state after these events, or None where it cannot be found."""
+    try:
+        state = settle.first_state(flat)
+        for label in labels:
+            state = settle.after(flat, state, label)
+        return state
+    except (LookupError, ValueError, TypeError, StopIteration, values.NotKnown):
+        return None
 
 
 def places(flat):
@@ -297,7 +316,11 @@ def places(flat):
     return found
 
 
-def two_values(flat, path):
+def two_values(flat, path, state):
+    found = settle.facts(flat, state) if state is not None else {}
+    if len(found.get(path, ())) > 1:
+        first, second = (given_by(found, path, value) for value in list(found[path])[:2])
+        return "in this state %s, and %s" % (first, second)
     at = places(flat)
     before = sorted(p for p in before_all(flat, [a.set for a in flat.asserts if a.set.target == path]) - {path}
                     if len(at.get(p, ())) > 1)
@@ -306,6 +329,13 @@ def two_values(flat, path):
             " and ".join(at[path]), "which give" if len(at[path]) == 2 else "and two of them give")
     said = ["`%s` at %s" % (p, " and ".join(at[p])) for p in [path] + before[:3]]
     return "it, or a flow on which it depends, is set to two values: the assignments are those of %s" % ", of ".join(said)
+
+
+def given_by(found, path, value):
+    """The assignment from which a flow has a value, in words."""
+    one, (last, of) = found[path][value], settle.source(found, path, value)
+    passed = "" if of == path else " from `%s`, set at %d:%d" % (of, last.line, last.column)
+    return "the assignment at %d:%d gives %s%s" % (one.line, one.column, values.text_of(value), passed)
 
 
 def before_all(flat, sets):
@@ -323,48 +353,123 @@ def before_all(flat, sets):
     return seen
 
 
-def unset_before(flat, number):
-    """The flows without assignments on which an assignment depends."""
-    seen = before_all(flat, [a.set for a in flat.asserts if a.number == number])
-    set_by = {a.set.target for a in flat.asserts}
-    return [p for p, v in flat.variables.items() if p in seen and not v.state and p not in set_by]
-
-
-def set_under_conditions(flat, number):
-    """The flows on which an assignment depends, and not they on themselves, that are assigned under conditions alone, with the places."""
-    seen, own = before_all(flat, [a.set for a in flat.asserts if a.number == number]), {}
-    for one in flat.asserts:
-        own.setdefault(one.set.target, []).append(one.set)
-    return [(p, places(flat)[p]) for p in flat.variables if p in seen and p in own and all(s.conditions for s in own[p])
-            and not covered(own[p]) and p not in before_all(flat, own[p])]
-
-
 def covered(sets):
     """Whether one of the assignments is for where a condition holds and one for where it does not."""
     alone = {s.conditions[0] for s in sets if len(s.conditions) == 1}
     return any((condition, not wanted) in alone for condition, wanted in alone)
 
 
-def not_held(asked, number):
-    unset = unset_before(asked.flat, number)
+class Waiting:
+    """The flows that have no value but their reset, of those on which an assignment depends through such flows. Where the state
+    is not known, these are all on which it depends."""
+
+    def __init__(self, flat, number, state):
+        self.flat, self.state, self.of = flat, state, {}
+        for one in flat.asserts:
+            self.of.setdefault(one.set.target, []).append(one.set)
+        self.one = next(a.set for a in flat.asserts if a.number == number)
+        self.found = settle.facts(flat, state) if state is not None else {}
+        self.known = {**(state or {}), **{p: next(iter(v)) for p, v in self.found.items()}}
+        self.direct = self.named([self.one])
+        self.all = self.reached(self.direct)
+        self.is_in_loop = self.one.target not in self.known and self.one.target in self.all
+
+    def is_flow(self, name):
+        return name in self.flat.variables and not self.flat.variables[name].state
+
+    def named(self, sets):
+        """The flows without a value that these assignments name, in the order of the model."""
+        names = set().union(*(settle.names_of(one) for one in sets)) if sets else set()
+        return [p for p in self.flat.variables if p in names and self.is_flow(p) and p not in self.known]
+
+    def live(self, path):
+        """The assignments of a flow that may give it a value in this state."""
+        sets = self.of.get(path, [])
+        return sets if self.state is None else [s for s in sets if settle.is_on(s, self.flat.variables, self.known) is not False]
+
+    def reached(self, paths):
+        seen, todo = set(paths), list(paths)
+        while todo:
+            for name in set().union(*(settle.names_of(one) for one in self.live(todo.pop()))):
+                if self.is_flow(name) and name not in self.known and name not in seen:
+                    seen.add(name)
+                    todo.append(name)
+        return [p for p in self.flat.variables if p in seen]
+
+    def unset(self):
+        return [p for p in self.all if p not in self.of]
+
+    def partly(self):
+        """Those that are assigned under conditions alone, of which none holds here, and that are in no loop or tie."""
+        return [p for p in self.all if p in self.of and all(s.conditions for s in self.of[p]) and not covered(self.of[p])
+                and not (self.state is not None and self.live(p)) and p not in before_all(self.flat, self.of[p])]
+
+    def loop(self):
+        """The flows that depend on the target and it on them."""
+        return [p for p in self.all if self.one.target in self.reached([p])]
+
+    def reset(self, path):
+        return self.flat.variables[path].value
+
+
+def not_held(flat, number, state=None):
+    """Why an assignment does not hold, in a state or, where it is not known, in some state."""
+    waiting = Waiting(flat, number, state)
+    target = waiting.one.target
+    if target in waiting.found:
+        return set_elsewhere(waiting)
+    unset = waiting.unset()
     if unset:
         shown = quoted(unset[:3]) + (" and %d more" % (len(unset) - 3) if len(unset) > 3 else "")
         return ("it depends on %s, which no assertion sets: a reset value is there in the end alone, and gives no assignment "
                 "its value on the way" % shown)
-    partly = set_under_conditions(asked.flat, number)
+    partly = waiting.partly()
     if partly:
-        path, at = partly[0]
         return ("it depends on `%s`, which is set under conditions alone, at %s: where none of them holds, `%s` has no value but "
-                "its reset, in the end: set it there too, as by `else`" % (path, " and ".join(at), path))
-    one = next(a.set for a in asked.flat.asserts if a.number == number)
-    said = "no value follows for `%s`, so it has its reset value %s, and with that its assignment gives another one" % (
-        one.target, asked.flat.variables[one.target].value)
-    before = before_all(asked.flat, [one])
-    loops = [p for p in sorted(before) if p in before_all(asked.flat, [a.set for a in asked.flat.asserts if a.set.target == p])]
-    if not loops:
-        return said
-    return "%s: `%s` depends on itself. In a loop write `and` and `or`, without `not`, `==`, `if` and `+` on its flows, and give " \
-           "them one reset value" % (said, one.target if one.target in loops else loops[0])
+                "its reset, in the end: set it there too, as by `else`" % (
+                    partly[0], " and ".join(places(flat)[partly[0]]), partly[0]))
+    if state is None:
+        return ("where no value follows for `%s`, it has its reset value %s, and with that its assignment gives another one: look "
+                "for a loop of flows, and for `not`, `==` or `if` on a flow that nothing feeds" % (target, waiting.reset(target)))
+    return in_loop(waiting) if waiting.is_in_loop else reads_dead(waiting)
+
+
+def set_elsewhere(waiting):
+    """The cause where the target has its value from another assignment."""
+    (value, by), *_ = waiting.found[waiting.one.target].items()
+    dead = waiting.direct
+    said = "`%s` is %s by the assignment at %d:%d, and %s, which this one reads, %s no value in this state but %s reset" % (
+        waiting.one.target, values.text_of(value), by.line, by.column, quoted(dead[:3]), "has" if len(dead) == 1 else "have",
+        "its" if len(dead) == 1 else "their")
+    if dead == [waiting.one.value]:
+        return "%s, %s. If both are one and the same, tie them: `%s :=: %s`" % (
+            said, waiting.reset(dead[0]), waiting.one.target, dead[0])
+    return said
+
+
+def in_loop(waiting):
+    """The cause where the target depends on itself, and nothing gives the loop a value."""
+    target, loop = waiting.one.target, waiting.loop()
+    said = "no value follows for `%s` in this state, so it has its reset value %s, and with that its assignment gives another " \
+           "one" % (target, waiting.reset(target))
+    other = next((p for p in loop if waiting.reset(p) != waiting.reset(target)), None)
+    if other is not None:
+        return "%s: it is in a loop with `%s`, which has the reset %s: give the flows of one loop one reset value" % (
+            said, other, waiting.reset(other))
+    return ("%s: `%s` depends on itself. In a loop write `and`, `or`, `:=:` and `if CONDITION then`, and no `not`, comparison, "
+            "`count`, sum or `else` with its flows" % (said, target))
+
+
+def reads_dead(waiting):
+    """The cause where what the assignment reads has no value but its reset, as behind a ring that nothing feeds."""
+    target, dead = waiting.one.target, waiting.direct
+    said = "%s %s no value in this state but %s reset, in the end, when `%s` has its own, %s, already" % (
+        quoted(dead[:3]), "has" if len(dead) == 1 else "have", "its" if len(dead) == 1 else "their", target,
+        waiting.reset(target))
+    if any(target in settle.names_of(a.set) for a in waiting.flat.asserts):
+        return "%s: let the assertions that read `%s` do without it, or without `not` and comparisons" % (said, target)
+    return "%s: read %s with `not` in an observer alone, or give `%s` the reset that it then has" % (
+        said, "it" if len(dead) == 1 else "them", target)
 
 
 def fault(asked, line):
@@ -372,12 +477,12 @@ def fault(asked, line):
     body = line[len("fault: "):]
     listed = re.fullmatch(r"\{(.*)\}: (.*)", body)
     if listed:
-        note = flow_fault(asked, line, listed.group(2))
         events = listed.group(1)
+        note = flow_fault(asked, line, listed.group(2), state_after(asked.flat, [e for e in events.split(", ") if e]))
         return note._replace(text=line if events else line + " (at the start)")
     where, what = body.split(": ", 1)
     if where == "start":
-        return flow_fault(asked, line, what)
+        return flow_fault(asked, line, what, settle.first_state(asked.flat))
     if where == "back":
         return script_line(asked, line, "no step is left to take back here")
     if what == "not enabled":
@@ -385,7 +490,7 @@ def fault(asked, line):
     if what.startswith("two values for ") or what.endswith(" outside its domain"):
         return asked.at_transition(texts.event_of(where), line, "its action gives the variable %s" % (
             "two different values at once" if what.startswith("two") else "a value that its domain does not have"))
-    return flow_fault(asked, line, what)
+    return flow_fault(asked, line, what, state_of_script(asked))
 
 
 def way_of(asked, label):
@@ -404,16 +509,34 @@ def not_enabled(asked, label):
     return "its guard is false then: %s" % way.guard
 
 
-def script_line(asked, text, cause):
-    """A note on the command of a script at which a replay ends."""
+def commands(asked):
+    """The commands of a script with their numbers of lines, and how many of them were done when a replay ended."""
     trace = program.run(["replay", asked.model, asked.script, *asked.words.some("--main")])[1]
     done = sum(1 for l in trace.splitlines() if re.match(r"(fire |back$|show$|enabled$)", l))
-    for number, line in enumerate(tokens.read(asked.script).split("\n"), 1):
-        if line.strip(" \t\r") and not line.strip(" \t\r").startswith("//"):
-            if done == 0:
-                return Note(asked.script, number, len(line) - len(line.lstrip(" \t")) + 1, text, cause)
-            done -= 1
+    lines = [(number, line) for number, line in enumerate(tokens.read(asked.script).split("\n"), 1)
+             if line.strip(" \t\r") and not line.strip(" \t\r").startswith("//")]
+    return lines, done
+
+
+def script_line(asked, text, cause):
+    """A note on the command of a script at which a replay ends."""
+    lines, done = commands(asked)
+    for number, line in lines[done:done + 1]:
+        return Note(asked.script, number, len(line) - len(line.lstrip(" \t")) + 1, text, cause)
     return Note(asked.script, None, None, text, cause)
+
+
+def state_of_script(asked):
+    """The state in which a replay of the script finds a fault of flows, or None."""
+    lines, done = commands(asked)
+    events = []
+    for _, line in lines[:done + 1]:
+        word, _, label = line.strip(" \t\r").partition(" ")
+        if word == "fire":
+            events.append(label.strip())
+        elif word == "back":
+            del events[-1:]
+    return state_after(asked.flat, events)
 
 
 # Scripts, lists and words.
@@ -523,6 +646,8 @@ def usage(words):
     if not found.others:
         return "there is no command: it is one of %s" % ", ".join(COMMANDS_FILES)
     command, files = found.others[0], found.others[1:]
+    if found.options.get("--drop", "").endswith(","):
+        return "the paths of --drop are joined by commas, without spaces: `%s` ends before the next one" % found.options["--drop"]
     if command not in COMMANDS_FILES:
         return "`%s` is no command%s" % (command, near(command, COMMANDS_FILES))
     if command == "make":

@@ -39,6 +39,9 @@ NEAR = {
     "endclass": "end", "endblock": "end", "ends": "end",
 }
 
+SECTIONS = ("event", "transition", "assertion", "observer", "parameter", "extends")
+"""Words of the language after which no class is called."""
+
 OPERATORS = {
     "xor": "there is no `xor`: of truth values it is written `a != b`",
     "mod": "there is no remainder and no division",
@@ -130,7 +133,8 @@ def _of_header(fault):
         if at.kind == ";" and before.kind == ";":
             return "one `;` ends a declaration, a transition or an assertion: this is one more"
         if at.kind in ("class", "domain"):
-            return "a `%s` is an item of the text: the body before it needs its `end`" % at.kind
+            inner = "; a part that exists once is a `block` in the body" if at.kind == "class" else ""
+            return "a `%s` is an item of the text: the body before it needs its `end`%s" % (at.kind, inner)
     if at.kind == ";" and before is not None and before.kind == ";" and "skip" in fault.wanted:
         return "one `;` ends a declaration, a transition or an assertion: this is one more"
     if at.kind == ":" and fault.wanted == {"name"}:
@@ -180,6 +184,9 @@ def _of_declaration(fault):
     if at.kind == "[" and form == "declaration":
         return "there are no arrays of parts: each has a name of its own, as `C c1, c2, c3;`"
     if at.kind == "(" and form == "declaration" and "," in fault.wanted:
+        first = fault.open[-1][1]
+        if first.text.lower() == "event":
+            return "`%s` is no word of the language: it is written `event`" % first.text
         return "attributes of events cannot be set from outside: they are kept and not read"
     if at.kind in RESERVED and "name" in fault.wanted and before.kind in ("name", "Boolean", ",", "event", "as", "class",
                                                                          "block", "domain", "{"):
@@ -215,7 +222,7 @@ def _of_section(fault, after):
         if form == "transition of an event" or before.line == at.line:
             section = next(f for f, _ in reversed(fault.open) if f in ("transition", "assertion"))
             cause = ("a declaration that begins with a name comes before the first `transition` or `assertion` of its body, "
-                     "and this one comes in the section `%s`" % section)
+                     "and this one comes in the section `%s`" % section) + inner_end(fault)
             return cause + ("; or the `:=` of an assignment is missing" if section == "assertion" and after.kind == ";" else "")
     if at.kind == "switch" and form == "instruction":
         return "`switch` is an expression, after `:=`, as `s := switch { case TEST: VALUE default: VALUE };`"
@@ -225,6 +232,8 @@ def _of_section(fault, after):
             at.kind in ("then", "=", ":=") and not (at.kind == "=" and not followed(at, after, ">")) or at.kind == "name"
             and at.text.lower() not in RESERVED and at.text not in OPERATORS):
         return "a transition is written `EVENT: GUARD -> ACTION;`, with `->` between the guard and the action"
+    if at.kind == ";" and "->" in fault.wanted and "and" in fault.wanted:
+        return "a transition has an action behind its guard, as `EVENT: GUARD -> STATE := VALUE;`"
     if at.kind == "->" and "not" in fault.wanted:
         return "a transition has a guard before `->`: where it can always happen, this is `true`"
     if at.kind == "==" and ":=" in fault.wanted:
@@ -237,6 +246,10 @@ def _of_section(fault, after):
         return "the parts of a synchronisation are joined by `&`"
     if at.kind == ":" and "skip" in fault.wanted:
         return "no `:` follows `assertion`"
+    if at.kind == "," and ":=" in fault.wanted and form == "instruction":
+        return "an assignment sets one flow: write one for each, as `a := x; b := x;`"
+    if at.kind == "not" and "skip" in fault.wanted:
+        return "an action gives a state its new value, as `ok := false`"
     if at.kind == "=" and ":=" in fault.wanted:
         return "an assignment is written `:=`; `=` is for declarations alone"
     if at.kind == "," and form == "transition of an event" and ":" in fault.wanted:
@@ -259,6 +272,8 @@ def _of_expression(fault, after):
     if "else" in fault.wanted and "and" in fault.wanted and at.kind in (";", "end", ")", "}", ","):
         return "an `if` in an expression has an `else`, so that it always has a value"
     if "and" in fault.wanted:
+        if at.kind == ";" and ")" in fault.wanted and "," in fault.wanted:
+            return "the operands of `count`, `min` and `max` have commas between them, and end with `)`"
         if at.kind == ";" and ")" in fault.wanted:
             return "a bracket is open: a `)` is missing before the `;`"
         if at.kind == ")" and ")" not in fault.wanted:
@@ -275,6 +290,10 @@ def _of_expression(fault, after):
             return "there is no division"
         if at.kind == "!":
             return "`not` is a word: `!` marks the parts of a synchronisation alone"
+        if at.kind == "name" and before.kind == "whole" and adjacent(before, at):
+            return "at least two of three is written `count(a, b, c) >= 2`"
+        if at.kind == ":=" and ";" in fault.wanted:
+            return "an assignment sets one flow: write one for each, as `a := x; b := x;`"
         if at.kind == "name" and at.text in OPERATORS:
             return OPERATORS[at.text]
         if at.kind == "(" and before.kind == "name":
@@ -300,7 +319,8 @@ def meant(token, is_first):
 def _of_word(fault):
     """A cause where the form at the place begins with a name that is nearly a word of the language."""
     first, before, at = fault.open[-1][1] if fault.open else fault.at, fault.before, fault.at
-    is_class = fault.open and fault.open[-1][0] == "declaration" and first is not before and first.text.istitle()
+    is_class = (fault.open and fault.open[-1][0] == "declaration" and first is not before and first.text.istitle()
+                and first.text.lower() not in SECTIONS)
     tokens = [] if is_class else [first]
     is_name = fault.open and before is not None and fault.open[-1][0].endswith(" " + before.text)
     if before is not None and before.line == at.line:
@@ -325,7 +345,7 @@ def of_syntax(fault, after):
     if at.kind in NOT_MEMBERS and "extends" in fault.wanted:
         return _of_header(fault) or NOT_MEMBERS[at.kind]
     if "extends" in fault.wanted and at.kind == "name":
-        return ("a declaration that begins with a name comes before the first `transition` or `assertion` of its body")
+        return _of_member(fault, after)
     tries = [lambda: _of_section(fault, after), lambda: _of_lists(fault), lambda: _of_header(fault),
              lambda: _of_declaration(fault), lambda: _of_settings(fault), lambda: _of_expression(fault, after)]
     if at.kind == "END":
@@ -339,6 +359,22 @@ def of_syntax(fault, after):
         if cause:
             return cause
     return "this is %s, and what can come here is %s" % (name_of(at), listed(fault.wanted))
+
+
+def _of_member(fault, after):
+    """A cause where a name begins a member behind the first section of a body."""
+    if after is not None and after.kind in (":", ":=", ":=:", "."):
+        section = "transition" if after.kind == ":" else "assertion"
+        return ("the member before it has ended the section `%s`: write `%s` again before `%s`, or move that member up, before the "
+                "section" % (section, section, fault.at.text))
+    return ("a declaration that begins with a name comes before the first `transition` or `assertion` of its body" +
+            inner_end(fault))
+
+
+def inner_end(fault):
+    """Which `end` may be missing where a declaration comes too late: that of an inner block."""
+    inner = [(form, first) for form, first in fault.open[1:] if form.startswith("block ")]
+    return "; or the `end` of `%s`, which begins on line %d, is missing" % (inner[-1][0], inner[-1][1].line) if inner else ""
 
 
 def _of_item(fault):

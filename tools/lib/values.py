@@ -104,11 +104,15 @@ class Reader:
         if re.fullmatch(r"-[0-9]+", sign):
             return clamp(left + int(self.next()))
         self.next()
-        right = self.value()
-        return {"and": lambda: left and right, "or": lambda: left or right, "==": lambda: left == right,
-                "!=": lambda: left != right, "<": lambda: left < right, "<=": lambda: left <= right,
-                ">": lambda: left > right, ">=": lambda: left >= right, "+": lambda: clamp(left + right),
-                "-": lambda: clamp(left - right), "*": lambda: clamp(left * right)}[sign]()
+        return combined(sign, left, self.value())
+
+
+def combined(sign, left, right):
+    """What an operator makes of two values."""
+    return {"and": lambda: left and right, "or": lambda: left or right, "==": lambda: left == right,
+            "!=": lambda: left != right, "<": lambda: left < right, "<=": lambda: left <= right,
+            ">": lambda: left > right, ">=": lambda: left >= right, "+": lambda: clamp(left + right),
+            "-": lambda: clamp(left - right), "*": lambda: clamp(left * right)}[sign]()
 
 
 def evaluate(text, variables, known):

@@ -1,6 +1,6 @@
 #!/usr/bin/env bash
 # `draw` on the example plants: the gates that it shows have the values of `equations`, each unit and each mode is there,
-# and without `dot` the text for it is written.
+# and without `dot` no picture is written.
 . "$(dirname "$0")/points.bash"
 usage draw
 
@@ -42,7 +42,8 @@ read -ra words <<<"$(words_of ring)"
 python=$(python3 -c 'import sys; print(sys.executable)')
 mkdir "$work/bin"
 PATH=$work/bin "$python" tools/draw gates examples/ring.alt "${words[@]}" >"$work/without" 2>"$work/said"
-equal "without dot its text is written, and a line says so" 'digraph "gates" { 1' "$(head -n 1 "$work/without") $(grep -c 'apt-get install graphviz' "$work/said")"
+drawn=$?
+equal "without dot no picture is written, and a line says so" '2 0 1' "$drawn $(wc -c <"$work/without") $(grep -c 'apt-get install graphviz' "$work/said")"
 
 if have dot; then
   texts() { grep -o '<text [^>]*>[^<]*' "$1" | sed 's/.*>//' | LC_ALL=C sort; }

@@ -1,6 +1,6 @@
 #!/usr/bin/env bash
-# `lint` says of the example plants what is true of them and nothing else, each slip of tests/lint/slips.alt, and
-# the open inputs of tests/beside/vote.alt.
+# `lint` says of the example plants what is true of them and nothing else, each slip of the models of tests/lint, and
+# the open inputs of tests/beside/vote.alt. With an observer it lists the failures that are in no minimal cut set.
 . "$(dirname "$0")/points.bash"
 usage lint
 
@@ -13,6 +13,15 @@ equal "lint says of hydraulic that gear_power is read nowhere" \
 equal "lint says each slip of slips.alt" "$(cat tests/lint/expected)" "$(tools/lint tests/lint/slips.alt 2>&1)"
 equal "lint says which loops of flows nothing starts, and which flows their own assertion reads" "$(cat tests/lint/loops.expected)" "$(tools/lint tests/lint/loops.alt 2>&1)"
 equal "lint says which values a domain does not have" "$(cat tests/lint/values.expected)" "$(tools/lint tests/lint/values.alt 2>&1)"
+equal "lint says which wires a part closes over itself, which ties are written twice, and what its own transitions alone read" "$(cat tests/lint/wiring.expected)" "$(tools/lint tests/lint/wiring.alt 2>&1)"
+equal "lint with an observer: in the right model each failure is in a cut set" ' status 0' \
+  "$(tools/lint tests/models/howto/trains.alt --observer no_flow 2>&1) status $?"
+equal "lint with an observer lists the failures that are in no cut set" 'bus_b.fail b.valve.fail b.pump.fail b.check.fail' \
+  "$(tools/lint tests/models/howto/trains_open.alt --observer no_flow | sed -n 's/.* event \(.*\) is in no minimal cut set of no_flow$/\1/p' | paste -sd' ')"
+equal "lint with an observer, without the dropped events" ' status 0' \
+  "$(tools/lint examples/ring.alt --observer south_is_deaf --drop north.mend,east.mend,south.mend,west.mend 2>&1) status $?"
+equal "lint with an observer whose cut sets are refused" 'examples/ring.alt: outside: S6 at north.works status 2' \
+  "$(tools/lint examples/ring.alt --observer south_is_deaf 2>&1) status $?"
 equal "lint finds the nine things that vote.alt leaves open, and the two that vote2.alt reads nowhere" '9 2' \
   "$(tools/lint tests/beside/vote.alt | wc -l) $(tools/lint tests/beside/vote2.alt | wc -l)"
 for model in tests/beside/*.alt; do

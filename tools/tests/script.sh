@@ -232,11 +232,37 @@ fault: {}: assignment 1 at 14:5 does not hold|fault: assignment does not hold
 END
 (cd "$copy" && ./altarica --explain syntax 2>"$lab/err" | head -n 1) >"$lab/got"
 point "--explain into a reader that ends early: no further words" both '[ ! -s "$lab/err" ]' 'grep -q "^## syntax" "$lab/got"'
+while IFS='|' read -r words headings; do
+  run --explain "$words"
+  point "--explain $words: $headings" both '[ $status -eq 0 ]' '[ "$(grep "^## " "$lab/out" | sed "s/^## //" | paste -sd";")" = "$headings" ]'
+done <<'END'
+flow x has two values|fault: flow has two values
+assignment 9 at 24:40 does not hold|fault: assignment does not hold
+fault: {..}: flow x has two values|conflict: `fault: {a, b}: ..` in place of cuts;fault: flow has two values
+count 0|unexpected: cuts that are not those you expected
+{}|unexpected: cuts that are not those you expected
+unexpected|unexpected: cuts that are not those you expected
+lint|unexpected: cuts that are not those you expected
+tie|Networks and ties
+owner|L10: nothing with this name;Paths
+embeds|Units
+END
+run --explain 'syntax =>'
+point "--explain syntax =>: the rows with this sign" both '[ $status -eq 0 ]' '[ "$(grep -c "^| .=>. |" "$lab/out")" -eq 2 ]' '[ "$(grep -vc "^| .=>. |" "$lab/out")" -eq 2 ]'
 run --explain nonsense
 point "--explain of nothing: the list of sections, status 1" both '[ $status -eq 1 ]' 'said "no page has a section on nonsense"' 'said "L14:"'
 
-# --why
-run --why check plant.alt
+# --why, by itself and with ALTARICA.
+by_env() {
+  (cd "$copy" && PATH=$lab/bin:$PATH timeout 60 env "$@") >"$lab/out" 2>"$lab/err" </dev/null
+  status=$?
+  { echo "status $status:"; cat "$lab/out" "$lab/err"; } >"$lab/got"
+}
+by_env ALTARICA="$lab/bin/rt" ./altarica --why check plant.alt
+point "--why with ALTARICA takes that program" both '[ $status -eq 0 ]' 'wrote "$lab/bin/rt check plant.alt"'
+by_env ALTARICA="$lab/nowhere" ./altarica --why check plant.alt
+point "--why where ALTARICA names no program: status 12 and a line" both '[ $status -eq 12 ]' 'said "is no program"'
+by_env -u ALTARICA ./altarica --why check plant.alt
 point "--why runs tools/why with the proved program" both '[ $status -eq 0 ]' 'wrote "$copy/out/altarica check plant.alt"'
 
 # --unproved: the program is compiled once and kept.
@@ -269,8 +295,25 @@ if [ "$(head -c 4 "$ALTARICA" | tail -c 3)" = ELF ] && [ -d "/proc/$$" ]; then
   : >"$lab/calls"
   run --unproved --why check plant.alt
   point "--unproved --why runs tools/why" both '[ $status -eq 0 ]' 'grep -q "check plant.alt$" "$lab/out"' 'calls 0'
-  run --why check plant.alt
+  by_env -u ALTARICA ./altarica --why check plant.alt
   point "--why where no proved program is built takes the unproved one" both '[ $status -eq 0 ]' 'said "takes the program without its proofs"' 'calls 0'
+  helped=$lab/helped
+  mkdir "$helped"
+  cp -r "$top/tools" "$helped/tools"
+  cp -r "$copy/out" "$helped/out"
+  cp "$copy/plant.alt" "$helped/"
+  echo '{a.fail, b.fail}' >"$helped/list"
+  for words in "lint plant.alt" "order plant.alt list" "why check plant.alt"; do
+    (cd "$helped" && env -u ALTARICA tools/$words) >"$lab/out" 2>"$lab/err" </dev/null
+    status=$?
+    cat "$lab/out" "$lab/err" >"$lab/got"
+    point "tools/${words%% *} takes the unproved program where no proved one is built, and says so" both '[ $status -lt 2 ]' 'said "nothing of this run is proved"' '! said "no program"'
+  done
+  mv "$helped/out" "$helped/away"
+  (cd "$helped" && env -u ALTARICA PATH=/usr/bin:/bin tools/lint plant.alt) >"$lab/out" 2>"$lab/err" </dev/null
+  status=$?
+  cat "$lab/out" "$lab/err" >"$lab/got"
+  point "a helper without any program says how one is had" both '[ $status -ne 0 ]' 'said "altarica --unproved"'
   echo more >"$copy/crates/low/src/text"
   run --unproved check plant.alt
   point "--unproved: another source is compiled" both '[ $status -eq 0 ]' 'wrote "$answer"' 'calls 1'

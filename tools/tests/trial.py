@@ -1,7 +1,9 @@
-"""What a new user meets: three models, and a dozen and more typical mistakes in each.
+"""What a new user meets: six models, and a dozen and more typical mistakes in each.
 
 Tried is that the models have the cuts that were found by hand, that each mistake gets the line that is written here, and
-that the section which `./altarica --explain` prints for this line has the words that mend the mistake.
+that the section which `./altarica --explain` prints for this line has the words that mend the mistake. Where a mend is
+written here, as the section has it, the mended model has the cuts by hand again. Where a mistake is not refused, the line
+is the first of a wrong list, and where words of `tools/lint MODEL --observer O` are written here, lint says them.
 """
 
 import os
@@ -17,11 +19,40 @@ NO_TRIP = ("cuts", "--observer", "no_trip")
 MENDS = ",".join(f"{part}.mend" for part in "grid diesel tie_12 tie_23 tie_31 b1 b2 b3".split())
 DARK = ("cuts", "--observer", "dark", "--drop", MENDS)
 
-Mistake = namedtuple("Mistake", "what changes words line mend")
-"""changes: pairs of a text of the model and what is written in its place, or the text of a script; line: the program's
-answer, its last line for a script and else its first; mend: words of the section."""
+FLOW = ("cuts", "--observer", "loss_of_flow")
+LOAD = ("cuts", "--observer", "load1_lost")
+BOTH = ("cuts", "--observer", "both_lost")
+TRIP = ("cuts", "--observer", "no_trip")
+SPURIOUS = ("cuts", "--observer", "spurious")
 
+Mistake = namedtuple("Mistake", "what changes words line mend mended lint", defaults=(None, None))
+"""changes: pairs of a text of the model and what is written in its place, or the text of a script; line: the program's
+answer, its last line for a script and else its first; mend: words of the section; mended: changes of the right model, as
+the section has them; lint: words of lint on the model with the mistake."""
+
+FILES = {"pumps": "tests/models/howto/start_or_run.alt", "protection": "tests/models/howto/protection.alt"}
+
+
+def fail(parts):
+    """The failures of these parts as a line."""
+    return ", ".join(f"{part}.fail" for part in parts.split())
+
+
+TRAIN = ("suction.stick", "discharge.stick", "pump.fail_to_start", "pump.fail_to_run", "bus.fail")
+PAIRS = ("g1 g2", "g1 b3", "b1 g2", "b1 b3")
 CUTS = {
+    "pumps": (FLOW, ["tank.fail", *(f"a.{x}, b.{y}" for x in TRAIN for y in TRAIN)]),
+    "protection": (TRIP, [f"process.demand, {rest}" for rest in (
+        "supply.fail", "s1.die, s2.die", "s1.die, s3.die", "s2.die, s3.die", "voter.go_mute", "a.jam, b.jam")]),
+    "protection without demand": (SPURIOUS, [
+        "s1.stick_high, s2.stick_high", "s1.stick_high, s3.stick_high", "s2.stick_high, s3.stick_high", "voter.go_loud",
+        "a.fall_open", "b.fall_open"]),
+    "ring": (LOAD, [fail(parts) for parts in ("b2", *PAIRS, "b1 t23", "t12 b3", "t12 t23", *(
+        f"{two} {last}" for two in ("g1 t23", "g2 t12") for last in ("t34", "b4", "t41")))]),
+    "ring with both loads": (BOTH, [fail(parts) for parts in (
+        *PAIRS, *(f"{one} {two}" for one in ("g1", "b1") for two in ("b2 t34", "t23 b4", "t23 t34")),
+        *(f"{one} {two}" for one in ("g2", "b3") for two in ("b2 t41", "t12 b4", "t12 t41")),
+        "b2 b4", "b2 t41 t34", "b4 t12 t23", "t12 t23 t34 t41")]),
     "trains": (DRY, ["tank.fail", *(f"{a}.fail, {b}.fail" for a in ("bus_a", "a.valve", "a.pump", "a.check")
                                     for b in ("bus_b", "b.valve", "b.pump", "b.check"))]),
     "voter": (NO_TRIP, ["voter.fail", "s1.fail_low, s2.fail_low", "s1.fail_low, s3.fail_low", "s2.fail_low, s3.fail_low"]),
@@ -44,8 +75,118 @@ COUNTED = "".join(f"    if s{n}.mode != LOW then asking := asking + 1;\n" for n 
 SUM = "    asking := (s1.mode != LOW) + (s2.mode != LOW) + (s3.mode != LOW);"
 LAST = "    b3.from_right := tie_31.ok and b1.live;\nend\n"
 
+OBSERVED = "  observer Boolean loss_of_flow = not a.flow and not b.flow;\n"
+HEADER = "  Boolean header (reset = false);\n  observer Boolean loss_of_flow = not header;\n"
+SUPPLIED = "    a.supply := tank.works;\n"
+READY = "outflow := if mode == READY then inflow and power else false;"
+START = "mode == READY -> mode := FAILED_START;"
+RUN = "mode == READY -> mode := FAILED_RUN;"
+TIES = ("if t12.ok and b1.ok and b2.ok then b1.live", "if t23.ok and b2.ok and b3.ok then b2.live",
+        "if t34.ok and b3.ok and b4.ok then b3.live", "if t41.ok and b4.ok and b1.ok then b4.live")
+OF_TIE = "    if t41.ok and b4.ok and b1.ok then b4.live :=: b1.live;"
+LOST = "  observer Boolean load1_lost = not b2.live;\n"
+ALARM = "  Boolean alarm (reset = false);\n  observer Boolean load1_lost = alarm;\n"
+FIRST_TIE = "    if t12.ok and"
+SENSOR = "vote := power and (mode == STUCK_HIGH or (mode == OK and sees));"
+
 MISTAKES = {
+    "pumps": [
+        Mistake("two sources of one header", [(OBSERVED, HEADER), (SUPPLIED, "    header := a.flow;\n    header := b.flow;\n" + SUPPLIED)],
+                FLOW, "fault: {a.suction.stick}: flow header has two values", "`header := a.flow or b.flow;`",
+                [(OBSERVED, HEADER), (SUPPLIED, "    header := a.flow or b.flow;\n" + SUPPLIED)]),
+        Mistake("both failures lead to one mode", [("FAILED_START, FAILED_RUN", "FAILED"), (START, START.replace("FAILED_START", "FAILED")),
+                (RUN, RUN.replace("FAILED_RUN", "FAILED")), (READY, READY.replace("== READY", "!= FAILED"))],
+                FLOW, "outside: S6 at a.pump.mode", "`mode != FAILED` becomes `mode != FAILED and mode != BURNT`",
+                [(READY, READY.replace("mode == READY", "mode != FAILED_START and mode != FAILED_RUN"))]),
+        Mistake("an assertion tests one of two failure modes", [(READY, READY.replace("== READY", "!= FAILED_START"))], FLOW,
+                "{tank.fail}", "`mode != FAILED` where another mode has failed too", None,
+                "event a.pump.fail_to_run is in no minimal cut set of loss_of_flow"),
+        Mistake("two modes at once", [(READY, "outflow := if mode == FAILED_START and mode == FAILED_RUN then false else inflow and power;")],
+                FLOW, "{tank.fail}", "`mode == X and mode == Y`, which is never true", None,
+                "event b.pump.fail_to_start is in no minimal cut set of loss_of_flow"),
+        Mistake("or for and in the observer", [("not a.flow and not b.flow", "not a.flow or not b.flow")], FLOW, "{tank.fail}",
+                "an `or` too many"),
+        Mistake("not of the first alone", [("not a.flow and not b.flow", "not a.flow and b.flow")], FLOW, "{a.suction.stick}",
+                "an observer", None, "event tank.fail is in no minimal cut set of loss_of_flow"),
+        Mistake("no assertion reads the state", [("outflow := inflow and state == OPEN;", "outflow := inflow;")], FLOW, "{tank.fail}",
+                "a state that no assertion and no observer reads", None, "state a.suction.state is read by its own transitions alone"),
+        Mistake("one tank feeds the other train's output", [("b.supply := tank.works", "b.supply := a.flow")], FLOW, "{tank.fail}",
+                "a path leads to the wrong unit", None, "event b.bus.fail is in no minimal cut set of loss_of_flow"),
+        Mistake("a wire the wrong way round", [("pump.inflow := suction.outflow;", "suction.outflow := pump.inflow;")], FLOW,
+                "fault: {}: assignment 4 at 40:5 does not hold", "its wire is the wrong way round"),
+        Mistake("a pump on standby, which a start leaves",
+                [("{READY,", "{STANDBY, READY,"), ("(init = READY)", "(init = STANDBY)"), ("event fail_to_start,", "event start, fail_to_start,"),
+                 ("    fail_to_start: mode", "    start: mode == STANDBY -> mode := READY;\n    fail_to_start: mode")],
+                FLOW, "{}", "at rest, as a pump in STANDBY"),
+        Mistake("a pump fails because its bus does", [(READY, READY + "\n    if not power then mode := FAILED_RUN;")], ("check",),
+                "rule: L13 at 31:23", "A part that stops because another one failed has not failed itself",
+                [(READY, "outflow := inflow and power and mode == READY;")]),
+    ],
+    "protection": [
+        Mistake("two breakers set one flow", [("tripped := a.open or b.open;", "tripped := a.open;\n    tripped := b.open;")], TRIP,
+                "fault: {process.demand, a.jam}: flow tripped has two values", "`tripped := a.open or b.open;`"),
+        Mistake("an event has the name of a mode", [("STUCK_HIGH, DEAD}", "STUCK_HIGH, die}"), ("mode := DEAD", "mode := die")],
+                ("check",), "rule: L10 at 13:32", "A member hides a symbol of its name", [("DEAD}", "dead}"), ("mode := DEAD", "mode := dead")]),
+        Mistake("an observer between two wires", [("    a.order :=", "  observer Boolean asked = voter.order;\n    a.order :=")], ("check",),
+                "syntax: 71:5", "Such a member ends the section",
+                [("    a.order :=", "  observer Boolean asked = voter.order;\n  assertion\n    a.order :=")]),
+        Mistake("the end of an inner block is missing", [("calm := false;\n  end\n", "calm := false;\n")], ("check",),
+                "syntax: 54:10", "an `end` is missing above"),
+        Mistake("a flow is fed by a setting", [("Sensor s1, s2, s3;", "Sensor s1, s2;\n  Sensor s3 (power = true);"), ("    s3.power := true;\n", "")],
+                ("check",), "rule: L9 at 57:14", "A setting feeds nothing"),
+        Mistake("a flow is only reset", [("Sensor s1, s2, s3;", "Sensor s1, s2;\n  Sensor s3 (power.reset = true);"), ("    s3.power := true;\n", "")],
+                TRIP, "fault: {process.demand}: assignment 6 at 69:5 does not hold", "`assertion a.power := true;`"),
+        Mistake("one event for two failure modes", [("    die: mode", "    stick_high: mode")], TRIP, "outside: S5 at s1.mode",
+                "Two failure modes are two events"),
+        Mistake("the range of the votes is too small", [("Votes [0, 3]", "Votes [0, 2]")], TRIP,
+                "fault: {process.demand}: flow voter.votes is outside its domain", "bound the value with `min`",
+                [("Votes [0, 3]", "Votes [0, 2]"), ("count(s1.vote, s2.vote, s3.vote)", "min(count(s1.vote, s2.vote, s3.vote), 2)")]),
+        Mistake("brackets are forgotten", [(SENSOR, "vote := power and mode == STUCK_HIGH or mode == OK and sees;")], TRIP,
+                "{process.demand, supply.fail, s1.stick_high, s2.stick_high}", "`and` binds first"),
+        Mistake("more than, in a vote", [("votes >= needed", "votes > needed")], TRIP, "{process.demand, supply.fail}", "`>` for `>=` in a vote"),
+        Mistake("a symbol of another domain", [("open := mode == FELL_OPEN", "open := mode == STUCK_HIGH")], SPURIOUS,
+                "{s1.stick_high, s2.stick_high}", "a symbol that its domain lacks", None,
+                "is compared with STUCK_HIGH, which its domain does not have"),
+        Mistake("a failure that asks for the demand", [("jam: mode == OK ->", "jam: mode == OK and order ->")], TRIP, "outside: S3 at a.mode",
+                "A failure that shows only on demand is a failure like any other"),
+        Mistake("two targets of one assignment", [("    a.order := voter.order;\n    b.order", "    a.order, b.order")], ("check",),
+                "syntax: 70:12", "`assertion flow, power := true;`"),
+        Mistake("two out of three as engineers write it", [("voter.votes := count(", "tripped := 2oo3(")], ("check",), "syntax: 69:17",
+                "`assertion flow := 2oo3("),
+        Mistake("a count with semicolons", [("(s1.vote, s2.vote, s3.vote)", "(s1.vote; s2.vote; s3.vote)")], ("check",), "syntax: 69:33",
+                "`assertion flow := count(power; mode == OK) >= 2;`"),
+    ],
+    "ring": [
+        Mistake("a failed bar is made dead", [(FIRST_TIE, "    if not b1.ok then b1.live := false;\n" + FIRST_TIE), *(
+                (tie, f"if {tie[3:6]}.ok then {tie[-7:]}") for tie in TIES)], LOAD, "fault: {b1.fail}: flow b1.live has two values",
+                "a bar that can fail goes into the condition"),
+        Mistake("the bars are missing in the ties", [(tie, f"if {tie[3:6]}.ok then {tie[-7:]}") for tie in TIES], BOTH,
+                "{g1.fail, g2.fail}", "the bar is missing in the condition of a tie", None, "event b4.fail is in no minimal cut set"),
+        Mistake("a tie in one way", [(OF_TIE, OF_TIE.replace("b4.live :=: b1.live", "b1.live := b4.live"))], LOAD,
+                "fault: {g2.fail, b2.fail}: assignment 9 at 25:40 does not hold", "A tie is written in one way"),
+        Mistake("an alarm behind the ring", [(LOST, ALARM), (FIRST_TIE, "    alarm := not b2.live;\n" + FIRST_TIE)], LOAD,
+                "fault: {g1.fail, g2.fail}: assignment 3 at 23:5 does not hold", "A flow that no other flow reads may have the other reset",
+                [(LOST, ALARM.replace("reset = false", "reset = true")), (FIRST_TIE, "    alarm := not b2.live;\n" + FIRST_TIE)]),
+        Mistake("embeds for a second tie", [("Component t12, t23, t34, t41;", "Component t12, t34, t41;\n  embeds t12 as t23;")], LOAD,
+                "{g1.fail, g2.fail}", "`embeds` in place of a second part", None, "event t34.fail is in no minimal cut set of load1_lost"),
+        Mistake("a tie is written twice", [(OF_TIE, TIES[2].replace("if", "    if", 1) + " :=: b4.live;")], LOAD, "{g1.fail, g2.fail}",
+                "in `flat` the line of each flow", None, "twice under the same conditions"),
+        Mistake("the wrong breaker in a condition", [("if t41.ok and", "if t34.ok and")], LOAD, "{g1.fail, g2.fail}",
+                "a state that no assertion and no observer reads", None, "state t41.ok is read by its own transitions alone"),
+        Mistake("not of both", [("not b2.live and not b4.live", "not (b2.live and b4.live)")], BOTH, "{g1.fail, g2.fail}",
+                "`not (a and b)` for `not a and not b`"),
+        Mistake("a common cause as an action", [(LOST, "  event fire;\n  transition fire: t12.ok and t41.ok -> { t12.ok := false; t41.ok := false; }\n" + LOST)],
+                LOAD, "outside: S2 at main", "it is a common cause"),
+        Mistake("the loop begins live", [("live (reset = false)", "live (reset = true)")], LOAD, "count 0", "the loop has the wrong `reset`",
+                None, "event g1.fail is in no minimal cut set of load1_lost"),
+    ],
     "trains": [
+        Mistake("a class names a bus of the plant", [("suction and power and", "suction and owner.bus_a.state == OK and")], DRY, "{tank.fail}",
+                "one bus for all its parts", None, "event bus_b.fail is in no minimal cut set of no_flow"),
+        Mistake("both trains are wired to one bus", [("b.power := bus_b", "b.power := bus_a")], DRY, "{tank.fail}",
+                "both trains are wired to one bus", None, "state bus_b.state is read by its own transitions alone"),
+        Mistake("a class names a bus without owner", [("suction and power and", "suction and bus_a.state == OK and")], ("check",),
+                "rule: L10 at 13:25", "`owner.bus_a` is one bus for all its"),
         Mistake("a semicolon is forgotten", [("valve, pump, check;\n", "valve, pump, check\n")], ("check",),
                 "syntax: 11:3", "A semicolon is missing."),
         Mistake("a part is called switch", [("tank, bus_a,", "tank, switch,")], ("check",), "syntax: 16:19", "`switch`"),
@@ -110,6 +251,10 @@ MISTAKES = {
                 "is missing where the observer is not Boolean"),
     ],
     "loop": [
+        Mistake("a bus feeds itself", [("b2.from_left := tie_12.ok and b1.live", "b2.from_left := tie_12.ok and b2.live")], DARK, "{grid.fail, diesel.fail}",
+                "a flow feeds itself", None, "flow b2.from_left is set at 25:5 from b2.live of its own unit"),
+        Mistake("two resets in one loop", [("from_left, from_right, live (reset = false);", "from_left, from_right (reset = false);\n  Boolean live (reset = true);")],
+                DARK, "fault: {grid.fail, diesel.fail}: assignment 4 at 24:5 does not hold", "its flows have different resets"),
         Mistake("an if reads a flow of the loop", [("(fed or from_left or", "(if from_left then true else fed or")], DARK,
                 "fault: {}: assignment 10 at 13:5 does not hold", "HOWTO_LOOPS"),
         Mistake("nothing starts the loop", [("b1.fed := grid.ok", "b1.fed := false"), ("b3.fed := diesel.ok", "b3.fed := false")],
@@ -153,38 +298,65 @@ def lines_of(words):
     return done.stdout.decode("utf-8", "replace").splitlines()
 
 
-def cuts(name):
+def file_of(name):
+    """The model of a name, which may have words on what is asked for behind it."""
+    return pathlib.Path(FILES.get(name.split()[0], f"{TRIAL}/{name.split()[0]}.alt"))
+
+
+def cuts(name, file):
     """Says why the cuts of a model are not those that were found by hand."""
     words, wanted = CUTS[name]
-    *sets, count = lines_of([PROGRAM, words[0], f"{TRIAL}/{name}.alt", *words[1:]]) or ["nothing"]
+    *sets, count = lines_of([PROGRAM, words[0], file, *words[1:]]) or ["nothing"]
     got = {frozenset(it.strip("{}").split(", ")) for it in sets}
     by_hand = {frozenset(it.split(", ")) for it in wanted}
     return "" if got == by_hand and count == f"count {len(wanted)}" else f"{count}, and by hand {len(wanted)}"
 
 
+def changed(text, changes, what):
+    for before, after in changes:
+        assert text.count(before) == 1, (what, before)
+        text = text.replace(before, after)
+    return text
+
+
 def answer(mistake, name, folder):
     """The line that the program writes on a model with the mistake."""
-    text, files = (TRIAL / f"{name}.alt").read_text(), [f"{folder}/model"]
+    text, files = file_of(name).read_text(), [f"{folder}/model"]
     if isinstance(mistake.changes, str):
         files.append(f"{folder}/script")
         pathlib.Path(files[1]).write_text(mistake.changes)
     else:
-        for before, after in mistake.changes:
-            assert text.count(before) == 1, (mistake.what, before)
-            text = text.replace(before, after)
+        text = changed(text, mistake.changes, mistake.what)
     pathlib.Path(files[0]).write_text(text)
     lines = lines_of([PROGRAM, mistake.words[0], *files, *mistake.words[1:]]) or ["nothing"]
     return lines[-1 if len(files) > 1 else 0]
 
 
 def section_of(line):
-    return "\n".join(lines_of(["./altarica", "--explain", "unexpected" if line.startswith("{") else line]))
+    return "\n".join(lines_of(["./altarica", "--explain", line]))
+
+
+def mended(mistake, name, folder):
+    """Says why the cuts of the mended model are not those that were found by hand."""
+    pathlib.Path(f"{folder}/model").write_text(changed(file_of(name).read_text(), mistake.mended, mistake.what))
+    return "; ".join(filter(None, (cuts(it, f"{folder}/model") for it in CUTS if it.split()[0] == name)))
+
+
+def linted(mistake, folder):
+    """Says that lint lacks the words on the model with the mistake, which is the last that was written."""
+    said = "\n".join(lines_of(["tools/lint", f"{folder}/model", *mistake.words[1:]]))
+    return "" if mistake.lint in said else f"it lacks `{mistake.lint}`"
 
 
 with tempfile.TemporaryDirectory() as made:
+    for model in CUTS:
+        point(f"{model}: the cuts that were found by hand", cuts(model, file_of(model)))
     for model, mistakes in MISTAKES.items():
-        point(f"{model}.alt has the cuts that were found by hand", cuts(model))
         for it in mistakes:
             got = answer(it, model, made)
             point(f"{model}, {it.what}: {it.line}", "" if got == it.line else f"got {got}")
             point(f"{model}, {it.what}: the section mends it", "" if it.mend in section_of(it.line) else f"it lacks `{it.mend}`")
+            if it.lint:
+                point(f"{model}, {it.what}: lint says it", linted(it, made))
+            if it.mended:
+                point(f"{model}, {it.what}: the mended model has the cuts by hand", mended(it, model, made))

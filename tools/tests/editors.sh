@@ -21,7 +21,7 @@ equal "the problem matcher reads the place and the text of a refusal and of lint
 import json, re, sys
 form = re.compile(json.load(open("editors/vscode/package.json"))["contributes"]["problemMatchers"][0]["pattern"]["regexp"])
 found = [[" ".join(m.groups()) for m in map(form.match, open(f)) if m] for f in sys.argv[1:]]
-assert len(found[0]) == 1 and len(found[1]) == 9, found
+assert len(found[0]) == 1 and len(found[1]) == 10, found
 print("|".join(f[0] for f in found))
 PYTHON
 )"
@@ -69,7 +69,7 @@ VIM
   echo no >"$work/said"
   FILES="$work/refused $work/lint" SAID=$work/said editor -S "$work/errors.vim"
   equal "the errorformat of vim reads a refusal and the lines of lint" \
-    '1 tests/mistakes/path.alt:12:13: rule L10: this path or name is nothing of the kind that is needed here|9 tests/lint/slips.alt:6:5: state p.g never has the value WORN or DEAD: no event enters it' \
+    '1 tests/mistakes/path.alt:12:13: rule L10: this path or name is nothing of the kind that is needed here|10 tests/lint/slips.alt:6:5: state p.g never has the value WORN or DEAD: no event enters it' \
     "$(paste -sd'|' "$work/said")"
 else
   skipped "the syntax and the errorformat of vim" vim

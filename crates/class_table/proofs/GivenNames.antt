@@ -1,5 +1,5 @@
--- The names that members give, in a set.
-use Rattle.std.proofs.Common.{◌≡◌, ℕ, zero, suc, ◌+◌, ◌-◌, ◌<◌, ◌≤◌, ◌⊎◌, inl, inr, Bool, true, false, cond, ◌==◌, ◌&&◌, List, [], ◌∷◌, ◌++◌, map, length, drop, Option, Some, None, refl, sym, ◌∙◌, ap, subst, arith}
+-- The names that members give, in a set, and who gives each.
+use Rattle.std.proofs.Common.{◌≡◌, ℕ, zero, suc, ◌+◌, ◌-◌, ◌<◌, ◌≤◌, ◌⊎◌, inl, inr, Bool, true, false, cond, nat_eq, ◌==◌, ◌&&◌, List, [], ◌∷◌, ◌++◌, map, length, drop, Option, Some, None, refl, sym, ◌∙◌, ap, subst, arith}
 use Rattle.std.proofs.Common.{eq-eqb, ne_eqb}
 use Rattle.std.proofs.lemmas.Bool.{cases_eq}
 use Rattle.std.proofs.Math.Seq.{drop-append_seam}
@@ -16,9 +16,10 @@ use Rattle.class_table.specs.Members.{Site, Members, own_at, sites_from, names_o
 use Rattle.class_table.specs.Tables.{site_of, IsBodyOf}
 use Rattle.class_table.specs.Earliest.{IsEarliest, nowhere, there, IsEarlierOf}
 use Rattle.class_table.specs.Repeating.{IsNamed}
-use Rattle.class_table.specs.Retested.{names_of_site, names_at, IsTaken, same_given, GivesAt, AddsGiven, KnowsGiven}
+use Rattle.class_table.specs.Retested.{names_of_site, names_at, IsTaken, same_given, GivesAt, MayGive, giver_of, IsKnownAt, AddsGivenName, AddsGiven, KnowsGiven}
 use Rattle.class_table.specs.Shown.{member_place}
 use Rattle.class_table.specs.declared.given.Given.{Given}
+use Rattle.class_table.specs.declared.given.Giver.{Giver}
 use Rattle.class_table.specs.declared.tables.Body.{Body}
 use Rattle.class_table.specs.declared.tables.Owned.{Owned}
 use Rattle.class_table.proofs.FirstPlaces.{earliest_both, earliest_same}
@@ -62,51 +63,67 @@ key_one s t x y e =
 
 -- Adding
 
+-- one name more of one site
+pub adds_name : (s : Site) (x : ℕ) (r : Giver) (old new : Given) → ((q : (ℕ × ℕ) × ℕ) → bag.contains same_given new.names q
+    ≡ cond (same_given (key s x) q) true (bag.contains same_given old.names q))
+    → ((y : ℕ) → giver_of new y ≡ cond (nat_eq x y) (Some r) (giver_of old y)) → MayGive (Some r) s
+    → ((t : Site) → MayGive (giver_of old x) t → MayGive (Some r) t) → AddsGivenName s x old new
+adds_name s x r old new u v one others = record { kept = kept; added = (here, last); only = only }
+  where
+    may_as : (t : Site) (o p : Option Giver) → o ≡ p → MayGive p t → MayGive o t
+    may_as t o p e m = subst (λ (g : Option Giver). MayGive g t) (sym e) m
+
+    kept : (t : Site) (y : ℕ) → IsKnownAt old t y → IsKnownAt new t y
+    kept t y g = (u (key t y) ∙ by (same_given (key s x) (key t y)) g.0, may (cases_eq x y))
+      where
+        by : (b : Bool) → GivesAt old t y → cond b true (bag.contains same_given old.names (key t y)) ≡ true
+        by true g = refl
+        by false g = g
+
+        may : (x ≡ y) ⊎ (x ≡ y → ⊥) → MayGive (giver_of new y) t
+        may (inl i) = may_as t (giver_of new y) (Some r)
+            (v y ∙ ap (λ (b : Bool). cond b (Some r) (giver_of old y)) (eq-eqb x y i))
+            (others t (subst (λ (z : ℕ). MayGive (giver_of old z) t) (sym i) g.1))
+        may (inr n) = may_as t (giver_of new y) (giver_of old y)
+            (v y ∙ ap (λ (b : Bool). cond b (Some r) (giver_of old y)) (ne_eqb x y n)) g.1
+
+    here : GivesAt new s x
+    here = u (key s x) ∙ ap (λ (b : Bool). cond b true (bag.contains same_given old.names (key s x))) (key_same s x)
+
+    last : MayGive (giver_of new x) s
+    last = may_as s (giver_of new x) (Some r)
+        (v x ∙ ap (λ (b : Bool). cond b (Some r) (giver_of old x)) (eq-eqb x x refl)) one
+
+    only : (t : Site) (y : ℕ) → GivesAt new t y → GivesAt old t y ⊎ ((s ≡ t) × (x ≡ y))
+    only t y g = by (same_given (key s x) (key t y)) refl (sym (u (key t y)) ∙ g)
+      where
+        by : (b : Bool) → same_given (key s x) (key t y) ≡ b
+            → cond b true (bag.contains same_given old.names (key t y)) ≡ true → GivesAt old t y ⊎ ((s ≡ t) × (x ≡ y))
+        by true e i = inr (key_one s t x y e)
+        by false e i = inl i
+
 -- names of the member at a site were added
 pub record AddsAt (s : Site) (names : List (ℕ × Place)) (old new : Given) : Type 0 where
-  pub kept : (t : Site) (x : ℕ) → GivesAt old t x → GivesAt new t x
-  pub added : (x : ℕ) → IsNamed names x → GivesAt new s x
+  pub kept : (t : Site) (x : ℕ) → IsKnownAt old t x → IsKnownAt new t x
+  pub added : (x : ℕ) → IsNamed names x → IsKnownAt new s x
   pub only : (t : Site) (x : ℕ) → GivesAt new t x → GivesAt old t x ⊎ ((s ≡ t) × IsNamed names x)
 
 pub at_none : (s : Site) (g : Given) → AddsAt s [] g g
 at_none s g = record { kept = λ t x h. h; added = λ x n. absurd (named_none x n); only = λ t x h. inl h }
 
 pub at_next : (s : Site) (names : List (ℕ × Place)) (x : ℕ) (p : Place) (first old new : Given)
-    → AddsAt s names first old → ((q : (ℕ × ℕ) × ℕ) → bag.contains same_given new.names q
-    ≡ cond (same_given (key s x) q) true (bag.contains same_given old.names q))
-    → AddsAt s (names ++ (x, p) ∷ []) first new
-at_next s names x p first old new h u = record { kept = kept; added = added; only = only }
-  where
-    still : (t : Site) (y : ℕ) → GivesAt old t y → GivesAt new t y
-    still t y g = u (key t y) ∙ by (same_given (key s x) (key t y)) g
-      where
-        by : (b : Bool) → bag.contains same_given old.names (key t y) ≡ true
-            → cond b true (bag.contains same_given old.names (key t y)) ≡ true
-        by true g = refl
-        by false g = g
-
-    kept : (t : Site) (y : ℕ) → GivesAt first t y → GivesAt new t y
-    kept t y g = still t y (h.kept t y g)
-
-    here : GivesAt new s x
-    here = u (key s x) ∙ ap (λ (b : Bool). cond b true (bag.contains same_given old.names (key s x))) (key_same s x)
-
-    added : (y : ℕ) → IsNamed (names ++ (x, p) ∷ []) y → GivesAt new s y
-    added y n = elim (named_split names x p y n) [
-      | inl m ↦ still s y (h.added y m)
-      | inr e ↦ subst (GivesAt new s) e here
-    ]
-
-    only : (t : Site) (y : ℕ) → GivesAt new t y → GivesAt first t y ⊎ ((s ≡ t) × IsNamed (names ++ (x, p) ∷ []) y)
-    only t y g = by (same_given (key s x) (key t y)) refl (sym (u (key t y)) ∙ g)
-      where
-        by : (b : Bool) → same_given (key s x) (key t y) ≡ b
-            → cond b true (bag.contains same_given old.names (key t y)) ≡ true
-            → GivesAt first t y ⊎ ((s ≡ t) × IsNamed (names ++ (x, p) ∷ []) y)
-        by true e i =
-            let k = key_one s t x y e in
-            inr (k.0, subst (IsNamed (names ++ (x, p) ∷ [])) k.1 (named_last names x p))
-        by false e i = elim (h.only t y i) [ inl j ↦ inl j | inr j ↦ inr (j.0, named_before names x p y j.1) ]
+    → AddsAt s names first old → AddsGivenName s x old new → AddsAt s (names ++ (x, p) ∷ []) first new
+at_next s names x p first old new h a = record {
+  kept = λ t y g. a.kept t y (h.kept t y g);
+  added = λ y n. elim (named_split names x p y n) [
+    | inl m ↦ a.kept s y (h.added y m)
+    | inr e ↦ subst (IsKnownAt new s) e a.added
+  ];
+  only = λ t y g. elim (a.only t y g) [
+    | inl j ↦ elim (h.only t y j) [ inl k ↦ inl k | inr k ↦ inr (k.0, named_before names x p y k.1) ]
+    | inr j ↦ inr (j.0, subst (IsNamed (names ++ (x, p) ∷ [])) j.1 (named_last names x p))
+  ];
+}
 
 pub at_site : (d : Declared) (s : Site) (names : List (ℕ × Place)) (old new : Given) → names_of_site d s ≡ names
     → AddsAt s names old new → AddsGiven d (s ∷ []) old new
@@ -114,7 +131,7 @@ at_site d s names old new e h = record {
   kept = h.kept;
   added = λ t x i n.
       let j = only_item s t i in
-      subst (λ (z : Site). GivesAt new z x) j (h.added x (subst (λ (ns : List (ℕ × Place)). IsNamed ns x)
+      subst (λ (z : Site). IsKnownAt new z x) j (h.added x (subst (λ (ns : List (ℕ × Place)). IsNamed ns x)
       (ap (names_of_site d) (sym j) ∙ e) n));
   only = λ t x g. elim (h.only t x g) [
     | inl a ↦ inl a
@@ -141,7 +158,7 @@ gives_more d xs ys a b c h k = record {
 -- the set has the names of the members of the first i bodies
 pub record KnowsFirst (d : Declared) (i : ℕ) (g : Given) : Type 0 where
   pub sound : (s : Site) (x : ℕ) → GivesAt g s x → IsNamed (names_of_site d s) x
-  pub there : (s : Site) (x : ℕ) → s.body < i → IsNamed (names_of_site d s) x → GivesAt g s x
+  pub there : (s : Site) (x : ℕ) → s.body < i → IsNamed (names_of_site d s) x → IsKnownAt g s x
 
 pub first_none : (d : Declared) (g : Given) → ((q : (ℕ × ℕ) × ℕ) → bag.contains same_given g.names q ≡ true → ⊥)
     → KnowsFirst d 0 g
@@ -208,9 +225,10 @@ module _ (d : Declared) where
 
   pub first_all : (bodies : List Body) (i : ℕ) (g : Given) → Along IsBodyOf bodies d.bodies → length bodies ≤ i
       → KnowsFirst d i g → KnowsGiven d g
-  first_all bodies i g shown l h = record { each = λ s x. (h.sound s x, back s x) }
+  first_all bodies i g shown l h =
+      record { each = λ s x. (h.sound s x, λ n. (back s x n).0); admitted = λ s x n. (back s x n).1 }
     where
-      back : (s : Site) (x : ℕ) → IsNamed (names_of_site d s) x → GivesAt g s x
+      back : (s : Site) (x : ℕ) → IsNamed (names_of_site d s) x → IsKnownAt g s x
       back s x n =
           let o = there_is s x n in
           let b = shown_back d bodies shown s.body o.0 (one_here _ _ _ o.1) in

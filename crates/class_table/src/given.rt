@@ -1,12 +1,13 @@
 //! Which member of a body gives which name.
 
-ghost use Rattle.std.specs.Prelude.{◌≡◌, ◌∷◌, [], ◌↔◌, true, map, OnOk, IfOk};
+ghost use Rattle.std.specs.Prelude.{◌≡◌, ◌∷◌, [], ◌↔◌, true, map, OnOk, IfOk, Some};
 ghost use Rattle.class_table.specs.Declaring.{Declared};
+ghost use Rattle.class_table.specs.Members.{Site};
 ghost use Rattle.class_table.specs.Tables.{site_of};
 ghost use Rattle.class_table.specs.Earliest.{IsEarliest};
 ghost use Rattle.class_table.specs.Names.{name_and_place};
 ghost use Rattle.class_table.specs.Repeating.{IsNamed};
-ghost use Rattle.class_table.specs.Retested.{IsTaken, AddsGiven, KnowsGiven, names_at, names_of_site};
+ghost use Rattle.class_table.specs.Retested.{IsTaken, AddsGivenName, AddsGiven, KnowsGiven, MayGive, names_at, names_of_site};
 ghost use Rattle.class_table.specs.Shown.{Shows, IsListed};
 
 use crate::earliest::earliest;
@@ -15,12 +16,45 @@ use crate::tables::Body;
 use crate::types::TypeKinds;
 use ar_base::{BodyId, Memory, NameId, Place};
 use std::alloc::Global;
-use std::collections::HashSet;
+use std::collections::{HashMap, HashSet};
 
-/// The names that members give, by the body and the place of the member.
+/// Which members give a name.
+#[derive(Clone, Copy)]
+enum Giver {
+    /// Only the one of this body and place.
+    Only(BodyId, u32),
+    /// Maybe several.
+    Several,
+}
+
+// Whether the member at the site may be one of these.
+fn may_give(giver: Option<Giver>, site: (BodyId, u32)) -> bool
+    ensures { (result ≡ true) ↔ MayGive giver (site_of site) }
+{
+    match giver {
+        None => false,
+        Some(Giver::Only(body, place)) => body.n == site.0.n && place == site.1,
+        Some(Giver::Several) => true,
+    }
+}
+
+// These with the member at the site.
+fn joined_by(giver: Option<Giver>, site: (BodyId, u32)) -> Giver
+    ensures one { MayGive (Some result) (site_of site) }
+    ensures others { (s : Site) → MayGive giver s → MayGive (Some result) s }
+{
+    match giver {
+        None => Giver::Only(site.0, site.1),
+        Some(_) => Giver::Several,
+    }
+}
+
+/// The names that members give, by the body and the place of the member, and for each name which
+/// members give it.
 #[derive(Drop)]
 pub(crate) struct Given {
     names: HashSet<((u32, u32), u32)>,
+    givers: HashMap<u32, Giver>,
 }
 
 impl Given {
@@ -31,6 +65,7 @@ impl Given {
     {
         let mut given = Given {
             names: HashSet::new(alloc),
+            givers: HashMap::new(alloc),
         };
         for body in bodies {
             let own = body.all.len().saturating_sub(body.own.len());
@@ -64,8 +99,18 @@ impl Given {
             → OnOk result (AddsGiven d (site_of site ∷ []) self.old self.new) }
     {
         for (name, _) in list {
-            self.names.insert(((site.0.n, site.1), name.n))?;
+            self.add(site, *name)?;
         }
+        Ok(())
+    }
+
+    // Adds one name that the member at a site gives.
+    fn add(&mut self, site: (BodyId, u32), name: NameId) -> Result<(), Memory>
+        ensures { OnOk result (AddsGivenName (site_of site) name.n self.old self.new) }
+    {
+        let giver = joined_by(self.givers.get(&name.n).copied(), site);
+        self.givers.insert(name.n, giver)?;
+        self.names.insert(((site.0.n, site.1), name.n))?;
         Ok(())
     }
 
@@ -74,8 +119,9 @@ impl Given {
         ensures { (d : Declared) → KnowsGiven d self.now
             → (result ≡ true) ↔ IsNamed (names_at d (map site_of sites.now)) name.n }
     {
+        let giver = self.givers.get(&name.n).copied();
         for site in sites {
-            if self.names.contains(&((site.0.n, site.1), name.n)) {
+            if may_give(giver, *site) && self.names.contains(&((site.0.n, site.1), name.n)) {
                 return true;
             }
         }

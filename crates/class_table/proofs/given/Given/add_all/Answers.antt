@@ -17,10 +17,9 @@ loop-name-preserved c =
     let l : c.loop-name.name-index < length c.args.list.now = omega arith in
     let none : NameId × Place = (record { n = 0; of = record {} }, record { line = 0; column = 0 }) in
     let st = stands_get c.args.list.now c.loop-name.name-index none l in
-    subst (λ (ns : List (ℕ × Place)). AddsAt (site_of c.args.site) ns c.args.self.now
-    (record { names = c.insert.new.self }))
+    subst (λ (ns : List (ℕ × Place)). AddsAt (site_of c.args.site) ns c.args.self.now c.add.new.self)
     (sym (map_next name_and_place c.args.list.now c.loop-name.name-index _ st))
-    (at_next _ _ _ _ _ _ (record { names = c.insert.new.self }) c.loop-name.invariant c.in_ok-insert.ensures.updates.0)
+    (at_next _ _ _ _ _ _ _ c.loop-name.invariant c.in_ok-add.ensures)
 
 pub returns : goal.returns
 returns c = λ d e. at_site d _ _ _ _ e

@@ -9,6 +9,7 @@ use Rattle.class_table.specs.Tables.{site_of}
 use Rattle.class_table.proofs.Taken.{map_next}
 use Rattle.class_table.proofs.GivenNames.{named_within, named_more}
 use Rattle.class_table.proofs.given.Given.has.Goals as goal
+use Rattle.class_table.proofs.given.Given.has.Goals.{else-may_give-via-then-may_give+else-contains, else-may_give-via-else-may_give}
 
 pub returns-then-contains : goal.returns-then-contains
 returns-then-contains c = λ d known.
@@ -29,7 +30,13 @@ loop-site-preserved c = λ d known n.
     let e = map_next site_of c.args.sites.now c.loop-site.site-index _ st in
     elim (named_more d _ _ _ (subst (λ (ss : List Site). IsNamed (names_at d ss) c.args.name.n) e n)) [
       | inl m ↦ c.loop-site.invariant d known m
-      | inr m ↦ (let k = (known.each _ _).1 m in let f = sym c.contains.ensures ∙ c.if-contains.false in absurd (cc))
+      | inr m ↦ elim c.else-may_give.branch [
+        | else-may_give-via-then-may_give+else-contains w ↦
+            (let k = (known.each _ _).1 m in let f = sym w.contains.ensures ∙ w.if-contains.false in absurd (cc))
+        | else-may_give-via-else-may_give w ↦
+            (let k = c.may_give.ensures.1 (rw (c.copied-giver.ensures, c.get.ensures.value) (known.admitted _ _ m)) in
+            let f = w.if-may_give.false in absurd (cc))
+      ]
     ]
 
 pub returns : goal.returns

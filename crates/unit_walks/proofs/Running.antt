@@ -1,5 +1,5 @@
 -- The walk of one statement, and of those that have to be walked before it.
-use Rattle.std.proofs.Common.{◌≡◌, ◌<◌, ◌+◌, ◌++◌, inl, ℕ, Bool, true, false, List, [], ◌∷◌, Option, Some, None, option_map, length, slice_get, refl, sym, ◌∙◌, ap, subst, arith, Result, Ok, Err, OnOk}
+use Rattle.std.proofs.Common.{◌≡◌, ◌<◌, ◌+◌, ◌++◌, inl, ℕ, Bool, true, false, List, [], ◌∷◌, Option, Some, None, option_map, length, slice_get, refl, sym, ◌∙◌, ap, subst, arith, Result, Ok, Err, IfOk, OnOk}
 use Rattle.std.specs.Borrow.{Bor}
 use Rattle.ar_base.specs.Lists.{Stands}
 use Rattle.ar_base.specs.Numbers.{NameId, BodyId}
@@ -7,10 +7,10 @@ use Rattle.ar_syntax.specs.declared.paths.Path.{Path}
 use Rattle.class_table.specs.Tables.{site_of}
 use Rattle.hierarchy.specs.Models.{RootedModel}
 use Rattle.hierarchy.specs.Units.{UnitPath, start_of, kind_at, numbers}
-use Rattle.unit_walks.specs.Ends.{NameEnds, NamesEnd, Reached, IsStatement, nowhere, arrives}
+use Rattle.unit_walks.specs.Ends.{NameEnds, NamesEnd, IsStatement, nowhere}
 use Rattle.unit_walks.specs.Forms.{kind_in, IsFormsFor, IsLookedUp, form_at}
 use Rattle.unit_walks.specs.Tables.{known_at, level_of, paths_of, StandsIf, EndsAt, Means, IsTable, IsSet, IsForgotten, IsEntered, Extends}
-use Rattle.unit_walks.specs.Walking.{IsFrame, Chain, bottom, above, IsWalking, IsAnswered, After, Steps, weight, Weighs, IsRun, IsKnown, IsReady}
+use Rattle.unit_walks.specs.Walking.{IsFrame, IsAtStart, Chain, bottom, above, IsWalking, IsAnswered, After, Steps, weight, Weighs, IsRun, IsKnown, IsReady}
 use Rattle.unit_walks.specs.declared.forms.Forms.{Forms}
 use Rattle.unit_walks.specs.declared.forms.UnitForm.{UnitForm}
 use Rattle.unit_walks.specs.declared.forms.UnitForm.TheVariants as form
@@ -25,7 +25,7 @@ use Rattle.ar_base.proofs.Standing.{stands_one}
 use Rattle.ar_base.proofs.Items.{last_one}
 use Rattle.unit_walks.proofs.LookUps.{looked_up}
 use Rattle.unit_walks.proofs.TableSteps.{extends_both, extends_none, extends_forgotten, table_forgotten, means_forgotten, set_wide, set_extends, grown_wide, grown_extends, grown_stands, frame_wide, table_set, table_grown, met_there}
-use Rattle.unit_walks.proofs.Stepping.{looked_none, looked_inner, looked_clone, looked_alias, entered_level, starts_none, starts_some, none_ends}
+use Rattle.unit_walks.proofs.Stepping.{if_ok, none_some, looked_none, looked_inner, looked_clone, looked_alias, entered_level, starts_none, none_ends}
 
 -- the walk of the top frame is under way, and what was known stays known
 pub record IsUnderWay (s : RootedModel) (below : List Frame) (top : Frame) (old new : Table) : Type 0 where
@@ -109,9 +109,6 @@ started s f old new w i = let wide = set_wide i in record {
   chain = bottom;
   table = table_set [] (f ∷ []) w.table i w.frame.unit (inl (refl, refl)) (λ b y n h. absurd h);
 }
-
-none_some : {A : Type 0} (x : A) → None ≡ Some x → ⊥
-none_some x e = cc
 
 -- the answer is in the table
 pub found : (s : RootedModel) (old new : Table) (a x : ℕ) (c : Known) → IsTable s [] new → Extends old new
@@ -203,28 +200,19 @@ starts_nowhere s old new a x u z p t h i j f =
     }) (λ b y n h. h))
     (set_extends i) (sym i.here)
 
-pub ready : (s : RootedModel) (t : Table) (f : Frame) (u : UnitPath) (p : Path) → IsTable s [] t
-    → Stands (paths_of t) f.unit u → f.rest.now ≡ p.names.items
-    → IsStatement p f.is_clone (kind_at s u f.name.n) → StandsIf (paths_of t) (Some f.at) (start_of p.start u)
-    → IsReady s f t
-ready s t f u p k h d j g =
-    let v = starts_some (paths_of t) f.at (start_of p.start u) g in
-    let P : List ℕ → Type 0 = λ xs. Reached s u f.name.n f.is_clone v.0 xs in
-    let r : P (numbers p.names.items) =
-    record {
-      path = p;
-      is = j;
-      before = [];
-      height = 0;
-      names = refl;
-      ran = subst (λ o. NamesEnd s 0 o [] (Some v.0)) (sym v.1) arrives;
-    } in
-    record {
-      from = u;
-      here = v.0;
-      frame = record { unit = h; at = v.2; reached = subst P (sym (ap numbers d)) r };
-      table = k;
-    }
+pub ready : (s : RootedModel) (t : Table) (first next : Frame) (u : UnitPath) (p : Path) → IsTable s [] t
+    → Stands (paths_of t) first.unit u → first.rest.now ≡ p.names.items → first.start ≡ None
+    → IsStatement p first.is_clone (kind_at s u first.name.n) → StandsIf (paths_of t) (Some first.at) (start_of p.start u)
+    → (IsAtStart s (paths_of t) first u p → (v : UnitPath) × IsFrame s (paths_of t) next u v) → IsReady s next t
+ready s t first next u p k h d e j q f =
+    let v = f (record { unit = h; is = j; at = q; names = d; fresh = e }) in
+    record { from = u; here = v.0; frame = v.1; table = k }
+
+-- the answer for one name is that for the same name
+pub known_of : (s : RootedModel) (old new : Table) {a b x y : ℕ} {E : Type 0} (r : Result Known E) → a ≡ b → x ≡ y
+    → IfOk r (IsKnown s old new a x) → IfOk r (IsKnown s old new b y)
+known_of s old new {a = a} {b = b} {x = x} {y = y} r e f h = if_ok r
+    (λ c k. subst (λ y. IsKnown s old new b y c) f (subst (λ a. IsKnown s old new a x c) e k)) h
 
 pub on_ok : {T E : Type 0} (r : Result T E) {P Q : Type 0} → (P → Q) → OnOk r P → OnOk r Q
 on_ok (Ok x) k h = k h

@@ -1,6 +1,7 @@
 -- One step of a walk.
-use Rattle.std.proofs.Common.{◌≡◌, ◌+◌, ◌-◌, ◌*◌, ◌^◌, ◌++◌, ◌⊎◌, inl, inr, ℕ, suc, Bool, true, false, List, [], ◌∷◌, Option, Some, None, option_map, slice_get, refl, sym, Result, Ok, Err, IfOk, ◌∙◌, ap, subst, arith, append_assoc}
+use Rattle.std.proofs.Common.{◌≡◌, ◌+◌, ◌-◌, ◌*◌, ◌^◌, ◌++◌, ◌⊎◌, inl, inr, ℕ, suc, Bool, true, false, List, [], ◌∷◌, Option, Some, None, option_map, slice_get, refl, sym, Result, Ok, Err, IfOk, ◌∙◌, ap, subst, arith, append_assoc, append-nil}
 use Rattle.std.specs.Borrow.{Bor}
+use Rattle.std.proofs.lemmas.Option.{same_Some}
 use Rattle.ar_base.specs.Lists.{Stands}
 use Rattle.ar_base.specs.Numbers.{NameId, BodyId}
 use Rattle.ar_base.proofs.Standing.{stands_one}
@@ -14,8 +15,8 @@ use Rattle.hierarchy.specs.Tie.{IsSetAt, none, some}
 use Rattle.unit_walks.specs.Ends.{NameEnds, NamesEnd, NeverEnds, Reached, IsStatement, clone, alias, inner, clones, clones_none, embeds, no_unit, absent, nowhere, arrives, on, stops}
 use Rattle.unit_walks.specs.Forms.{kind_in, may_be_unit, IsFormsFor, IsLookedUp, form_at}
 use Rattle.unit_walks.specs.Forms as l
-use Rattle.unit_walks.specs.Tables.{known_at, level_of, paths_of, StandsIf, HasFrame, EndsAt, EndsNowhere, Means, IsMet, IsTable, IsSet, IsGrown, IsEntered}
-use Rattle.unit_walks.specs.Walking.{IsFrame, Chain, bottom, above, IsWalking, After, IsStep, IsNameStep, IsStatementStep, Steps, weight, Weighs}
+use Rattle.unit_walks.specs.Tables.{known_at, end_at, level_of, paths_of, StandsIf, HasFrame, EndsAt, EndsNowhere, Means, PathEnds, IsMet, IsTable, IsSet, IsGrown, IsEntered, KeepsEnd}
+use Rattle.unit_walks.specs.Walking.{IsFrame, IsAtStart, Chain, bottom, above, IsWalking, After, IsStep, IsNameStep, IsStatementStep, Steps, weight, Weighs}
 use Rattle.unit_walks.specs.declared.forms.Forms.{Forms}
 use Rattle.unit_walks.specs.declared.forms.UnitForm.{UnitForm}
 use Rattle.unit_walks.specs.declared.forms.UnitForm.TheVariants as form
@@ -27,7 +28,7 @@ use Rattle.unit_walks.specs.declared.tables.Known.TheVariants.{Following, ToUnit
 use Rattle.unit_walks.specs.declared.walking.Step.{Step}
 use Rattle.unit_walks.specs.declared.walking.Step.TheVariants.{On, Into, Done}
 use Rattle.unit_walks.proofs.LookUps.{looked_up}
-use Rattle.unit_walks.proofs.TableSteps.{set_wide, set_extends, grown_wide, grown_extends, grown_stands, extends_both, extends_none, table_set, table_grown, chain_wide, frame_wide, met_there, means_frames}
+use Rattle.unit_walks.proofs.TableSteps.{set_wide, set_extends, grown_wide, grown_extends, grown_stands, kept_wide, kept_extends, extends_both, extends_none, table_set, table_grown, table_kept, chain_wide, frame_wide, met_there, means_frames}
 use Rattle.unit_walks.proofs.Looping.{Waits, Leads, here, runs_on, waits_doomed, cycle_doomed, above_doomed, leads_on}
 
 -- the statements of a longer list of frames
@@ -106,6 +107,18 @@ walking_set {below = below} {top = top} u w i h m = let wide = set_wide i in rec
   table = table_set (below ++ top ∷ []) (below ++ top ∷ []) w.table i h m (λ b y n k. k);
 }
 
+-- or with one more end of a path that is kept
+walking_kept : {s : RootedModel} {below : List Frame} {top : Frame} {old new : Table} {b x a k : ℕ}
+    → IsWalking s below top old → KeepsEnd old new b x a k → PathEnds s (paths_of old) b x a k
+    → IsWalking s below top new
+walking_kept {below = below} {top = top} w i h = let wide = kept_wide i in record {
+  from = w.from;
+  here = w.here;
+  frame = frame_wide wide w.frame;
+  chain = chain_wide wide w.chain;
+  table = table_kept (below ++ top ∷ []) w.table i h;
+}
+
 alias_ends : {s : RootedModel} {u : UnitPath} {x n : ℕ} {p : Path} {m : Option MemberKind} {o : Option UnitPath}
     → IsStatement p false m → NamesEnd s n (start_of p.start u) (numbers p.names.items) o → NameEnds s (suc n) u x m o
 alias_ends alias r = embeds r
@@ -133,6 +146,61 @@ reached_end {s = s} {u = u} {v = v} {x = x} {b = b} e f r = let P : Bool → Lis
 
 none_to_go : (xs : List NameId) → xs ≡ [] → numbers xs ≡ []
 none_to_go xs e = ap numbers e
+
+pub starts_none : (paths : List UnitPath) (o : Option UnitPath) → StandsIf paths None o → o ≡ None
+starts_none paths None h = refl
+starts_none paths (Some u) h = absurd h
+
+pub starts_some : (paths : List UnitPath) (n : ℕ) (o : Option UnitPath) → StandsIf paths (Some n) o
+    → (v : UnitPath) × (o ≡ Some v) × Stands paths n v
+starts_some paths n None h = absurd h
+starts_some paths n (Some v) h = (v, refl, h)
+
+-- nothing is kept of where the path leads, and the walk is as before
+pub kept_nothing : (top : Frame) (t : Table) → IsStep top t t (On top)
+kept_nothing top t s below w = record { after = w; extends = extends_none t }
+
+-- it is kept where the path leads
+pub kept_end : (top : Frame) (old new : Table) (d : Met) (a : ℕ) → top.rest.now ≡ [] → top.start ≡ Some a
+    → Some d ≡ slice_get old.units.items top.unit → KeepsEnd old new d.body.n top.name.n a top.at
+    → IsStep top old new (On top)
+kept_end top old new d a over g e i s below w =
+    let q = reached_end refl (none_to_go top.rest.now over) w.frame.reached in
+    let m = met_there s (below ++ top ∷ []) old w.table top.unit w.from d w.frame.unit e in
+    let v = starts_some (paths_of old) a (start_of q.path.start w.from) (w.frame.start q.path a g q.is) in
+    let is : IsStatement q.path top.is_clone (kind_in s (body_of s w.from) top.name.n) = q.is in
+    let h : PathEnds s (paths_of old) d.body.n top.name.n a top.at = record {
+      path = q.path;
+      is_clone = top.is_clone;
+      is = subst (λ b. IsStatement q.path top.is_clone (kind_in s b top.name.n)) m.body is;
+      first = v.0;
+      last = w.here;
+      starts = v.2;
+      stands = w.frame.at;
+      height = q.height + 0;
+      ends = subst (λ o. NamesEnd s (q.height + 0) o (numbers q.path.names.items) (Some w.here)) v.1 (whole q);
+    } in
+    record { after = walking_kept w i h; extends = kept_extends i }
+
+-- what is done after that
+pub kept_then : (top : Frame) (old mid new : Table) (r : Step) → IsStep top old mid (On top) → IsStep top mid new r
+    → IsStep top old new r
+kept_then top old mid new r f g s below w =
+    let a = f s below w in
+    let b = g s below a.after in
+    record { after = b.after; extends = extends_both a.extends b.extends }
+
+pub kept_weighs : (top : Frame) (old mid new : Table) (r : Step) → mid.count ≡ old.count → Weighs top mid new r
+    → Weighs top old new r
+kept_weighs top old mid new r e h = go r h
+  where
+    same : weight mid ≡ weight old
+    same = ap (λ n. (16777216 - n) * 2 ^ 65) e
+
+    go : (r : Step) → Weighs top mid new r → Weighs top old new r
+    go (On f) h = let k = same in omega (arith, h, k)
+    go (Into f) h = let k = same in omega (arith, h, k)
+    go Done h = let k = same in omega (arith, h, k)
 
 pub arrived_alias : (top : Frame) (old new : Table) (r : Step) → top.is_clone ≡ false → top.rest.now ≡ [] → r ≡ Done
     → IsSet old new top.unit top.name.n (ToUnit top.at) 0 → IsStep top old new r
@@ -201,6 +269,9 @@ arrived_clone top old mid new r d c n a over e is g i f h s below w =
 pub clone_weighs : (top : Frame) {old mid new : Table} {d : Met} {n a x : ℕ} {c : Known} (r : Step) → r ≡ Done
     → IsGrown old mid d n → IsSet mid new a x c 0 → Weighs top old new r
 clone_weighs top {old = old} {mid = mid} {new = new} r e g i = subst (λ r. Weighs top old new r) (sym e) (let h = set_weight i in let k : weight mid ≡ weight old = ap (λ n. (16777216 - n) * 2 ^ 65) g.count in omega (arith, h, k))
+
+pub none_some : {A : Type 0} (x : A) → None ≡ Some x → ⊥
+none_some x e = cc
 
 pub if_ok : {T E : Type 0} (r : Result T E) {P Q : T → Type 0} → ((x : T) → P x → Q x) → IfOk r P → IfOk r Q
 if_ok (Ok x) k h = k x h
@@ -274,8 +345,8 @@ next_following s below top old new y more r w e d i n =
 pub next_unit : (s : RootedModel) (below : List Frame) (top next : Frame) (t : Table) (y : ℕ) (more : List ℕ)
     → (w : IsWalking s below top t) → numbers top.rest.now ≡ y ∷ more
     → next.unit ≡ top.unit → next.name.n ≡ top.name.n → next.is_clone ≡ top.is_clone → numbers next.rest.now ≡ more
-    → EndsAt s (paths_of t) w.here y next.at → Steps s below top t t (On next)
-next_unit s below top next t y more w e a b c d i = record {
+    → next.start ≡ top.start → EndsAt s (paths_of t) w.here y next.at → Steps s below top t t (On next)
+next_unit s below top next t y more w e a b c d o i = record {
   after = record {
     from = w.from;
     here = i.path;
@@ -283,12 +354,16 @@ next_unit s below top next t y more w e a b c d i = record {
       unit = subst (λ n. Stands (paths_of t) n w.from) (sym a) w.frame.unit;
       at = i.stands;
       reached = moved;
+      start = λ p n g is. w.frame.start p n (sym o ∙ g)
+          (subst (λ x. IsStatement p top.is_clone (kind_at s w.from x)) b
+          (subst (λ z. IsStatement p z (kind_at s w.from next.name.n)) c is));
     };
     chain = subst (λ x. Chain s (paths_of t) below w.from x) (sym b) w.chain;
     table = record {
       main = w.table.main;
       units = w.table.units;
       within = w.table.within;
+      ends = w.table.ends;
       known = λ n x c u p q. means_frames s (paths_of t) u n x (below ++ top ∷ []) (below ++ next ∷ []) c
           (frame_kept below top next a b n x) (w.table.known n x c u p q);
     };
@@ -417,10 +492,6 @@ module _ (forms : Forms) (top : Frame) (old : Table) (d : Met) (y : ℕ)
   look_alias new r p g i s below more f w k =
       i s below more w k (looked_alias (looked (Some (form.Alias p)) g s below f w))
 
-pub starts_none : (paths : List UnitPath) (o : Option UnitPath) → StandsIf paths None o → o ≡ None
-starts_none paths None h = refl
-starts_none paths (Some u) h = absurd h
-
 -- the statement's path starts nowhere
 pub follow_nowhere : (top : Frame) (old new : Table) (y : ℕ) (z : Bool) (p : Path) → IsSet old new top.at y Nothing 1
     → ((s : RootedModel) (frames : List Frame) (u : UnitPath) → IsTable s frames old → Stands (paths_of old) top.at u
@@ -437,45 +508,120 @@ follow_nowhere top old new y z p i f s below more w k j =
       extends = set_extends i;
     }
 
-pub starts_some : (paths : List UnitPath) (n : ℕ) (o : Option UnitPath) → StandsIf paths (Some n) o
-    → (v : UnitPath) × (o ≡ Some v) × Stands paths n v
-starts_some paths n None h = absurd h
-starts_some paths n (Some v) h = (v, refl, h)
+-- the path of a statement is one
+one_path : {p q : Path} {a b : Bool} {k : Option MemberKind} → IsStatement p a k → IsStatement q b k → p ≡ q
+one_path clone clone = refl
+one_path alias alias = refl
 
-pub follow_into : (top next : Frame) (old new : Table) (y : ℕ) (z : Bool) (p : Path)
+-- where the walk of a statement begins
+module _ (s : RootedModel) (frames : List Frame) (t : Table) (k : IsTable s frames t) (f : Frame) (u : UnitPath)
+    (p : Path) (i : IsAtStart s (paths_of t) f u p) where
+  from_start : (v : UnitPath) × (start_of p.start u ≡ Some v) × Stands (paths_of t) f.at v
+  from_start = starts_some (paths_of t) f.at (start_of p.start u) i.at
+
+  first_reached : Reached s u f.name.n f.is_clone from_start.0 (numbers f.rest.now)
+  first_reached = record {
+    path = p;
+    is = i.is;
+    before = [];
+    height = 0;
+    names = sym (ap numbers i.names);
+    ran = subst (λ o. NamesEnd s 0 o [] (Some from_start.0)) (sym from_start.1) arrives;
+  }
+
+  pub begins_first : (v : UnitPath) × IsFrame s (paths_of t) f u v
+  begins_first = (
+    from_start.0,
+    record {
+      unit = i.unit;
+      at = from_start.2;
+      reached = first_reached;
+      start = λ q a e is. absurd (none_some a (sym i.fresh ∙ e));
+    },
+  )
+
+  pub begins_long : (v : UnitPath) × IsFrame s (paths_of t) (record {
+    unit = f.unit;
+    name = f.name;
+    is_clone = f.is_clone;
+    at = f.at;
+    rest = f.rest;
+    start = Some f.at;
+  }) u v
+  begins_long = (
+    from_start.0,
+    record {
+      unit = i.unit;
+      at = from_start.2;
+      reached = first_reached;
+      start = λ q a e is. subst (λ q. StandsIf (paths_of t) (Some a) (start_of q.start u)) (one_path i.is is)
+          (subst (λ a. StandsIf (paths_of t) (Some a) (start_of p.start u)) (same_Some _ _ e) i.at);
+    },
+  )
+
+  pub begins_last : (d : Met) (n : ℕ) (g : Frame) → Some d ≡ slice_get t.units.items f.unit
+      → Some n ≡ end_at t d.body.n f.name.n f.at → g.unit ≡ f.unit → g.name ≡ f.name → g.is_clone ≡ f.is_clone
+      → g.at ≡ n → g.rest.now ≡ [] → g.start ≡ None → (v : UnitPath) × IsFrame s (paths_of t) g u v
+  begins_last d n g e h a b c j over fresh =
+      let m = met_there s frames t k f.unit u d i.unit e in
+      let q = k.ends d.body.n f.name.n f.at n (sym h) in
+      let is : IsStatement q.path q.is_clone (kind_in s (body_of s u) f.name.n) =
+      subst (λ b. IsStatement q.path q.is_clone (kind_in s b f.name.n)) (sym m.body) q.is in
+      let same : q.path ≡ p = one_path is i.is in
+      let first : q.first ≡ from_start.0 = stands_one (paths_of t) f.at q.first from_start.0 q.starts from_start.2 in
+      let P : ℕ → Bool → List ℕ → Type 0 = λ x z xs. Reached s u x z q.last xs in
+      let reached : P f.name.n f.is_clone [] = record {
+        path = p;
+        is = i.is;
+        before = numbers p.names.items;
+        height = q.height;
+        names = sym (append-nil (numbers p.names.items));
+        ran = subst (λ o. NamesEnd s q.height o (numbers p.names.items) (Some q.last))
+            (ap Some first ∙ sym from_start.1)
+            (subst (λ p. NamesEnd s q.height (Some q.first) (numbers p.names.items) (Some q.last)) same q.ends);
+      } in (
+        q.last,
+        record {
+          unit = subst (λ n. Stands (paths_of t) n u) (sym a) i.unit;
+          at = subst (λ n. Stands (paths_of t) n q.last) (sym j) q.stands;
+          reached = subst (λ x. P x g.is_clone (numbers g.rest.now)) (sym (ap (λ (x : NameId). x.n) b))
+              (subst (λ z. P f.name.n z (numbers g.rest.now)) (sym c)
+              (subst (λ xs. P f.name.n f.is_clone xs) (sym (none_to_go g.rest.now over)) reached));
+          start = λ q a e is. absurd (none_some a (sym fresh ∙ e));
+        },
+      )
+
+pub follow_into : (top first next : Frame) (old new : Table) (y : ℕ) (z : Bool) (p : Path)
     → IsSet old new top.at y Following 1
     → ((s : RootedModel) (frames : List Frame) (u : UnitPath) → IsTable s frames old → Stands (paths_of old) top.at u
-    → StandsIf (paths_of old) (Some next.at) (start_of p.start u))
-    → next.unit ≡ top.at → next.name.n ≡ y → next.is_clone ≡ z → next.rest.now ≡ p.names.items
-    → IsStatementStep top y z p old new (Into next)
-follow_into top next old new y z p i f a b c d s below more w k j =
-    let v = starts_some (paths_of old) next.at (start_of p.start w.here)
-    (f s (below ++ top ∷ []) w.here w.table w.frame.at) in
-    let wide = set_wide i in
-    let P : ℕ → Bool → List ℕ → Type 0 = λ x b xs. Reached s w.here x b v.0 xs in
-    let r : P y z (numbers p.names.items) =
-    record {
-      path = p;
-      is = j;
-      before = [];
-      height = 0;
-      names = refl;
-      ran = subst (λ o. NamesEnd s 0 o [] (Some v.0)) (sym v.1) arrives;
+    → StandsIf (paths_of old) (Some first.at) (start_of p.start u))
+    → first.unit ≡ top.at → first.name.n ≡ y → first.is_clone ≡ z → first.rest.now ≡ p.names.items
+    → first.start ≡ None
+    → ((s : RootedModel) (frames : List Frame) (u : UnitPath) (p : Path) → IsTable s frames old
+    → IsAtStart s (paths_of old) first u p → (v : UnitPath) × IsFrame s (paths_of old) next u v)
+    → next.unit ≡ first.unit → next.name ≡ first.name → IsStatementStep top y z p old new (Into next)
+follow_into top first next old new y z p i f a b c d e g unit name s below more w k j =
+    let P : ℕ → Bool → Type 0 = λ x z. IsStatement p z (kind_at s w.here x) in
+    let at : IsAtStart s (paths_of old) first w.here p = record {
+      unit = subst (λ n. Stands (paths_of old) n w.here) (sym a) w.frame.at;
+      is = subst (λ x. P x first.is_clone) (sym b) (subst (λ z. P y z) (sym c) j);
+      at = f s (below ++ top ∷ []) w.here w.table w.frame.at;
+      names = d;
+      fresh = e;
     } in
+    let v = g s (below ++ top ∷ []) w.here p w.table at in
+    let wide = set_wide i in
+    let named : next.name.n ≡ y = ap (λ (x : NameId). x.n) name ∙ b in
     record {
       after = record {
         from = w.here;
         here = v.0;
-        frame = record {
-          unit = subst (λ n. Stands (paths_of new) n w.here) (sym a) (wide.keeps top.at w.here w.frame.at);
-          at = wide.keeps next.at v.0 v.2;
-          reached = subst (λ x. P x next.is_clone (numbers next.rest.now)) (sym b)
-              (subst (λ q. P y q (numbers next.rest.now)) (sym c) (subst (λ xs. P y z xs) (sym (ap numbers d)) r));
-        };
-        chain = subst (λ x. Chain s (paths_of new) (below ++ top ∷ []) w.here x) (sym b)
+        frame = frame_wide wide v.1;
+        chain = subst (λ x. Chain s (paths_of new) (below ++ top ∷ []) w.here x) (sym named)
             (above refl (frame_wide wide w.frame) k (chain_wide wide w.chain));
         table = table_set (below ++ top ∷ []) ((below ++ top ∷ []) ++ next ∷ []) w.table i w.frame.at
-            (has_last (below ++ top ∷ []) next top.at y a b) (λ n x q h. has_more (below ++ top ∷ []) next n x h);
+            (has_last (below ++ top ∷ []) next top.at y (unit ∙ a) named)
+            (λ n x q h. has_more (below ++ top ∷ []) next n x h);
       };
       extends = set_extends i;
     }
@@ -489,8 +635,8 @@ module _ (s : RootedModel) (below : List Frame) (top : Frame) (old : Table) (y :
 
   pub step_unit : (next : Frame) → known_at old top.at y ≡ Some (ToUnit next.at) → next.unit ≡ top.unit
       → next.name.n ≡ top.name.n → next.is_clone ≡ top.is_clone → numbers next.rest.now ≡ more
-      → Steps s below top old old (On next)
-  step_unit next e a b c d = next_unit s below top next old y more w k a b c d (entry_means (ToUnit next.at) e)
+      → next.start ≡ top.start → Steps s below top old old (On next)
+  step_unit next e a b c d o = next_unit s below top next old y more w k a b c d o (entry_means (ToUnit next.at) e)
 
   pub step_nothing : (new : Table) (r : Step) → known_at old top.at y ≡ Some Nothing → r ≡ Done
       → IsSet old new top.unit top.name.n Nothing 0 → Steps s below top old new r

@@ -3,6 +3,7 @@ use Rattle.std.proofs.Common.{◌≡◌, ◌<◌, ◌+◌, ◌++◌, ◌⊎◌, 
 use Rattle.std.proofs.lemmas.Bool.{cases_eq, and_left, and_right}
 use Rattle.std.proofs.lemmas.Bool.Decides.{nat_tests}
 use Rattle.std.proofs.lemmas.Option.{same_Some}
+use Rattle.std.specs.HashMap.{get}
 use Rattle.ar_base.specs.Lists.{Stands}
 use Rattle.ar_base.specs.Numbers.{BodyId}
 use Rattle.ar_base.proofs.Standing.{stands_left, stands_one, stands_within, stands_some, stands_none}
@@ -12,7 +13,7 @@ use Rattle.hierarchy.specs.Models.{RootedModel}
 use Rattle.hierarchy.specs.Units.{UnitPath, UnitLevel, body_of, bodies_of, has_number, start_of}
 use Rattle.hierarchy.specs.Tie.{IsSetAt, none, some}
 use Rattle.unit_walks.specs.Forms.{same_pair}
-use Rattle.unit_walks.specs.Tables.{known_at, level_of, path_below, path_met, paths_from, paths_of, Above, StandsIf, HasFrame, EndsAt, Means, IsMet, IsTable, IsSet, IsForgotten, IsGrown, Extends}
+use Rattle.unit_walks.specs.Tables.{known_at, same_triple, end_at, level_of, path_below, path_met, paths_from, paths_of, Above, StandsIf, HasFrame, EndsAt, Means, PathEnds, IsMet, IsTable, IsSet, IsForgotten, IsGrown, KeepsEnd, Extends}
 use Rattle.unit_walks.specs.Walking.{IsFrame, Chain, bottom, above}
 use Rattle.unit_walks.specs.declared.tables.Table.{Table}
 use Rattle.unit_walks.specs.declared.tables.Met.{Met}
@@ -65,10 +66,41 @@ means_frames s paths u a x frames more Nothing f m = m
 means_frames s paths u a x frames more Loops f m = m
 means_frames s paths u a x frames more Following f m = f m
 
+pub starts_wide : {paths more : List UnitPath} (a : ℕ) (o : Option UnitPath) → IsWider paths more
+    → StandsIf paths (Some a) o → StandsIf more (Some a) o
+starts_wide a None w h = h
+starts_wide a (Some u) w h = w.keeps a u h
+
+pub ends_wide : {s : RootedModel} {paths more : List UnitPath} {b x a k : ℕ} → IsWider paths more
+    → PathEnds s paths b x a k → PathEnds s more b x a k
+ends_wide {a = a} {k = k} w i = record {
+  path = i.path;
+  is_clone = i.is_clone;
+  is = i.is;
+  first = i.first;
+  last = i.last;
+  starts = w.keeps a i.first i.starts;
+  stands = w.keeps k i.last i.stands;
+  height = i.height;
+  ends = i.ends;
+}
+
+-- where paths lead is kept as before
+ends_stay : {s : RootedModel} {old : Table} (new : Table) (frames : List Frame) → IsTable s frames old
+    → IsWider (paths_of old) (paths_of new) → new.ends ≡ old.ends → (b x a k : ℕ) → end_at new b x a ≡ Some k
+    → PathEnds s (paths_of new) b x a k
+ends_stay new frames t w e b x a k q = ends_wide w
+    (t.ends b x a k (subst (λ ends. get same_triple ends (b, x, a) ≡ Some k) e q))
+
 pub frame_wide : {s : RootedModel} {paths more : List UnitPath} {f : Frame} {u v : UnitPath} → IsWider paths more
     → IsFrame s paths f u v → IsFrame s more f u v
 frame_wide {f = f} {u = u} {v = v} w i =
-    record { unit = w.keeps f.unit u i.unit; at = w.keeps f.at v i.at; reached = i.reached }
+    record {
+      unit = w.keeps f.unit u i.unit;
+      at = w.keeps f.at v i.at;
+      reached = i.reached;
+      start = λ p a e is. starts_wide a (start_of p.start u) w (i.start p a e is);
+    }
 
 pub chain_wide : {s : RootedModel} {paths more : List UnitPath} {frames : List Frame} {v : UnitPath} {y : ℕ}
     → IsWider paths more → Chain s paths frames v y → Chain s more frames v y
@@ -101,6 +133,7 @@ table_set {s = s} {old = old} {new = new} {a = a} {x = x} {u = u} {c = c} frames
   known = λ b y d w p q. subst (λ paths. Means s paths more b w y d) (sym e)
       (go b y d w (old_at b w p) q (cases_eq b a) (cases_eq y x));
   within = λ b y d q. subst (λ ds. b < length ds) (sym i.units) (in_range b y d q (cases_eq b a) (cases_eq y x));
+  ends = ends_stay new frames t (set_wide i) i.ends;
 }
   where
     in_range : (b y : ℕ) (d : Known) → known_at new b y ≡ Some d → (b ≡ a) ⊎ (b ≡ a → ⊥) → (y ≡ x) ⊎ (y ≡ x → ⊥)
@@ -181,6 +214,7 @@ table_forgotten {s = s} {old = old} {new = new} frames t i = record {
   known = λ b y d w p q. subst (λ paths. Means s paths frames b w y d) (sym (forgotten_paths i))
       (t.known b y d w (old_at b w p) (kept_before i b y d q));
   within = λ b y d q. subst (λ ds. b < length ds) (sym i.units) (t.within b y d (kept_before i b y d q));
+  ends = ends_stay new frames t (forgotten_wide i) i.ends;
 }
   where
     old_at : (n : ℕ) (w : UnitPath) → Stands (paths_of new) n w → Stands (paths_of old) n w
@@ -224,6 +258,49 @@ extends_both e f = record { units = λ n u p. f.units n u (e.units n u p); known
 
 pub wider : {old new : Table} → Extends old new → IsWider (paths_of old) (paths_of new)
 wider e = record { keeps = e.units }
+
+-- It is kept where a path leads to
+
+pub kept_wide : {old new : Table} {b x a k : ℕ} → KeepsEnd old new b x a k → IsWider (paths_of old) (paths_of new)
+kept_wide {new = new} i = record
+    { keeps = λ n w p. subst (λ paths. Stands paths n w) (sym (ap (paths_from []) i.units)) p }
+
+pub kept_extends : {old new : Table} {b x a k : ℕ} → KeepsEnd old new b x a k → Extends old new
+kept_extends i = record { units = (kept_wide i).keeps; known = λ c y d q. (d, i.known c y ∙ q) }
+
+pub table_kept : {s : RootedModel} {old new : Table} {b x a k : ℕ} (frames : List Frame) → IsTable s frames old
+    → KeepsEnd old new b x a k → PathEnds s (paths_of old) b x a k → IsTable s frames new
+table_kept {s = s} {old = old} {new = new} {b = b} {x = x} {a = a} {k = k} frames t i h = record {
+  main = (kept_wide i).keeps 0 [] t.main;
+  units = λ n d w p q. met_wide (kept_wide i) (t.units n d w (subst (λ ds. Stands ds n d) i.units p) (old_at n w q));
+  known = λ c y d w p q. means_wide s w c y frames d (kept_wide i)
+      (t.known c y d w (old_at c w p) (sym (i.known c y) ∙ q));
+  within = λ c y d q. subst (λ ds. c < length ds) (sym i.units) (t.within c y d (sym (i.known c y) ∙ q));
+  ends = λ c y n j q. ends_wide (kept_wide i) (go c y n j q (cases_eq c b) (cases_eq y x) (cases_eq n a));
+}
+  where
+    old_at : (n : ℕ) (w : UnitPath) → Stands (paths_of new) n w → Stands (paths_of old) n w
+    old_at n w p = subst (λ paths. Stands paths n w) (ap (paths_from []) i.units) p
+
+    apart : (c y n j : ℕ) → end_at new c y n ≡ Some j → ((c ≡ b) × (y ≡ x) × (n ≡ a) → ⊥)
+        → PathEnds s (paths_of old) c y n j
+    apart c y n j q f = t.ends c y n j (sym (i.other c y n f) ∙ q)
+
+    same : (c y n j : ℕ) → end_at new c y n ≡ Some j → c ≡ b → y ≡ x → n ≡ a → PathEnds s (paths_of old) c y n j
+    same c y n j q e f g =
+        let r : end_at new b x a ≡ Some j =
+        subst (λ n. end_at new b x n ≡ Some j) g
+        (subst (λ y. end_at new b y n ≡ Some j) f (subst (λ c. end_at new c y n ≡ Some j) e q)) in
+        let P : ℕ → ℕ → ℕ → ℕ → Type 0 = λ c y n j. PathEnds s (paths_of old) c y n j in
+        subst (λ c. P c y n j) (sym e) (subst (λ y. P b y n j) (sym f)
+        (subst (λ n. P b x n j) (sym g) (subst (λ j. P b x a j) (same_Some _ _ (sym i.here ∙ r)) h)))
+
+    go : (c y n j : ℕ) → end_at new c y n ≡ Some j → (c ≡ b) ⊎ (c ≡ b → ⊥) → (y ≡ x) ⊎ (y ≡ x → ⊥)
+        → (n ≡ a) ⊎ (n ≡ a → ⊥) → PathEnds s (paths_of old) c y n j
+    go c y n j q (inl e) (inl f) (inl g) = same c y n j q e f g
+    go c y n j q (inr e) f g = apart c y n j q (λ z. e z.0)
+    go c y n j q (inl e) (inr f) g = apart c y n j q (λ z. f z.1)
+    go c y n j q (inl e) (inl f) (inr g) = apart c y n j q (λ z. g z.2)
 
 -- A unit is added
 
@@ -271,6 +348,7 @@ table_grown {s = s} {old = old} {new = new} {d = m} {a = owner} frames u t g o h
       (level_met s (paths_of new) u m owner o (wide.keeps owner u h)))) p q;
   known = known;
   within = λ a x c q. let i = t.within a x c (sym (g.known a x) ∙ q) in subst (λ ds. a < length ds) (sym g.units) (let k = length-append old.units.items (m ∷ []) in omega arith);
+  ends = ends_stay new frames t wide g.ends;
 }
   where
     wide : IsWider (paths_of old) (paths_of new)
@@ -425,13 +503,23 @@ pair_apart a x b y n = go (cases_eq b a) (cases_eq y x)
     go (inl g) (inr l) = let q : nat_eq x y ≡ false = grind (arith, nat_tests) in and_right (nat_eq a b) (nat_eq x y) q
     go (inr g) l = let q : nat_eq a b ≡ false = grind (arith, nat_tests) in and_left (nat_eq a b) (nat_eq x y) q
 
+pub triple_apart : (b x a c y n : ℕ) → ((c ≡ b) × (y ≡ x) × (n ≡ a) → ⊥) → same_triple (b, x, a) (c, y, n) ≡ false
+triple_apart b x a c y n f = go (cases_eq n a)
+  where
+    go : (n ≡ a) ⊎ (n ≡ a → ⊥) → same_triple (b, x, a) (c, y, n) ≡ false
+    go (inl e) = and_left (same_pair (b, x) (c, y)) (nat_eq a n) (pair_apart b x c y (λ z. f (z.0, z.1, e)))
+    go (inr e) = let q : nat_eq a n ≡ false = grind (arith, nat_tests) in
+        and_right (same_pair (b, x) (c, y)) (nat_eq a n) q
+
 pub table_started : (s : RootedModel) (t : Table) (d : Met) → t.units.items ≡ d ∷ [] → d.owner ≡ None
-    → d.body.n ≡ s.main → d.set_at ≡ None → ((a x : ℕ) → known_at t a x ≡ None) → IsTable s [] t
-table_started s t d e o b z f = record {
+    → d.body.n ≡ s.main → d.set_at ≡ None → ((a x : ℕ) → known_at t a x ≡ None)
+    → ((c x a : ℕ) → end_at t c x a ≡ None) → IsTable s [] t
+table_started s t d e o b z f g = record {
   main = subst (λ ds. Stands (paths_from [] ds) 0 []) (sym e) (main_only d o);
   units = λ n c u p q. let h = one n c u p q in subst (λ u. IsMet s (paths_of t) u c) (sym h.1) (subst (λ c. IsMet s (paths_of t) [] c) (sym h.0) main_met);
   known = λ a x c u p q. nothing (sym (f a x) ∙ q);
   within = λ a x c q. nothing (sym (f a x) ∙ q);
+  ends = λ c x a k q. nothing (sym (g c x a) ∙ q);
 }
   where
     main_met : IsMet s (paths_of t) [] d

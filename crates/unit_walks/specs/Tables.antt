@@ -1,13 +1,14 @@
 -- What the table of walks says.
-use Rattle.std.specs.Prelude.{◌≡◌, ◌<◌, ◌+◌, ◌++◌, ◌⊎◌, ℕ, List, [], ◌∷◌, Option, Some, None, slice_get, length, option_map}
+use Rattle.std.specs.Prelude.{◌≡◌, ◌<◌, ◌+◌, ◌++◌, ◌⊎◌, ◌&&◌, ℕ, nat_eq, Bool, List, [], ◌∷◌, Option, Some, None, slice_get, length, option_map}
 use Rattle.std.specs.HashMap.{get}
 use Rattle.ar_base.specs.Lists.{Stands}
+use Rattle.ar_syntax.specs.declared.paths.Path.{Path}
 use Rattle.class_table.specs.Tables.{site_of}
 use Rattle.hierarchy.specs.Models.{RootedModel}
-use Rattle.hierarchy.specs.Units.{UnitPath, UnitLevel, body_of, set_at_of, kind_at}
+use Rattle.hierarchy.specs.Units.{UnitPath, UnitLevel, body_of, set_at_of, kind_at, numbers}
 use Rattle.hierarchy.specs.Tie.{IsNameOfUnit, IsSetAt}
-use Rattle.unit_walks.specs.Ends.{NameEnds, NeverEnds}
-use Rattle.unit_walks.specs.Forms.{same_pair}
+use Rattle.unit_walks.specs.Ends.{NameEnds, NamesEnd, NeverEnds, IsStatement}
+use Rattle.unit_walks.specs.Forms.{same_pair, kind_in}
 use Rattle.unit_walks.specs.declared.tables.Table.{Table}
 use Rattle.unit_walks.specs.declared.tables.Met.{Met}
 use Rattle.unit_walks.specs.declared.tables.Frame.{Frame}
@@ -17,6 +18,13 @@ use Rattle.unit_walks.specs.declared.tables.Known.TheVariants.{Following, ToUnit
 -- what is known of the name x in unit a
 abbrev pub known_at : Table → ℕ → ℕ → Option Known
 known_at t a x = get same_pair t.known (a, x)
+
+abbrev pub same_triple : ℕ × ℕ × ℕ → ℕ × ℕ × ℕ → Bool
+same_triple a b = (nat_eq a.0 b.0 && nat_eq a.1 b.1) && nat_eq a.2 b.2
+
+-- the unit to which it is kept that the path of the statement x of body b leads from unit a
+abbrev pub end_at : Table → ℕ → ℕ → ℕ → Option ℕ
+end_at t b x a = get same_triple t.ends (b, x, a)
 
 -- the level of a unit
 abbrev pub level_of : Met → UnitLevel
@@ -76,6 +84,18 @@ Means m paths frames a u x Nothing = EndsNowhere m u x
 Means m paths frames a u x Loops = NeverEnds m u x
 Means m paths frames a u x Following = HasFrame frames a x
 
+-- the path of the statement x of body b ends, from the unit of number a, in the unit of number k
+pub record PathEnds (m : RootedModel) (paths : List UnitPath) (b x a k : ℕ) : Type 0 where
+  pub path : Path
+  pub is_clone : Bool
+  pub is : IsStatement path is_clone (kind_in m b x)
+  pub first : UnitPath
+  pub last : UnitPath
+  pub starts : Stands paths a first
+  pub stands : Stands paths k last
+  pub height : ℕ
+  pub ends : NamesEnd m height (Some first) (numbers path.names.items) (Some last)
+
 -- the entry is that of the unit
 pub record IsMet (m : RootedModel) (paths : List UnitPath) (u : UnitPath) (d : Met) : Type 0 where
   pub name : IsNameOfUnit u d.name
@@ -91,6 +111,7 @@ pub record IsTable (m : RootedModel) (frames : List Frame) (t : Table) : Type 0 
   pub known : (a x : ℕ) (c : Known) (u : UnitPath) → Stands (paths_of t) a u → known_at t a x ≡ Some c
       → Means m (paths_of t) frames a u x c
   pub within : (a x : ℕ) (c : Known) → known_at t a x ≡ Some c → a < length t.units.items
+  pub ends : (b x a k : ℕ) → end_at t b x a ≡ Some k → PathEnds m (paths_of t) b x a k
 
 -- one entry is set, and k are new
 pub record IsSet (old new : Table) (a x : ℕ) (c : Known) (k : ℕ) : Type 0 where
@@ -98,12 +119,14 @@ pub record IsSet (old new : Table) (a x : ℕ) (c : Known) (k : ℕ) : Type 0 wh
   pub count : new.count ≡ old.count + k
   pub here : known_at new a x ≡ Some c
   pub other : (b y : ℕ) → ((b ≡ a) × (y ≡ x) → ⊥) → known_at new b y ≡ known_at old b y
+  pub ends : new.ends ≡ old.ends
 
 -- one entry is taken away
 pub record IsForgotten (old new : Table) (a x : ℕ) : Type 0 where
   pub units : new.units.items ≡ old.units.items
   pub here : known_at new a x ≡ None
   pub other : (b y : ℕ) → ((b ≡ a) × (y ≡ x) → ⊥) → known_at new b y ≡ known_at old b y
+  pub ends : new.ends ≡ old.ends
 
 -- a unit is added, with this number
 pub record IsGrown (old new : Table) (d : Met) (n : ℕ) : Type 0 where
@@ -111,6 +134,15 @@ pub record IsGrown (old new : Table) (d : Met) (n : ℕ) : Type 0 where
   pub at : n ≡ length old.units.items
   pub known : (a x : ℕ) → known_at new a x ≡ known_at old a x
   pub count : new.count ≡ old.count
+  pub ends : new.ends ≡ old.ends
+
+-- that the path of the statement x of body b leads from unit a to unit k is kept
+pub record KeepsEnd (old new : Table) (b x a k : ℕ) : Type 0 where
+  pub units : new.units.items ≡ old.units.items
+  pub known : (c y : ℕ) → known_at new c y ≡ known_at old c y
+  pub count : new.count ≡ old.count
+  pub here : end_at new b x a ≡ Some k
+  pub other : (c y n : ℕ) → ((c ≡ b) × (y ≡ x) × (n ≡ a) → ⊥) → end_at new c y n ≡ end_at old c y n
 
 -- a unit is added, and an entry for it in unit a
 pub record IsEntered (old new : Table) (a : ℕ) (d : Met) (n : ℕ) : Type 0 where

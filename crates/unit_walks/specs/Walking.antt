@@ -1,12 +1,12 @@
 -- Walks that are under way, and their steps.
-use Rattle.std.specs.Prelude.{◌≡◌, ◌<◌, ◌≤◌, ◌+◌, ◌*◌, ◌-◌, ◌^◌, ◌++◌, ℕ, Bool, List, [], ◌∷◌, length}
+use Rattle.std.specs.Prelude.{◌≡◌, ◌<◌, ◌≤◌, ◌+◌, ◌*◌, ◌-◌, ◌^◌, ◌++◌, ℕ, Bool, List, [], ◌∷◌, Some, None, length}
 use Rattle.ar_base.specs.Lists.{Stands}
 use Rattle.ar_syntax.specs.declared.paths.Path.{Path}
 use Rattle.hierarchy.specs.Models.{RootedModel}
-use Rattle.hierarchy.specs.Units.{UnitPath, kind_at, numbers}
+use Rattle.hierarchy.specs.Units.{UnitPath, kind_at, start_of, numbers}
 use Rattle.unit_walks.specs.Ends.{Reached, IsStatement}
 use Rattle.unit_walks.specs.Forms.{IsFormsFor}
-use Rattle.unit_walks.specs.Tables.{paths_of, IsTable, Means, Extends}
+use Rattle.unit_walks.specs.Tables.{paths_of, StandsIf, IsTable, Means, Extends}
 use Rattle.unit_walks.specs.declared.forms.Forms.{Forms}
 use Rattle.unit_walks.specs.declared.tables.Table.{Table}
 use Rattle.unit_walks.specs.declared.tables.Frame.{Frame}
@@ -14,11 +14,25 @@ use Rattle.unit_walks.specs.declared.tables.Known.{Known}
 use Rattle.unit_walks.specs.declared.walking.Step.{Step}
 use Rattle.unit_walks.specs.declared.walking.Step.TheVariants.{On, Into, Done}
 
+-- if the frame has the unit where its path begins, which is p, it is that unit
+abbrev pub HasStart : RootedModel → List UnitPath → Frame → UnitPath → Path → Type 0
+HasStart m paths f u p = (a : ℕ) → f.start ≡ Some a → IsStatement p f.is_clone (kind_at m u f.name.n)
+    → StandsIf paths (Some a) (start_of p.start u)
+
 -- the frame's walk has come from the unit u to the unit v
 pub record IsFrame (m : RootedModel) (paths : List UnitPath) (f : Frame) (u v : UnitPath) : Type 0 where
   pub unit : Stands paths f.unit u
   pub at : Stands paths f.at v
   pub reached : Reached m u f.name.n f.is_clone v (numbers f.rest.now)
+  pub start : (p : Path) → HasStart m paths f u p
+
+-- the frame is at the start of its statement in u, whose path is p
+pub record IsAtStart (m : RootedModel) (paths : List UnitPath) (f : Frame) (u : UnitPath) (p : Path) : Type 0 where
+  pub unit : Stands paths f.unit u
+  pub is : IsStatement p f.is_clone (kind_at m u f.name.n)
+  pub at : StandsIf paths (Some f.at) (start_of p.start u)
+  pub names : f.rest.now ≡ p.names.items
+  pub fresh : f.start ≡ None
 
 -- these frames, the last on top, wait for one another, and the last for the name y in the unit v
 pub data Chain (m : RootedModel) (paths : List UnitPath) : List Frame → UnitPath → ℕ → Type 0 where
@@ -88,7 +102,7 @@ pub record IsKnown (m : RootedModel) (old new : Table) (a x : ℕ) (c : Known) :
   pub extends : Extends old new
   pub known : (u : UnitPath) → Stands (paths_of new) a u → Means m (paths_of new) [] a u x c
 
--- the frame is at the start of its statement, and no walk is under way
+-- the frame's walk may begin, and no walk is under way
 pub record IsReady (m : RootedModel) (f : Frame) (t : Table) : Type 0 where
   pub from : UnitPath
   pub here : UnitPath

@@ -5,7 +5,7 @@ ghost use Rattle.hierarchy.specs.Models.{RootedModel};
 ghost use Rattle.hierarchy.specs.Units.{UnitPath, bodies_of, has_number, start_of};
 ghost use Rattle.ar_base.specs.Lists.{Stands};
 ghost use Rattle.unit_walks.specs.declared.tables.Frame.{Frame as Walk};
-ghost use Rattle.unit_walks.specs.Tables.{known_at, paths_of, StandsIf, IsTable, IsSet, IsForgotten, IsGrown};
+ghost use Rattle.unit_walks.specs.Tables.{known_at, end_at, paths_of, StandsIf, IsTable, IsSet, IsForgotten, IsGrown, KeepsEnd};
 
 use ar_base::{BodyId, Cap, Memory, NameId};
 use ar_syntax::PathStart;
@@ -51,6 +51,9 @@ pub(crate) struct Table {
     pub known: HashMap<(u32, u32), Known>,
     /// How many names in units are known.
     pub count: u32,
+    /// The units to which long paths lead, by the body and the name of the statement and by the unit where the path
+    /// begins. There is one at most for each statement in a unit that was walked to the end of its path.
+    pub ends: HashMap<(u32, u32, u32), u32>,
 }
 
 /// A clone or an alias whose path is being walked.
@@ -66,6 +69,8 @@ pub(crate) struct Frame<'a> {
     pub at: u32,
     /// The names that are to go.
     pub rest: &'a [NameId],
+    /// The unit where its path begins, if where it leads to is to be kept.
+    pub start: Option<u32>,
 }
 
 /// A table with the main block alone.
@@ -83,6 +88,7 @@ pub(crate) fn start_table(alloc: Global, main: BodyId) -> Result<Table, Memory>
         units,
         known: HashMap::new(alloc),
         count: 0,
+        ends: HashMap::new(alloc),
     })
 }
 
@@ -123,6 +129,28 @@ impl Table {
         if self.known.remove(&(unit, name.n)).is_some() {
             self.count = self.count.saturating_sub(1);
         }
+    }
+
+    /// The unit to which a path leads from the unit `start`, where that is kept: that of the statement of this name in
+    /// units of the body.
+    pub(crate) fn end(&self, body: BodyId, name: NameId, start: u32) -> Option<u32>
+        ensures { result ≡ end_at self.now body.n name.n start }
+    {
+        self.ends.get(&(body.n, name.n, start)).copied()
+    }
+
+    /// Keeps the unit to which a path leads from the unit `start`.
+    pub(crate) fn keep_end(
+        &mut self,
+        body: BodyId,
+        name: NameId,
+        start: u32,
+        unit: u32,
+    ) -> Result<(), Memory>
+        ensures { OnOk result (KeepsEnd self.old self.new body.n name.n start unit) }
+    {
+        self.ends.insert((body.n, name.n, start), unit)?;
+        Ok(())
     }
 
     /// Adds a unit, and gives its number.

@@ -1,14 +1,16 @@
 //! Walks along paths. What each name in a unit leads to is found once; what leads to nothing is found anew where it is
-//! asked for again.
+//! asked for again. A long path is walked once from each unit where it begins: all instances of a class whose path begins
+//! at the main block share one walk.
 
-ghost use Rattle.std.specs.Prelude.{◌≡◌, List, [], ◌∷◌, true, IfOk, OnOk, Some};
+ghost use Rattle.std.specs.Prelude.{◌≡◌, ◌≤◌, List, [], ◌∷◌, true, length, IfOk, OnOk, Some};
 ghost use Rattle.ar_base.specs.Lists.{Stands};
+ghost use Rattle.ar_syntax.specs.declared.paths.Path.{Path as Written};
 ghost use Rattle.hierarchy.specs.Models.{RootedModel};
 ghost use Rattle.hierarchy.specs.Units.{UnitPath, kind_at};
 ghost use Rattle.unit_walks.specs.Ends.{IsStatement};
 ghost use Rattle.unit_walks.specs.Forms.{IsFormsFor};
 ghost use Rattle.unit_walks.specs.Tables.{paths_of, IsTable, IsSet, IsEntered};
-ghost use Rattle.unit_walks.specs.Walking.{IsStep, IsNameStep, IsStatementStep, Steps, Weighs, IsWalking, IsReady, IsRun, IsKnown};
+ghost use Rattle.unit_walks.specs.Walking.{IsFrame, IsAtStart, IsStep, IsNameStep, IsStatementStep, Steps, Weighs, IsWalking, IsReady, IsRun, IsKnown};
 ghost use Rattle.unit_walks.specs.declared.tables.Frame.{Frame as Walk};
 
 use crate::forms::{Forms, UnitForm};
@@ -16,6 +18,10 @@ use crate::tables::{Frame, Known, Met, Table};
 use ar_base::{Memory, NameId};
 use ar_syntax::Path;
 use std::alloc::Global;
+
+/// A path of so many names or more is long: where it leads to is kept. To look that up is more work than to walk a
+/// shorter one.
+const LONG_PATH: usize = 8;
 
 /// What a step of a walk comes to.
 #[derive(Clone, Copy)]
@@ -59,11 +65,27 @@ fn copy<'a>(table: &mut Table, top: &Frame) -> Result<Step<'a>, Memory>
     answer(table, top, Known::ToUnit(unit))
 }
 
+// Keeps where the path of the top statement leads to, if that is to be kept.
+fn keep_end(table: &mut Table, top: &Frame) -> Result<(), Memory>
+    ensures step { top.now.rest.now ≡ []
+        → OnOk result (IsStep top.now table.old table.new (Step.On top.now)) }
+    ensures same { OnOk result (table.new.count ≡ table.old.count) }
+{
+    let Some(start) = top.start else {
+        return Ok(());
+    };
+    let Some(here) = table.unit(top.unit) else {
+        return Ok(());
+    };
+    table.keep_end(here.body, top.name, start, top.at)
+}
+
 // The path of the top statement has been walked to its end.
 fn arrive<'a>(table: &mut Table, top: &Frame) -> Result<Step<'a>, Memory>
     ensures step { top.now.rest.now ≡ [] → IfOk result (IsStep top.now table.old table.new) }
     ensures weighs { IfOk result (Weighs top.now table.old table.new) }
 {
+    keep_end(table, top)?;
     if top.is_clone {
         copy(table, top)
     } else {
@@ -78,6 +100,35 @@ fn enter(table: &mut Table, unit: u32, met: Met) -> Result<u32, Memory>
     let number = table.meet(met)?;
     table.add(unit, met.name, Known::ToUnit(number))?;
     Ok(number)
+}
+
+// The walk of a statement: from the start of its path, or, where it is kept where a long path leads to from there,
+// at its end.
+fn begin<'a>(table: &Table, first: Frame<'a>) -> Frame<'a>
+    ensures frame { (m : RootedModel) (frames : List Walk) (u : UnitPath) (p : Written)
+        → IsTable m frames table.now → IsAtStart m (paths_of table.now) first.entry u p
+        → (v : UnitPath) × IsFrame m (paths_of table.now) result u v }
+    ensures same { (result.unit ≡ first.entry.unit) × (result.name ≡ first.entry.name)
+        × (result.is_clone ≡ first.entry.is_clone) }
+    ensures short { length result.rest.now ≤ length first.entry.rest.now }
+{
+    if first.rest.len() < LONG_PATH {
+        return first;
+    }
+    let Some(here) = table.unit(first.unit) else {
+        return first;
+    };
+    match table.end(here.body, first.name, first.at) {
+        None => Frame {
+            start: Some(first.at),
+            ..first
+        },
+        Some(at) => Frame {
+            at,
+            rest: &[],
+            ..first
+        },
+    }
 }
 
 // A clone or an alias of which nothing is kept.
@@ -98,14 +149,17 @@ fn follow<'a>(
             Ok(Step::On(*top))
         }
         Some(at) => {
-            table.add(top.at, name, Known::Following)?;
-            Ok(Step::Into(Frame {
+            let first = Frame {
                 unit: top.at,
                 name,
                 is_clone,
                 at,
                 rest: &path.names,
-            }))
+                start: None,
+            };
+            let next = begin(table, first);
+            table.add(top.at, name, Known::Following)?;
+            Ok(Step::Into(next))
         }
     }
 }
@@ -227,18 +281,18 @@ fn statement(
             table.add(unit, name, Known::Nothing)?;
             Ok(Known::Nothing)
         }
-        Some(at) => walk(
-            alloc,
-            forms,
-            table,
-            Frame {
+        Some(at) => {
+            let first = Frame {
                 unit,
                 name,
                 is_clone,
                 at,
                 rest: &path.names,
-            },
-        ),
+                start: None,
+            };
+            let next = begin(table, first);
+            walk(alloc, forms, table, next)
+        }
     }
 }
 

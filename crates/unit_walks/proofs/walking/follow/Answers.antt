@@ -13,7 +13,8 @@ returns-in_ok-add-in-None-clause-step c =
 
 pub returns-in_ok-add-in-Some-clause-step : goal.returns-in_ok-add-in-Some-clause-step
 returns-in_ok-add-in-Some-clause-step c =
-    follow_into c.args.top.now _ c.args.table.now _ c.args.name.n c.args.is_clone c.args.path.now
+    follow_into c.args.top.now _ c.begin-next.result c.args.table.now _ c.args.name.n c.args.is_clone c.args.path.now
     c.in_ok-add-in-Some.ensures.set (λ s frames u t p. subst
     (λ o. StandsIf (paths_of c.args.table.now) o (start_of c.args.path.now.start u)) c.in-Some.is
-    (c.start.ensures s frames u t p)) refl refl refl c.deref.ensures.value
+    (c.start.ensures s frames u t p)) refl refl refl c.deref.ensures.value refl c.begin-next.ensures.frame
+    c.begin-next.ensures.same.0 c.begin-next.ensures.same.1

@@ -11,7 +11,7 @@ returns-in-Some-ToUnit-clause-step c = λ m below f w.
     ap numbers c.in-Some.ensures.cases.0 in
     step_unit m below c.args.top.now c.args.table.now c.in-Some.name.now.n (numbers c.in-Some.rest.now) w more _
     (sym c.in-Some-ToUnit.ensures ∙ ap Some
-    (c.in-Some-ToUnit.field-0-is ∙ ap known.ToUnit (sym c.in-Some-ToUnit.at-is))) refl refl refl refl
+    (c.in-Some-ToUnit.field-0-is ∙ ap known.ToUnit (sym c.in-Some-ToUnit.at-is))) refl refl refl refl refl
 
 pub returns-in-Some-Nothing-clause-step : goal.returns-in-Some-Nothing-clause-step
 returns-in-Some-Nothing-clause-step c = λ m below f w.

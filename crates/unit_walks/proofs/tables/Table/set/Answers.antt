@@ -10,4 +10,5 @@ returns c =
       count = omega arith;
       here = h.1;
       other = λ b y n. h.2 (b, y) (pair_apart c.args.unit c.args.name.n b y n);
+      ends = refl;
     }

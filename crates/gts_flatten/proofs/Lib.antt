@@ -4,6 +4,7 @@ pub mod ActLemmas
 pub mod Fitted
 pub mod Rows
 pub mod Bodies
+pub mod Planning
 pub mod Runs
 pub mod EventsMade
 pub mod ActsMade

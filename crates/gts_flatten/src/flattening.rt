@@ -15,6 +15,7 @@ ghost use Rattle.sync_expand.specs.Planned.{planned_of};
 ghost use Rattle.gts_flatten.specs.Elaborating.{Flattens};
 ghost use Rattle.gts_flatten.specs.Flat.{IsFlat};
 ghost use Rattle.gts_flatten.specs.Making.{AreMadeOf};
+ghost use Rattle.gts_flatten.specs.Placing.{AreDeclared};
 
 use crate::copying::{copy_observers, copy_texts, copy_variables};
 use crate::fitting::fit_nodes;
@@ -29,6 +30,7 @@ use sync_expand::{WayPlan, ways};
 fn parts_of(alloc: Global, bound: &Bound, plan: &[WayPlan]) -> Result<GtsParts, Memory>
     requires events { length bound.now.events.items < 2 ^ 32 }
     requires plan { length plan.now < 2 ^ 32 }
+    requires declared { AreDeclared bound.now.events.items plan.now }
     ensures { (counts : List ℕ) → AreCounts (declared_from 0 bound.now.events.items) counts
         → map planned_of plan.now ≡ planned_ways counts (declared_from 0 bound.now.events.items)
         → IfOk result (AreMadeOf bound.now counts plan.now) }

@@ -1,6 +1,6 @@
 //! The ways, events and assignments of a flat system.
 
-ghost use Rattle.std.specs.Prelude.{◌≡◌, ◌<◌, ◌^◌, ℕ, List, map, length, IfOk, option_copied};
+ghost use Rattle.std.specs.Prelude.{◌≡◌, ◌<◌, ◌^◌, ℕ, List, map, length, IfOk};
 ghost use Rattle.std.specs.List.{flat_map};
 ghost use Rattle.ar_base.specs.Lists.{Along};
 ghost use Rattle.gts_core.specs.Bound.{assigns_of_act, places_of_act, places_in, declared_from, AreAssigns};
@@ -8,7 +8,7 @@ ghost use Rattle.sync_expand.specs.Counts.{AreCounts};
 ghost use Rattle.sync_expand.specs.Plans.{planned_ways, ways_at};
 ghost use Rattle.sync_expand.specs.Planned.{planned_of};
 ghost use Rattle.gts_flatten.specs.Making.{IsTransitionAt, IsMadeOf, IsMadeWay, IsMadeEvent, AreMadeEvents};
-ghost use Rattle.gts_flatten.specs.Placing.{IsWayAt, IsRun};
+ghost use Rattle.gts_flatten.specs.Placing.{AreDeclared, HasTransition, IsDeclared, IsRun};
 
 use ar_base::{EventId, Memory, WayId};
 use gts_core::{
@@ -17,30 +17,23 @@ use gts_core::{
 use std::alloc::Global;
 use sync_expand::{PlanBody, WayPlan};
 
-// The transition or synchronisation at this place of an event.
-fn way_at(events: &[DeclaredEvent], event: EventId, place: u32) -> Option<&DeclaredWay>
-    ensures { IsWayAt events.now event.n place (option_copied result) }
-{
-    let declared = events.get(event.n as usize)?;
-    declared.ways.get(place as usize)
-}
-
-// The body of the transition at this place of an event. That there is none is answered as want of memory.
+// The body of the transition at this place of an event.
 fn transition(
     alloc: Global,
     events: &[DeclaredEvent],
     event: EventId,
     place: u32,
 ) -> Result<WayBody, Memory>
+    requires { HasTransition events.now event.n place }
     ensures { IfOk result (IsTransitionAt events.now event.n place) }
 {
-    match way_at(events, event, place) {
-        Some(DeclaredWay::Local(guard, action)) => {
+    match &events[event.n as usize].ways[place as usize] {
+        DeclaredWay::Local(guard, action) => {
             let guard = copy_expression(alloc, guard)?;
             let action = assignments(alloc, action)?;
             Ok(WayBody::Local(guard, action))
         }
-        _ => Err(Memory {}),
+        DeclaredWay::Sync(_, _) => unreachable!(),
     }
 }
 
@@ -51,6 +44,7 @@ fn body_of(
     event: EventId,
     body: &PlanBody,
 ) -> Result<WayBody, Memory>
+    requires { IsDeclared events.now event.n body.now }
     ensures { IfOk result (IsMadeOf events.now event.n body.now) }
 {
     match body {
@@ -61,6 +55,7 @@ fn body_of(
 
 // The planned way.
 fn way_of(alloc: Global, events: &[DeclaredEvent], planned: &WayPlan) -> Result<Way, Memory>
+    requires { IsDeclared events.now planned.now.event.n planned.now.body }
     ensures { IfOk result (IsMadeWay events.now planned.now) }
 {
     let body = body_of(alloc, events, planned.event, &planned.body)?;
@@ -77,6 +72,7 @@ pub(crate) fn ways_of(
     events: &[DeclaredEvent],
     plan: &[WayPlan],
 ) -> Result<Vec<Way>, Memory>
+    requires { AreDeclared events.now plan.now }
     ensures { IfOk result (λ v. Along (IsMadeWay events.now) plan.now v.items) }
 {
     let mut ways = Vec::new(alloc);

@@ -3,6 +3,7 @@ use Rattle.std.proofs.lemmas.Result.{err_from_is_err_and}
 use Rattle.gts_core.specs.Bound.{declared_from}
 use Rattle.sync_expand.proofs.DeclaredLemmas.{declared_key, declared_keyed}
 use Rattle.sync_expand.proofs.WaysLemmas.{are_counts}
+use Rattle.gts_flatten.proofs.Planning.{are_declared}
 use Rattle.gts_flatten.proofs.Staged.{refused_told, refused_so, passed, nodes_refused, is_system, flattens, ways_of, flat_of, few_assigns, expandable, events_different, elaborated}
 use Rattle.gts_flatten.proofs.Sound.{plan_small, sound}
 use Rattle.gts_flatten.proofs.Flattened.{is_flat}
@@ -35,6 +36,11 @@ parts_of-requires-clause-plan c =
     let e = rw c.deref.ensures.value at c.in_ok-plan.ensures in
     let w = ways_of c.args.bound.now.events.items e.0 e.1 in
     rw c.deref-5.ensures.value (plan_small c.args.bound.now e.0 w.0 c.in_ok-plan.plan.items e.2.is c.requires w.1)
+
+pub parts_of-requires-clause-declared : goal.parts_of-requires-clause-declared
+parts_of-requires-clause-declared c =
+    let e = rw c.deref.ensures.value at c.in_ok-plan.ensures in
+    rw c.deref-5.ensures.value (are_declared c.args.bound.now.events.items (map length e.0) c.in_ok-plan.plan.items e.2.is)
 
 pub new-requires : goal.new-requires
 new-requires c =

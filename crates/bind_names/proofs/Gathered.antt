@@ -24,7 +24,7 @@ use Rattle.source_meaning.proofs.Different.{things_different}
 use Rattle.bind_scopes.proofs.NamedPaths.{name_leads, name_only}
 use Rattle.bind_names.specs.Bound.{IsBoundEvent}
 use Rattle.bind_names.specs.Ways.{IsBoundWay}
-use Rattle.bind_names.specs.Gathering.{IsHead, HasWays, HasWaysAt, PutsWay, AddsMembers}
+use Rattle.bind_names.specs.Gathering.{IsHead, HasWays, HasWaysAt, PutsWay, PutsWayIn, there, nowhere, AddsMembers}
 use Rattle.bind_names.proofs.Whole.{bound_event}
 
 -- a thing by its unit and name
@@ -154,7 +154,7 @@ module _ (m : RootedModel) (units : List UnitPath) (tree : Tree) where
       | inr b ↦ names t.name ∙ b.0
     ]
 
-    pub members_one : AddsMembers m units tree u (f ∷ []) old new
+    members_one : AddsMembers m units tree u (f ∷ []) old new
     members_one = record {
       same = ap (λ (zs : List DeclaredEvent). length zs) p.new_is ∙ length-set old k this;
       added = added;
@@ -201,10 +201,35 @@ module _ (m : RootedModel) (units : List UnitPath) (tree : Tree) where
       → (u : UnitPath) (f : MemberForm) (x : ℕ) (w : DeclaredWay) (k : ℕ) (old new : List DeclaredEvent) (t : Thing)
       → Stands (events m units) k t
       → IsThingAt m is_event u Here (x ∷ []) t → ((y : ℕ) → is_way_of y f ≡ (x == y)) → IsBoundWay m units tree u f w
-      → PutsWay k w old new → AddsMembers m units tree u (f ∷ []) old new
-  members_named is u f x w k old new t st h names bound p =
-      members_one u f x w k old new (things_different m is_event units is.table.kept is.are_units)
-      (subst (λ (z : Thing). Stands (events m units) k z) (name_only x refl refl t h.leads) st) names bound p
+      → PutsWayIn k w old new → AddsMembers m units tree u (f ∷ []) old new
+  members_named is u f x w k old new t st h names bound p = by p
+    where
+      at : Stands (events m units) k (thing u x)
+      at = subst (λ (z : Thing). Stands (events m units) k z) (name_only x refl refl t h.leads) st
+
+      -- without the event nothing is told of it
+      lost : length old ≤ k → AddsMembers m units tree u (f ∷ []) old old
+      lost l = record {
+        same = refl;
+        added = λ n s before i q g. elim (same_or_not n k) [
+          | inl a ↦ let w = stands_within old n g.event g.stands in let e = a.1 in absurd (omega (arith, l, w, e))
+          | inr b ↦ more old n s before (f ∷ []) (no_way s.name f (elsewhere_of n s i b.1 q)) g
+        ];
+        kept = λ n s before i q g. g;
+      }
+        where
+          elsewhere_of : (n : ℕ) (s : Thing) → Stands (events m units) n s → (n ≡ k → ⊥) → s.unit ≡ u
+              → is_way_of s.name f ≡ false
+          elsewhere_of n s i d q = elim (same_or_not x s.name) [
+            | inl a ↦ absurd (d ((things_different m is_event units is.table.kept is.are_units).one n k s i
+                (subst (λ (z : Thing). Stands (events m units) k z) (sym (both s.unit u s.name x q (sym a.1))) at)))
+            | inr b ↦ names s.name ∙ b.0
+          ]
+
+      by : PutsWayIn k w old new → AddsMembers m units tree u (f ∷ []) old new
+      by (there q) = members_one u f x w k old new (things_different m is_event units is.table.kept is.are_units) at
+          names bound q
+      by (nowhere l same) = subst (λ (z : List DeclaredEvent). AddsMembers m units tree u (f ∷ []) old z) (sym same) (lost l)
 
 -- Units
 

@@ -213,7 +213,7 @@ module _ (m : RootedModel) (units : List UnitPath) where
 
   pub marks_tell : (k : ℕ) (marks : List Bool) → k ≡ length (events m units)
       → Marks (events m units) (IsHidden m units) (replicate k false) marks → AreHidden m units marks
-  marks_tell k marks e h = record { tell = tell }
+  marks_tell k marks e h = record { same = h.same ∙ (length-replicate k false ∙ e); tell = tell }
     where
       apart : Some true ≡ Some false → ⊥
       apart q = cc

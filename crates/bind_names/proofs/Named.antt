@@ -1,24 +1,32 @@
 -- Texts that are made item by item, in the order of the units or of things.
-use Rattle.std.proofs.Common.{◌≡◌, ℕ, zero, suc, ◌+◌, ◌<◌, ◌≤◌, List, [], ◌∷◌, ◌++◌, append_assoc, codes, map, take, length, get_or, Some, sym, ap, ◌∙◌, subst, arith}
+use Rattle.std.proofs.Common.{◌≡◌, ℕ, zero, suc, ◌+◌, ◌<◌, ◌≤◌, List, [], ◌∷◌, ◌++◌, append_assoc, codes, map, take, length, get_or, Option, Some, unwrap_or, refl, sym, ap, ◌∙◌, subst, arith}
 use Rattle.std.proofs.lemmas.List.{take_all, length-map}
 use Rattle.ar_base.specs.Lists.{Stands, Along}
 use Rattle.ar_base.specs.Numbers.{UnitId, NameId}
 use Rattle.ar_base.specs.Texts.{text_at}
-use Rattle.ar_base.proofs.Standing.{along_back, along_length, stands_map, stands_map_back, stands_one, stands_none}
+use Rattle.ar_base.proofs.Standing.{along_back, along_length, stands_map, stands_none}
 use Rattle.class_table.proofs.Taken.{item_stands, map_next}
-use Rattle.hierarchy.specs.Models.{RootedModel}
+use Rattle.hierarchy.specs.Listing.{AreUnits}
+use Rattle.hierarchy.specs.Models.{RootedModel, KeepsTextRules}
 use Rattle.hierarchy.specs.Paths.{prefix, thing_path}
 use Rattle.hierarchy.specs.Tie.{IsOwner, of_unit, IsNameOfUnit}
 use Rattle.hierarchy.specs.Units.{UnitPath}
-use Rattle.bind_names.specs.Fronts.{IsFrontOf}
+use Rattle.bind_names.specs.Fronts.{HasFrontAbove}
+use Rattle.bind_names.proofs.Above.{above_first}
 
 module _ {A : Type 0} where
-  pub stands_of_take : (xs : List A) (n k : ℕ) (a : A) → Stands (take n xs) k a → Stands xs k a
-  stands_of_take [] zero k a p = absurd (stands_none k a p)
-  stands_of_take [] (suc n) k a p = absurd (stands_none k a p)
-  stands_of_take (x ∷ xs) zero k a p = absurd (stands_none k a p)
-  stands_of_take (x ∷ xs) (suc n) zero a p = p
-  stands_of_take (x ∷ xs) (suc n) (suc k) a p = stands_of_take xs n k a p
+  -- the text at a place is that of the item there, where f gives the text of an item
+  pub text_here : (f : A → List ℕ) (xs : List A) (ts : List (List ℕ)) → ts ≡ map f xs → (k : ℕ) (a : A)
+      → Stands xs k a → text_at ts k ≡ f a
+  text_here f xs ts e k a s = ap (λ (zs : List (List ℕ)). text_at zs k) e
+      ∙ ap (λ (o : Option (List ℕ)). unwrap_or o []) (stands_map f xs k a s)
+
+  -- an item before place n is among the first n
+  stands_take_below : (xs : List A) (n k : ℕ) (a : A) → k < n → Stands xs k a → Stands (take n xs) k a
+  stands_take_below [] n k a l p = absurd (stands_none k a p)
+  stands_take_below (x ∷ xs) zero k a l p = absurd (omega (arith, l))
+  stands_take_below (x ∷ xs) (suc n) zero a l p = p
+  stands_take_below (x ∷ xs) (suc n) (suc k) a l p = stands_take_below xs n k a (omega (arith, l)) p
 
 -- the texts of the first n items, where f gives the text of an item
 module _ {A D : Type 0} (R : A → D → Type 0) (f : A → List ℕ) (xs : List A) (ds : List D) (along : Along R xs ds) where
@@ -41,34 +49,26 @@ module _ {A D : Type 0} (R : A → D → Type 0) (f : A → List ℕ) (xs : List
       e ∙ ap (map f) (take_all n xs (omega (arith, h, l)))
 
 module _ (m : RootedModel) (units : List UnitPath) where
-  -- the first texts stand before names in the first units
-  pub fronts_taken : (n : ℕ) (ts : List (List ℕ)) → ts ≡ map (prefix m) (take n units) → (k : ℕ) (v : UnitPath)
-      → Stands units k v → IsFrontOf m ts k v
-  fronts_taken n ts e k v s = record {
-    is = λ t p.
-        let w = stands_map_back (prefix m) (take n units) k t (subst (λ (z : List (List ℕ)). Stands z k t) e p) in
-        let i : w.0 ≡ v = stands_one units k w.0 v (stands_of_take units n k w.0 w.1) s in
-        sym w.2 ∙ ap (prefix m) i;
+  -- the first texts stand before names in the first units, among which is the unit above the next one
+  pub fronts_taken : KeepsTextRules m → AreUnits m units → (n : ℕ) (u : UnitPath) → Stands units n u
+      → (ts : List (List ℕ)) → ts ≡ map (prefix m) (take n units) → HasFrontAbove m units u ts
+  fronts_taken kept are n u at ts e = record {
+    is = λ l v k split s.
+        let first = above_first kept are n k l v (subst (λ (w : UnitPath). Stands units n w) split at) s in
+        text_here (prefix m) (take n units) ts e k v (stands_take_below units n k v first s);
   }
 
   -- and all before names in all units
-  pub fronts_all : (ts : List (List ℕ)) → ts ≡ map (prefix m) units → (k : ℕ) (v : UnitPath) → Stands units k v
-      → IsFrontOf m ts k v
-  fronts_all ts e k v s = record {
-    is = λ t p.
-        let w = stands_map_back (prefix m) units k t (subst (λ (z : List (List ℕ)). Stands z k t) e p) in
-        let i : w.0 ≡ v = stands_one units k w.0 v w.1 s in
-        sym w.2 ∙ ap (prefix m) i;
-  }
+  pub fronts_all : (u : UnitPath) (ts : List (List ℕ)) → ts ≡ map (prefix m) units → HasFrontAbove m units u ts
+  fronts_all u ts e = record { is = λ l v k split s. text_here (prefix m) units ts e k v s }
 
   -- what stands before a name in a unit: the unit's path, which is that of its name in the unit above, and a dot
-  pub prefix_below : (u : UnitPath) (id : UnitId) (x : NameId) (ts : List (List ℕ))
-      → ((n : ℕ) (v : UnitPath) → Stands units n v → IsFrontOf m ts n v)
+  pub prefix_below : (u : UnitPath) (id : UnitId) (x : NameId) (ts : List (List ℕ)) → HasFrontAbove m units u ts
       → IsOwner units u (Some id) → IsNameOfUnit u x → (before after t : List ℕ)
-      → ((v : UnitPath) → IsFrontOf m ts id.n v → before ≡ thing_path m (record { unit = v; name = x.n }))
+      → ((v : UnitPath) → text_at ts id.n ≡ prefix m v → before ≡ thing_path m (record { unit = v; name = x.n }))
       → after ≡ before ++ codes "." → t ≡ after → t ≡ prefix m u
   prefix_below u id x ts fronts (of_unit {l = l} {above = above} s) name before after t path e i =
-      i ∙ (e ∙ (ap (λ (z : List ℕ). z ++ codes ".") (path above (fronts id.n above s))
+      i ∙ (e ∙ (ap (λ (z : List ℕ). z ++ codes ".") (path above (fronts.is l above id.n refl s))
       ∙ (append_assoc (prefix m above) (text_at m.names x.n) (codes ".")
       ∙ ap (λ (n : ℕ). prefix m above ++ (text_at m.names n ++ codes ".")) name)))
 

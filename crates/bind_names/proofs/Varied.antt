@@ -1,10 +1,13 @@
 -- Variables by numbers.
-use Rattle.std.proofs.Common.{◌≡◌, ℕ, ◌+◌, ◌<◌, ◌≤◌, List, [], ◌∷◌, ◌++◌, take, length, Option, Some, option_map, refl, sym, ◌∙◌, ap, subst, arith}
+use Rattle.std.proofs.Common.{◌≡◌, ℕ, ◌+◌, ◌<◌, ◌≤◌, false, List, [], ◌∷◌, ◌++◌, take, length, Option, Some, option_map, unwrap_or, refl, sym, ◌∙◌, ap, subst, arith}
 use Rattle.ar_base.specs.Lists.{Stands, Along}
 use Rattle.ar_base.specs.Lists as l
 use Rattle.ar_base.proofs.Standing.{along_on, along_length, stands_one, stands_within}
 use Rattle.ar_base.specs.Numbers.{UnitId}
 use Rattle.domains.specs.Domains.{Holds, values_of}
+use Rattle.domains.specs.declared.Value.{Value}
+use Rattle.domains.specs.declared.Value.TheVariants.{Truth}
+use Rattle.gts_core.specs.Readings.{value_at}
 use Rattle.gts_core.specs.Copies.{IsSameDomain}
 use Rattle.gts_core.specs.declared.system.Variable.{Variable}
 use Rattle.gts_core.proofs.SameDomains.{domain_there, value_there, value_back, same_values}
@@ -103,6 +106,10 @@ module _ (m : RootedModel) (units : List UnitPath) (tree : Tree) (tied : IsTreeO
         (omega (arith, past, along_length (variables m units) tree.variables.items tied.variables_are)) h.are;
     sound = along_end tree.variables.items n xs past h.sound;
   }
+
+-- a value that stands in a list is the one that is looked up
+pub value_found : (vs : List Value) (n : ℕ) (v : Value) → Stands vs n v → value_at vs n ≡ v
+value_found vs n v s = ap (λ (o : Option Value). unwrap_or o (Truth false)) s
 
 -- two lists that go along have their items at the same places in common
 pub along_at : {A B : Type 0} {R : A → B → Type 0} (xs : List A) (ys : List B) → Along R xs ys → (n : ℕ) (a : A) (b : B)

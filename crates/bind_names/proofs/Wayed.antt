@@ -1,11 +1,11 @@
 -- Transitions and synchronisations by numbers.
-use Rattle.std.proofs.Common.{◌≡◌, ℕ, ◌+◌, ◌<◌, ◌≤◌, Bool, true, List, [], ◌∷◌, ◌++◌, map, take, take_all, get_or, length, Vec, refl, sym, subst, arith}
+use Rattle.std.proofs.Common.{◌≡◌, ℕ, ◌+◌, ◌≤◌, Bool, true, List, [], ◌∷◌, ◌++◌, map, take, take_all, length, Vec, refl, sym, subst, arith}
 use Rattle.std.specs.Global.{Global}
-use Rattle.ar_base.specs.Lists.{Stands, Along}
+use Rattle.ar_base.specs.Lists.{Stands, IsOneOf, Along}
 use Rattle.ar_base.specs.Lists as l
 use Rattle.ar_base.specs.Numbers.{NameId, VarId, EventId}
 use Rattle.ar_base.specs.declared.places.Place.{Place}
-use Rattle.ar_base.proofs.Standing.{stands_within, along_back, along_length}
+use Rattle.ar_base.proofs.Standing.{stands_within, along_back, along_length, one_here}
 use Rattle.ar_syntax.specs.declared.expressions.RawExpr.{RawExpr}
 use Rattle.ar_syntax.specs.declared.instructions.Instr.{Instr, out-Instr}
 use Rattle.ar_syntax.specs.declared.members.Member.TheOpen as member
@@ -19,17 +19,22 @@ use Rattle.gts_core.specs.declared.bound.Act.{Act, out-Act}
 use Rattle.gts_core.specs.declared.bound.DeclaredWay.TheVariants.{Local, Sync}
 use Rattle.gts_core.proofs.Numbering.{source_numbered}
 use Rattle.class_table.proofs.Laid.{along_append}
-use Rattle.class_table.proofs.Taken.{take_next, item_stands}
+use Rattle.class_table.proofs.Taken.{take_next}
 use Rattle.hierarchy.specs.Models.{RootedModel}
 use Rattle.hierarchy.specs.Units.{UnitPath, Thing}
-use Rattle.hierarchy.specs.Listing.{variables, events}
+use Rattle.hierarchy.specs.Listing.{variables, events, forms_at}
+use Rattle.hierarchy.specs.Walks.{Finds, is_event}
 use Rattle.hierarchy.specs.Tie.{IsTreeOf}
 use Rattle.hierarchy.specs.declared.tree.Tree.{Tree}
 use Rattle.source_meaning.specs.Acts.{assigns_of}
 use Rattle.source_meaning.specs.BoundActs.{IsBoundInstruction}
 use Rattle.source_meaning.specs.BoundExpressions.{IsBoundExpression}
 use Rattle.source_meaning.specs.Binding as has
+use Rattle.source_meaning.specs.Rules.{FindsNone}
 use Rattle.source_meaning.specs.Rules as way
+use Rattle.bind_scopes.specs.declared.scopes.Scopes.{Scopes}
+use Rattle.bind_values.specs.Settled.{AreSettled}
+use Rattle.bind_values.specs.declared.whole.Values.{Values}
 use Rattle.source_meaning.specs.Systems.{IsPart}
 use Rattle.source_meaning.specs.Systems as is
 use Rattle.bind_values.specs.Typed.{IsTypedIn, IsSoundIn}
@@ -48,14 +53,27 @@ module _ {A B : Type 0} {R : A → B → Type 0} where
       (subst (λ (ws : List A). Along R ws (ys ++ y ∷ [])) (sym (take_next xs n x s))
       (along_append _ _ _ _ k (l.one_and r l.none)))
 
-  -- by the index and the item of a loop
-  pub rows_next : (xs : List A) (n : ℕ) (x : A) (y : B) (ys zs : List B) → n < length xs → x ≡ get_or xs n x
-      → Along R (take n xs) ys → R x y → zs ≡ ys ++ y ∷ []
-      → Along R (take (n + 1) xs) zs
-  rows_next xs n x y ys zs h i k r e = rows_more xs n x y ys zs (item_stands xs n x h i) k r e
-
   pub rows_end : (xs : List A) (n : ℕ) (ys : List B) → length xs ≤ n → Along R (take n xs) ys → Along R xs ys
   rows_end xs n ys h k = subst (λ (ws : List A). Along R ws ys) (take_all n xs h) k
+
+-- Parts
+
+-- each part of a synchronisation names an event, where the rule of names is kept
+pub parts_named : {m : RootedModel} {units : List UnitPath} {scopes : Scopes} {values : Values}
+    → AreSettled m units scopes values → (n : ℕ) (u : UnitPath) → Stands units n u → (x : NameId) (at : Place)
+    (parts : Vec Part Global) → IsOneOf (forms_at m u) (member.Sync x at parts) → (p : Part) → IsOneOf parts.items p
+    → FindsNone m is_event u p.event → ⊥
+parts_named {units = units} st n u here x at parts form p one none =
+    st.names.naming p.event.at (way.part x at parts p (one_here units n u here) form one none)
+
+-- a part that names an event, by the event's number
+pub part_bound : (m : RootedModel) (units : List UnitPath) (u : UnitPath) (part : Part) (id : EventId) (t : Thing)
+    → Stands (events m units) id.n t → Finds m is_event u part.event t → IsBoundPart m units u part (part.must, id)
+part_bound m units u part id t number finds = record {
+  event = t;
+  is = record { must = refl; event = finds };
+  number = number;
+}
 
 -- Members
 

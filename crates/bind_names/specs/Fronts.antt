@@ -1,10 +1,12 @@
 -- What stands before names in units.
-use Rattle.std.specs.Prelude.{◌≡◌, ℕ, List}
+use Rattle.std.specs.Prelude.{◌≡◌, ℕ, List, ◌∷◌}
 use Rattle.ar_base.specs.Lists.{Stands}
+use Rattle.ar_base.specs.Texts.{text_at}
 use Rattle.hierarchy.specs.Models.{RootedModel}
 use Rattle.hierarchy.specs.Paths.{prefix}
-use Rattle.hierarchy.specs.Units.{UnitPath}
+use Rattle.hierarchy.specs.Units.{UnitLevel, UnitPath}
 
--- the text at this place, if there is one, is what stands before a name in the unit
-pub record IsFrontOf (m : RootedModel) (texts : List (List ℕ)) (n : ℕ) (u : UnitPath) : Type 0 where
-  pub is : (t : List ℕ) → Stands texts n t → t ≡ prefix m u
+-- the texts have, at the number of the unit above u, what stands before a name in that unit
+pub record HasFrontAbove (m : RootedModel) (units : List UnitPath) (u : UnitPath) (texts : List (List ℕ)) : Type 0 where
+  pub is : (l : UnitLevel) (above : UnitPath) (n : ℕ) → u ≡ l ∷ above → Stands units n above
+      → text_at texts n ≡ prefix m above

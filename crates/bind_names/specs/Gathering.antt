@@ -1,5 +1,5 @@
 -- Events that are given their transitions and synchronisations member by member.
-use Rattle.std.specs.Prelude.{◌≡◌, ℕ, ◌<◌, ◌^◌, ◌==◌, false, List, [], ◌∷◌, ◌++◌, filter, length, set, Option, Some, None, Vec}
+use Rattle.std.specs.Prelude.{◌≡◌, ℕ, ◌<◌, ◌≤◌, ◌^◌, ◌==◌, false, List, [], ◌∷◌, ◌++◌, filter, length, set, Option, Some, None, Vec}
 use Rattle.std.specs.Global.{Global}
 use Rattle.ar_base.specs.Lists.{Stands, Along}
 use Rattle.ar_base.specs.Numbers.{NameId}
@@ -20,6 +20,13 @@ use Rattle.bind_names.specs.Ways.{IsBoundWay}
 abbrev pub NamesEvent : MemberForm → Option NameId → Type 0
 NamesEvent f None = (x : ℕ) → is_way_of x f ≡ false
 NamesEvent f (Some y) = (x : ℕ) → is_way_of x f ≡ (y.n == x)
+
+-- the answer is the bound way that the member of the unit u is, with the name of its event; none where the member is no
+-- way
+abbrev pub IsNamedWay : RootedModel → List UnitPath → Tree → UnitPath → MemberForm → Option (NameId × DeclaredWay)
+    → Type 0
+IsNamedWay m units tree u f None = NamesEvent f None
+IsNamedWay m units tree u f (Some n) = NamesEvent f (Some n.0) × IsBoundWay m units tree u f n.1
 
 -- the event has the path and the unit of the thing, and tells whether a hide clause names it
 pub record IsHead (m : RootedModel) (units : List UnitPath) (t : Thing) (e : DeclaredEvent) : Type 0 where
@@ -49,6 +56,11 @@ pub record PutsWay (n : ℕ) (w : DeclaredWay) (old new : List DeclaredEvent) : 
   pub is : ways.items ≡ event.ways.items ++ w ∷ []
   pub few : length ways.items < 2 ^ 32
   pub new_is : new ≡ set old n (record event { ways = ways })
+
+-- the same, where there is event n; else nothing changed
+pub data PutsWayIn (n : ℕ) (w : DeclaredWay) (old : List DeclaredEvent) : List DeclaredEvent → Type 0 where
+  there : {new : List DeclaredEvent} → PutsWay n w old new → PutsWayIn n w old new
+  nowhere : {new : List DeclaredEvent} → length old ≤ n → new ≡ old → PutsWayIn n w old new
 
 -- the ways that these members of the unit u are were added to the events of u, and nothing to others
 pub record AddsMembers (m : RootedModel) (units : List UnitPath) (tree : Tree) (u : UnitPath) (forms : List MemberForm)

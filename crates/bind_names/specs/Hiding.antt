@@ -26,5 +26,6 @@ pub record Marks (things : List Thing) (P : Thing → Type 0) (old new : List Bo
 
 -- each mark tells of its event whether a hide clause names it
 pub record AreHidden (m : RootedModel) (units : List UnitPath) (marks : List Bool) : Type 0 where
+  pub same : length marks ≡ length (events m units)
   pub tell : (n : ℕ) (t : Thing) (b : Bool) → Stands (events m units) n t → Stands marks n b
       → IsAnswer b (IsHidden m units t)

@@ -1,5 +1,5 @@
 -- What it is that transitions and synchronisations by numbers are members of a unit.
-use Rattle.std.specs.Prelude.{◌<◌, Bool, true, List, length}
+use Rattle.std.specs.Prelude.{◌≡◌, ◌<◌, Bool, true, List, [], ◌∷◌, ◌++◌, length}
 use Rattle.ar_base.specs.Lists.{Stands, IsOneOf}
 use Rattle.ar_base.specs.Numbers.{EventId}
 use Rattle.ar_syntax.specs.declared.members.Part.{Part}
@@ -26,6 +26,13 @@ pub record IsBoundPart (m : RootedModel) (units : List UnitPath) (u : UnitPath) 
   pub event : Thing
   pub is : IsPart m u part (p.0, event)
   pub number : Stands (events m units) p.1.n event
+
+-- the bound part of the written one was put behind the others
+pub record AddsPart (m : RootedModel) (units : List UnitPath) (u : UnitPath) (part : Part)
+    (old new : List (Bool × EventId)) : Type 0 where
+  pub added : Bool × EventId
+  pub is : IsBoundPart m units u part added
+  pub behind : new ≡ old ++ added ∷ []
 
 -- the way is sound over the variables and events of the tree
 abbrev pub IsSoundWay : Tree → DeclaredWay → Type 0

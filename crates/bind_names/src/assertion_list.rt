@@ -17,7 +17,7 @@ ghost use Rattle.bind_names.specs.ListBound.{AreBoundAssertions};
 
 use ar_base::{BodyId, Memory, UnitId};
 use ar_syntax::{Instr, Member};
-use bind_scopes::Scopes;
+use bind_scopes::{Scopes, members_of};
 use bind_values::{Values, assertion};
 use class_table::{Body, Owned};
 use gts_core::Act;
@@ -97,8 +97,7 @@ fn add_all(
     Ok(())
 }
 
-// Adds what the assertions of a unit become. The error is of a unit without a body, which no tree
-// has, or want of memory.
+// Adds what the assertions of a unit become.
 fn add_unit(
     acts: &mut Vec<Act>,
     alloc: Global,
@@ -115,10 +114,8 @@ fn add_unit(
         → OnOk result (AddsAssertions m units scopes.now.tree.now
         (all_in u (flat_map asserted_by (forms_at m u))) acts.old.items acts.new.items) }
 {
-    match scopes.tree.classes.bodies.get(node.body.n as usize) {
-        Some(body) => add_all(acts, alloc, scopes, values, unit, &body.all),
-        None => Err(Memory {}),
-    }
+    let sites = members_of(&scopes.tree.classes, node.body);
+    add_all(acts, alloc, scopes, values, unit, sites)
 }
 
 /// The instructions of the assertions of a tree, by unit and member. Each unit's members are read

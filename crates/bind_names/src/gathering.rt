@@ -12,12 +12,12 @@ ghost use Rattle.hierarchy.specs.Listing.{form_of, forms_at, events as events_of
 ghost use Rattle.bind_scopes.specs.Scopes.{HasScopes};
 ghost use Rattle.bind_values.specs.Settled.{AreSettled};
 ghost use Rattle.bind_names.specs.Ways.{AreMembers};
-ghost use Rattle.bind_names.specs.Gathering.{HasWays, PutsWay, AddsMembers};
+ghost use Rattle.bind_names.specs.Gathering.{HasWays, PutsWayIn, AddsMembers};
 ghost use Rattle.bind_names.specs.Bound.{IsBoundEvent};
 
-use crate::members::body_of;
-use crate::ways::{event_named, way_of};
-use ar_base::{BodyId, EventId, Memory, UnitId};
+use crate::members::sites_of;
+use crate::ways::way_of;
+use ar_base::{BodyId, Cap, EventId, Memory, UnitId};
 use ar_syntax::{Member, PathStart};
 use bind_scopes::Scopes;
 use bind_values::Values;
@@ -26,17 +26,17 @@ use gts_core::{DeclaredEvent, DeclaredWay};
 use std::alloc::Global;
 use unit_rules::owned_at;
 
-// Puts a way behind those of an event. The error is of an event that there is not, of more ways than
-// there are numbers, or want of memory.
+// Puts a way behind those of the event, where there is the event. For more ways than there are numbers
+// the event's unit would have more members than all bodies may have together.
 fn put(events: &mut Vec<DeclaredEvent>, event: EventId, way: DeclaredWay) -> Result<(), Memory>
-    ensures { OnOk result (PutsWay event.n way events.old.items events.new.items) }
+    ensures { OnOk result (PutsWayIn event.n way events.old.items events.new.items) }
 {
     let n = event.n as usize;
     if n >= events.len() {
-        return Err(Memory {});
+        return Ok(());
     }
     if events[n].ways.len() >= u32::MAX as usize {
-        return Err(Memory {});
+        return Err(Memory::from(Cap::Members));
     }
     events[n].ways.push(way)?;
     Ok(())
@@ -59,16 +59,13 @@ fn add(
         → OnOk result (AddsMembers m units scopes.now.tree.now u (out-Member member.now ∷ [])
         events.old.items events.new.items) }
 {
-    let Some(name) = event_named(member) else {
+    let Some((name, way)) = way_of(alloc, scopes, values, unit, member)? else {
         return Ok(());
     };
     let names = [name];
     match scopes.event_at(unit, PathStart::Here, &names) {
         None => Ok(()),
-        Some(event) => {
-            let way = way_of(alloc, scopes, values, unit, member)?;
-            put(events, event, way)
-        }
+        Some(event) => put(events, event, way),
     }
 }
 
@@ -158,8 +155,8 @@ fn add_unit(
         → OnOk result (AddsMembers m units scopes.now.tree.now u (forms_at m u)
         events.old.items events.new.items) }
 {
-    let body = body_of(scopes.tree, unit)?;
-    add_all(events, alloc, scopes, values, unit, &body.all)
+    let sites = sites_of(scopes.tree, unit);
+    add_all(events, alloc, scopes, values, unit, sites)
 }
 
 /// Gives each of the events of a tree, which have none, its transitions and synchronisations in member

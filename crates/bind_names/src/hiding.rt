@@ -15,7 +15,7 @@ ghost use Rattle.hierarchy.specs.Tie.{IsTreeOf};
 ghost use Rattle.bind_scopes.specs.Scopes.{HasScopes};
 ghost use Rattle.bind_names.specs.Hiding.{HidesIn, Marks, AreHidden};
 
-use crate::members::body_of;
+use crate::members::sites_of;
 use ar_base::{BodyId, EventId, Memory, UnitId};
 use ar_syntax::{Member, Path};
 use bind_scopes::Scopes;
@@ -129,8 +129,8 @@ pub(crate) fn hidden_events(alloc: Global, scopes: &Scopes<'_>) -> Result<Vec<bo
     let mut marks = unset(alloc, scopes.tree.events.len())?;
     for place in 0..scopes.tree.units.len() {
         let unit = UnitId::new(place as u32);
-        let body = body_of(scopes.tree, unit)?;
-        hide_in(&mut marks, scopes, unit, &body.all);
+        let sites = sites_of(scopes.tree, unit);
+        hide_in(&mut marks, scopes, unit, sites);
     }
     Ok(marks)
 }

@@ -17,6 +17,7 @@ ghost use Rattle.bind_names.specs.Gathering.{HasWays};
 
 use crate::gathering::add_ways;
 use crate::hiding::hidden_events;
+use crate::paths::text_there;
 use ar_base::{Memory, Text};
 use bind_scopes::Scopes;
 use bind_values::Values;
@@ -25,22 +26,19 @@ use hierarchy::MemNode;
 use std::alloc::Global;
 
 // An event by numbers without its ways, where its path is known, and whether a `hide` clause names it.
-fn head_of(
-    alloc: Global,
-    path: &Text,
-    node: &MemNode,
-    hidden: bool,
-) -> Result<DeclaredEvent, Memory>
+fn head_of(alloc: Global, path: &str, node: &MemNode, hidden: bool) -> Result<DeclaredEvent, Memory>
     ensures { (m : RootedModel) (units : List UnitPath) (tree : TreeOf) (t : Thing)
         → path.now ≡ thing_path m t → IsPlainNode m units t node.now
         → IsAnswer hidden (IsHidden m units t) → IfOk result (HasWays m units tree [] t) }
 {
-    let path = path.copy(alloc)?;
+    let text = String::from_str(alloc, path)?;
+    let path = Text::new(text);
+    let ways = Vec::new(alloc);
     Ok(DeclaredEvent {
         path,
         unit: node.unit,
         hidden,
-        ways: Vec::new(alloc),
+        ways,
     })
 }
 
@@ -55,13 +53,8 @@ fn heads(alloc: Global, scopes: &Scopes<'_>, paths: &[Text]) -> Result<Vec<Decla
     let hidden = hidden_events(alloc, scopes)?;
     let mut events = Vec::new(alloc);
     for (place, node) in scopes.tree.events.iter().enumerate() {
-        let Some(mark) = hidden.get(place) else {
-            return Err(Memory {});
-        };
-        let Some(path) = paths.get(place) else {
-            return Err(Memory {});
-        };
-        let event = head_of(alloc, path, node, *mark)?;
+        let path = text_there(paths, place);
+        let event = head_of(alloc, path, node, hidden[place])?;
         events.push(event)?;
     }
     Ok(events)

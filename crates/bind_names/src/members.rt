@@ -1,25 +1,22 @@
 //! The members of units.
 
-ghost use Rattle.std.specs.Prelude.{◌≡◌, ◌<◌, List, length, IfOk};
+ghost use Rattle.std.specs.Prelude.{◌≡◌, ◌<◌, List, length, map};
 ghost use Rattle.ar_base.specs.Lists.{Stands};
-ghost use Rattle.hierarchy.specs.Models.{RootedModel, sites_kept};
+ghost use Rattle.class_table.specs.Tables.{site_of};
+ghost use Rattle.hierarchy.specs.Models.{RootedModel};
 ghost use Rattle.hierarchy.specs.Units.{UnitPath, members_at};
 ghost use Rattle.hierarchy.specs.Tie.{IsTreeOf};
 
-use ar_base::{Memory, UnitId};
-use class_table::Body;
+use ar_base::{BodyId, UnitId};
+use bind_scopes::members_of;
 use hierarchy::Tree;
 
-/// The body of a unit, whose sites are the unit's members. The error is of a unit without a body,
-/// which no tree has.
-pub(crate) fn body_of(tree: &Tree, unit: UnitId) -> Result<&Body, Memory>
+/// The members of a unit, by where they stand. Takes no memory.
+pub(crate) fn sites_of(tree: &Tree, unit: UnitId) -> &[(BodyId, u32)]
     requires { unit.n < length tree.now.units.items }
     ensures { (m : RootedModel) (units : List UnitPath) (u : UnitPath) → IsTreeOf m units tree.now
-        → Stands units unit.n u → IfOk result (λ b. sites_kept b.now ≡ members_at m u) }
+        → Stands units unit.n u → map site_of result.now ≡ members_at m u }
 {
     let node = &tree.units[unit.n as usize];
-    match tree.classes.bodies.get(node.body.n as usize) {
-        Some(body) => Ok(body),
-        None => Err(Memory {}),
-    }
+    members_of(&tree.classes, node.body)
 }

@@ -20,8 +20,7 @@ use gts_core::Observer;
 use hierarchy::MemNode;
 use std::alloc::Global;
 
-// The observer of a node by numbers. The error is of a node that is no observer's, which no tree
-// has, or want of memory.
+// The observer of a node of the tree by numbers.
 fn observer_of(
     alloc: Global,
     scopes: &Scopes<'_>,
@@ -30,6 +29,7 @@ fn observer_of(
     node: &MemNode,
 ) -> Result<Observer, Memory>
     requires scopes { HasScopes scopes.now }
+    requires listed { IsOneOf scopes.now.tree.now.observers.items node.now }
     requires in_range { node.now.unit.n < length scopes.now.tree.now.units.items }
     ensures { (m : RootedModel) (units : List UnitPath) (t : Thing)
         → AreSettled m units scopes.now values.now → prefixes.now ≡ map (prefix m) units
@@ -37,10 +37,10 @@ fn observer_of(
         → IfOk result (IsBoundObserver m units scopes.now.tree.now t) }
 {
     let Some((form, written)) = observed_at(&scopes.tree.classes, node.source) else {
-        return Err(Memory {});
+        unreachable!()
     };
     let Some(kind) = scopes.kind_of_type(form) else {
-        return Err(Memory {});
+        unreachable!()
     };
     let value = expression(alloc, scopes, values, node.unit, written)?;
     let path = thing_path(alloc, scopes.tree, prefixes, node)?;

@@ -1,8 +1,7 @@
 //! Canonical paths: the names from the main block down, with dots between them.
 
-ghost use Rattle.std.specs.Prelude.{◌≡◌, ℕ, List, map, IfOk};
+ghost use Rattle.std.specs.Prelude.{◌≡◌, List, map, IfOk};
 ghost use Rattle.std.specs.String.{string_bytes};
-ghost use Rattle.ar_base.specs.Lists.{Stands};
 ghost use Rattle.ar_base.specs.Texts.{text_at};
 ghost use Rattle.class_table.specs.Members.{NamedMember};
 ghost use Rattle.hierarchy.specs.Listing.{events};
@@ -10,7 +9,7 @@ ghost use Rattle.hierarchy.specs.Models.{RootedModel};
 ghost use Rattle.hierarchy.specs.Paths.{prefix, unit_path, thing_path};
 ghost use Rattle.hierarchy.specs.Tie.{IsTreeOf, IsNode, IsOwner, IsNameOfUnit};
 ghost use Rattle.hierarchy.specs.Units.{UnitPath, Thing};
-ghost use Rattle.bind_names.specs.Fronts.{IsFrontOf};
+ghost use Rattle.bind_names.specs.Fronts.{HasFrontAbove};
 
 use ar_base::{Memory, NameId, Names, Text, UnitId};
 use hierarchy::{MemNode, Tree, UnitNode};
@@ -26,6 +25,16 @@ pub(crate) fn text_of(names: &Names, name: NameId) -> &str
     }
 }
 
+// The text at a place of a list, empty past its end.
+pub(crate) fn text_there(texts: &[Text], place: usize) -> &str
+    ensures { result.now ≡ text_at texts.now place }
+{
+    match texts.get(place) {
+        Some(text) => text.as_str(),
+        None => "",
+    }
+}
+
 // The path of a name in a unit, where these stand before names in units.
 fn path_in(
     alloc: Global,
@@ -35,14 +44,11 @@ fn path_in(
     name: NameId,
 ) -> Result<String, Memory>
     ensures { (m : RootedModel) (u : UnitPath) → names.now ≡ m.names
-        → IsFrontOf m prefixes.now unit.n u
+        → text_at prefixes.now unit.n ≡ prefix m u
         → IfOk result (λ path. string_bytes path
         ≡ thing_path m (record { unit = u; name = name.n })) }
 {
-    let Some(front) = prefixes.get(unit.n as usize) else {
-        return Err(Memory {});
-    };
-    let mut path = String::from_str(alloc, front.as_str())?;
+    let mut path = String::from_str(alloc, text_there(prefixes, unit.n as usize))?;
     path.push_str(text_of(names, name))?;
     Ok(path)
 }
@@ -50,7 +56,7 @@ fn path_in(
 // What stands before a name in a unit, where these stand before names in the units above it.
 fn prefix_of(alloc: Global, names: &Names, above: &[Text], node: &UnitNode) -> Result<Text, Memory>
     ensures { (m : RootedModel) (units : List UnitPath) (u : UnitPath) → names.now ≡ m.names
-        → ((n : ℕ) (v : UnitPath) → Stands units n v → IsFrontOf m above.now n v)
+        → HasFrontAbove m units u above.now
         → IsOwner units u node.now.owner → IsNameOfUnit u node.now.name
         → IfOk result (λ text. text ≡ prefix m u) }
 {
@@ -84,7 +90,7 @@ fn unit_path_of(
     node: &UnitNode,
 ) -> Result<Text, Memory>
     ensures { (m : RootedModel) (units : List UnitPath) (u : UnitPath) → names.now ≡ m.names
-        → ((n : ℕ) (v : UnitPath) → Stands units n v → IsFrontOf m prefixes.now n v)
+        → HasFrontAbove m units u prefixes.now
         → IsOwner units u node.now.owner → IsNameOfUnit u node.now.name
         → IfOk result (λ text. text ≡ unit_path m u) }
 {

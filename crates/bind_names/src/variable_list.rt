@@ -2,6 +2,7 @@
 
 ghost use Rattle.std.specs.Prelude.{◌≡◌, List, map, IfOk};
 ghost use Rattle.domains.specs.Domains.{Holds};
+ghost use Rattle.gts_core.specs.Readings.{value_at};
 ghost use Rattle.hierarchy.specs.Models.{RootedModel};
 ghost use Rattle.hierarchy.specs.Paths.{prefix};
 ghost use Rattle.hierarchy.specs.Tie.{IsTreeOf, IsVariableNode};
@@ -44,6 +45,16 @@ fn variable_of(
     })
 }
 
+// The value at a place of a list, false past its end.
+fn value_there(values: &[Value], place: usize) -> Value
+    ensures { result ≡ value_at values.now place }
+{
+    match values.get(place) {
+        Some(value) => *value,
+        None => Value::Truth(false),
+    }
+}
+
 /// The variables of a tree, in its order, with these values, where this is what stands before names
 /// in its units: each with its path, unit, domain and sort. The error is want of memory.
 pub fn variables(
@@ -58,10 +69,8 @@ pub fn variables(
 {
     let mut variables = Vec::new(alloc);
     for (place, node) in tree.variables.iter().enumerate() {
-        let Some(value) = values.variables.get(place) else {
-            return Err(Memory {});
-        };
-        let variable = variable_of(alloc, tree, prefixes, node, *value)?;
+        let value = value_there(&values.variables, place);
+        let variable = variable_of(alloc, tree, prefixes, node, value)?;
         variables.push(variable)?;
     }
     Ok(variables)

@@ -2,6 +2,7 @@ use Rattle.std.proofs.Common.{◌<◌, ◌^◌, length, refl, ap, arith}
 use Rattle.ar_base.proofs.Standing.{stands_one}
 use Rattle.class_table.proofs.Taken.{item_stands}
 use Rattle.gts_core.specs.declared.bound.DeclaredEvent.{DeclaredEvent}
+use Rattle.bind_names.specs.Gathering.{there, nowhere}
 use Rattle.bind_names.proofs.gathering.put.Goals as goal
 
 pub returns : goal.returns
@@ -25,11 +26,14 @@ returns c =
       c.in_ok-push.ensures.len,
       c.push.new.self.ok.0,
     ) in
-    record {
+    there (record {
       event = event;
       stands = s;
       ways = c.push.new.self;
       is = c.in_ok-push.ensures.items;
       few = few;
       new_is = refl;
-    }
+    })
+
+pub returns-then-n-len : goal.returns-then-n-len
+returns-then-n-len c = nowhere (omega (arith, c.if-n-len.true, c.len.ensures, c.args.events.now.ok.0)) refl

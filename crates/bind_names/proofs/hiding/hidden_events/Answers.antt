@@ -28,8 +28,8 @@ loop-place-preserved c = λ m units is.
     let l : i < length units = omega (arith, c.loop-place-test.true, n, k) in
     let w = stands_some units i l in
     let at = subst (λ (z : ℕ). Stands units z w.0) (sym c.new-unit.ensures) w.1 in
-    let sites = c.in_ok-body.ensures m units w.0 is at in
-    let marked = rw c.deref.ensures.value at (c.hide_in.ensures m units w.0 is at) in
+    let sites = c.sites_of-sites.ensures m units w.0 is at in
+    let marked = c.hide_in.ensures m units w.0 is at in
     let here = subst (λ (ss : List Site). Marks (events m units)
     (HidesIn m w.0 (flat_map (λ (s : Site). form_of (owned_at m.declared s)) ss)) c.loop-place.marks.items
     c.hide_in.new.marks.items) sites marked in

@@ -1,10 +1,11 @@
-use Rattle.std.proofs.Common.{◌≤◌, ℕ, List, None, length, map, get_or, arith, subst}
+use Rattle.std.proofs.Common.{◌≤◌, List, None, length, get_or, arith, ◌∙◌, subst}
 use Rattle.ar_base.specs.Lists.{Stands}
-use Rattle.ar_base.proofs.Standing.{along_back, along_length, stands_get, stands_map, stands_one}
+use Rattle.ar_base.proofs.Standing.{along_back, along_length, stands_get, stands_within}
 use Rattle.class_table.proofs.Taken.{item_stands}
 use Rattle.hierarchy.specs.Listing.{events}
 use Rattle.hierarchy.specs.Paths.{thing_path}
 use Rattle.hierarchy.specs.declared.tree.MemNode.{MemNode}
+use Rattle.bind_names.proofs.Named.{text_here}
 use Rattle.bind_names.proofs.Wayed.{rows_start, rows_more, rows_end}
 use Rattle.bind_names.proofs.listing.heads.Goals as goal
 
@@ -15,6 +16,16 @@ no_node = record {
   name = record { n = 0; of = record {} };
   source = record { body = record { n = 0; of = record {} }; member = 0; setting = None };
 }
+
+pub index-requires : goal.index-requires
+index-requires c =
+    let h = c.requires in
+    let is = h.are.is_tree in
+    let marks = c.in_ok-hidden.ensures h.model h.units is in
+    let n = along_length (events h.model h.units) c.args.scopes.now.tree.now.events.items is.events_are in
+    let l = rw c.deref-node-items.ensures.value at c.loop-place-test.true in
+    let same = marks.same in
+    omega (arith, n, l, same)
 
 pub loop-place-init : goal.loop-place-init
 loop-place-init c = λ m units is pre. rows_start c.new-events.result.items c.new-events.ensures.items
@@ -27,19 +38,17 @@ loop-place-preserved c = λ m units is pre.
     let there = stands_get c.deref-node-items.result.now c.loop-place.place no_node c.loop-place-test.true in
     let s = subst (λ (ds : List MemNode). Stands ds c.loop-place.place node) c.deref-node-items.ensures.value there in
     let w = along_back (events m units) nodes is.events_are c.loop-place.place node s in
-    let j = rw c.deref.ensures.value at c.in-Some.ensures.lookup.3.0 in
-    let k = rw c.deref.ensures.value at c.in-Some.ensures.lookup.1 in
-    let marked = item_stands c.in_ok-hidden.hidden.items c.loop-place.place c.in-Some.mark.now j k in
-    let path = item_stands c.args.paths.now c.loop-place.place c.in-Some-get.path.now c.in-Some-get.ensures.lookup.3.0
-    c.in-Some-get.ensures.lookup.1 in
-    let named = stands_one (map (thing_path m) (events m units)) c.loop-place.place c.in-Some-get.path.now
-    (thing_path m w.0)
-    (subst (λ (ps : List (List ℕ)). Stands ps c.loop-place.place c.in-Some-get.path.now) pre path)
-    (stands_map (thing_path m) (events m units) c.loop-place.place w.0 w.1) in
-    let told = (c.in_ok-hidden.ensures m units is).tell c.loop-place.place w.0 c.in-Some.mark.now w.1 marked in
+    let path = c.text_there-path.ensures
+    ∙ text_here (thing_path m) (events m units) c.args.paths.now pre c.loop-place.place w.0 w.1 in
+    let hidden = c.in_ok-hidden.ensures m units is in
+    let marks = c.in_ok-hidden.hidden.items in
+    let long = stands_within (events m units) c.loop-place.place w.0 w.1 in
+    let same = hidden.same in
+    let marked = item_stands marks c.loop-place.place c.index.result.now (omega (arith, long, same)) c.index.ensures in
+    let told = hidden.tell c.loop-place.place w.0 c.index.result.now w.1 marked in
     rows_more (events m units) c.loop-place.place w.0 c.in_ok-event.event c.loop-place.events.items
     c.push.new.self.items w.1 (c.loop-place.invariant m units is pre)
-    (c.in_ok-event.ensures m units c.args.scopes.now.tree.now w.0 named w.2 told) c.in_ok-push.ensures.items
+    (c.in_ok-event.ensures m units c.args.scopes.now.tree.now w.0 path w.2 told) c.in_ok-push.ensures.items
 
 pub returns : goal.returns
 returns c = λ m units is pre.

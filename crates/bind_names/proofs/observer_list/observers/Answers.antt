@@ -22,6 +22,14 @@ loop-node-init c = λ m units st pre.
     subst (λ (os : List Observer). Along (IsBoundObserver m units c.args.scopes.now.tree.now) [] os)
     (sym c.new-observers.ensures.items) l.none
 
+pub observer_of-requires-clause-listed : goal.observer_of-requires-clause-listed
+unfolding no_node
+observer_of-requires-clause-listed c =
+    let node = get_or c.deref-node-items.result.now c.loop-node.node-index no_node in
+    let s = subst (λ (ds : List MemNode). Stands ds c.loop-node.node-index node) c.deref-node-items.ensures.value
+    (stands_get c.deref-node-items.result.now c.loop-node.node-index no_node c.loop-node-test.true) in
+    one_here c.args.scopes.now.tree.now.observers.items c.loop-node.node-index node s
+
 pub observer_of-requires-clause-in_range : goal.observer_of-requires-clause-in_range
 unfolding no_node
 observer_of-requires-clause-in_range c =

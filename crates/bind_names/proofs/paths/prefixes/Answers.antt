@@ -17,7 +17,8 @@ loop-node-preserved c = λ m units tree.
     texts_more (IsUnitNode m units) (prefix m) units c.deref-node-items.result.now along c.loop-node.node-index w.0
     c.loop-node.texts.items c.push.new.self.items c.in_ok-text.text
     w.1 so_far (c.in_ok-text.ensures m units w.0 tree.table.table.names
-    (rw c.deref.ensures.value (fronts_taken m units c.loop-node.node-index c.loop-node.texts.items so_far))
+    (rw c.deref.ensures.value (fronts_taken m units tree.table.kept tree.are_units c.loop-node.node-index w.0 w.1
+    c.loop-node.texts.items so_far))
     w.2.owner w.2.name)
     c.in_ok-push.ensures.items
 

@@ -16,7 +16,7 @@ loop-node-preserved c = λ m units tree fronts.
     texts_more (IsUnitNode m units) (unit_path m) units c.deref-node-items.result.now along c.loop-node.node-index w.0
     c.loop-node.paths.items c.push.new.self.items c.in_ok-path.path
     w.1 (c.loop-node.invariant m units tree fronts)
-    (c.in_ok-path.ensures m units w.0 tree.table.table.names (fronts_all m units c.args.prefixes.now fronts)
+    (c.in_ok-path.ensures m units w.0 tree.table.table.names (fronts_all m units w.0 c.args.prefixes.now fronts)
     w.2.owner w.2.name)
     c.in_ok-push.ensures.items
 

@@ -1,7 +1,12 @@
-use Rattle.ar_base.proofs.Standing.{along_back}
+use Rattle.std.proofs.Common.{◌∙◌, List, ap, subst, sym}
+use Rattle.ar_base.proofs.Standing.{along_back, along_on}
 use Rattle.class_table.proofs.Taken.{item_stands}
+use Rattle.domains.specs.Domains.{Holds}
+use Rattle.domains.specs.declared.Value.{Value}
+use Rattle.gts_core.specs.Readings.{value_at}
 use Rattle.hierarchy.specs.Listing.{variables}
-use Rattle.bind_names.proofs.Varied.{along_at, first_none, first_next, first_all}
+use Rattle.bind_values.specs.Values.{IsValue}
+use Rattle.bind_names.proofs.Varied.{value_found, along_at, first_none, first_next, first_all}
 use Rattle.bind_names.proofs.variable_list.variables.Goals as goal
 
 pub loop-place-init : goal.loop-place-init
@@ -15,13 +20,13 @@ loop-place-preserved c = λ m units tied are pre.
     let s = item_stands nodes place c.node-item.result (rw c.deref-node-items.ensures.value at c.loop-place-test.true)
     (rw c.deref-node-items.ensures.value at c.node-item.is) in
     let w = along_back (variables m units) nodes tied.variables_are place c.node-item.result s in
-    let v = item_stands c.args.values.now.variables.items place c.in-Some.value.now
-    (rw c.deref.ensures.value at c.in-Some.ensures.lookup.3.0)
-    (rw c.deref.ensures.value at c.in-Some.ensures.lookup.1) in
-    let value = along_at (variables m units) c.args.values.now.variables.items are.variables_are place w.0
-    c.in-Some.value.now w.1 v in
-    let held = along_at nodes c.args.values.now.variables.items are.variables_held place c.node-item.result
-    c.in-Some.value.now s v in
+    let values = c.args.values.now.variables.items in
+    let v = along_on (variables m units) values are.variables_are place w.0 w.1 in
+    let e = c.value_there-value.ensures ∙ ap (λ (vs : List Value). value_at vs place) c.deref.ensures.value in
+    let found = value_found values place v.0 v.1 in
+    let value = subst (IsValue m w.0) (sym (e ∙ found)) v.2 in
+    let held = subst (Holds c.node-item.result.domain) (sym (e ∙ found))
+    (along_at nodes values are.variables_held place c.node-item.result v.0 s v.1) in
     first_next m units c.args.tree.now tied place w.0 c.node-item.result c.in_ok-variable.variable
     c.loop-place.variables.items c.push.new.self.items w.1 s (c.loop-place.invariant m units tied are pre)
     (c.in_ok-variable.ensures.bound m units w.0 tied pre w.2 value)

@@ -12,6 +12,7 @@ use ar_parser::parse;
 use ar_syntax::Model;
 use bind_names::bind;
 use class_table::table;
+use cut_text::forest_laws::forests_of_the_source;
 use cut_text::laws::edges_of_forests;
 use domains::Value;
 use eq_core::Equations;
@@ -82,9 +83,10 @@ fn system_of(alloc: Global, model: Model) -> Result<Gts, RuleFault> {
 fn forest_of(alloc: Global, system: &Gts) -> Result<Forest, FragmentFault>
     ensures { IfOk result (λ f. IsForestFor system.now f × AreTrees (trees_of (λ n. n) f)) }
 {
-    // The system is one, and the trees of a static one's forest are trees.
+    // The system is one, and the trees of a static one's forest are trees with few edges.
     one_system();
     edges_of_forests();
+    forests_of_the_source();
     let _sound_parts = system.parts();
     let forest = recognise(alloc, system, &[])?;
     Ok(forest)

@@ -5,6 +5,7 @@ mod Giving
 mod Flowing
 mod RowsPut
 mod FirstReading
+mod FewGates
 mod IndexLemmas
 mod Allowing
 mod AnyWays

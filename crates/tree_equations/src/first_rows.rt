@@ -1,14 +1,16 @@
 //! What the variables read before the rounds.
 
-ghost use Rattle.std.specs.Prelude.{◌≡◌, ℕ, IfOk, OnOk, [], length};
+ghost use Rattle.std.specs.Prelude.{◌≡◌, ◌≤◌, ℕ, IfOk, OnOk, [], length};
+ghost use Rattle.ar_base.specs.Lists.{Stands};
+ghost use Rattle.eq_build.specs.Builds.{most_gates};
 ghost use Rattle.eq_build.specs.Views.{entries_in, lists_in, row_at};
 ghost use Rattle.gts_core.specs.View.{variables_from};
 ghost use Rattle.table_steps.specs.Steps.{first_reading, in_order};
-ghost use Rattle.tree_equations.specs.Answers.{trees_in, init_of};
+ghost use Rattle.tree_equations.specs.Answers.{Entries, trees_in, init_of};
 
 use crate::assigning::put_all;
 use ar_base::Memory;
-use eq_build::{Entry, Groups};
+use eq_build::{BuildFault, Entry, Groups};
 use eq_core::Operand;
 use gts_core::Variable;
 use mode_trees::ModeTree;
@@ -21,7 +23,9 @@ pub(crate) fn first_rows(
     trees: &[ModeTree],
     modes: Vec<Vec<Entry>>,
 ) -> Result<Vec<Vec<Entry>>, Memory>
-    requires { length modes.items ≡ length trees.now }
+    requires long { length modes.items ≡ length trees.now }
+    requires few { (n : ℕ) (row : Entries) → Stands modes.items n row
+        → length row.items ≤ most_gates }
     ensures long { IfOk result (λ rows. length rows.items ≡ length variables.now) }
     ensures reading { IfOk result (λ rows. row_at rows.items
         ≡ first_reading (trees_in trees.now) (lists_in modes.items) 0
@@ -67,8 +71,9 @@ fn init_row(alloc: Global, variable: &Variable) -> Result<Vec<Entry>, Memory>
     Ok(Vec::from_slice(alloc, &[entry])?)
 }
 
-// The entries in the order of their values. No value stands in two of them, so no gate is made.
+// The entries in the order of their values. Each value makes one gate at most, so that there are never too many.
 fn in_order(alloc: Global, entries: &[Entry]) -> Result<Vec<Entry>, Memory>
+    requires { length entries.now ≤ most_gates }
     ensures { IfOk result (λ row. entries_in row.items ≡ in_order (entries_in entries.now)) }
 {
     let mut groups = Groups::new(alloc);
@@ -76,6 +81,7 @@ fn in_order(alloc: Global, entries: &[Entry]) -> Result<Vec<Entry>, Memory>
     let mut gates = Vec::new(alloc);
     match groups.entries(alloc, &mut gates) {
         Ok(row) => Ok(row),
-        Err(_) => Err(Memory {}),
+        Err(BuildFault::Gates) => unreachable!(),
+        Err(BuildFault::Memory) => Err(Memory {}),
     }
 }

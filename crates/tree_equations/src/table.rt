@@ -1,6 +1,7 @@
 //! The table.
 
 ghost use Rattle.std.specs.Prelude.{◌≡◌, ◌≤◌, ◌<◌, ◌++◌, ℕ, IfOk, IfErr, length, slice_get};
+ghost use Rattle.ar_base.specs.Lists.{IsOneOf};
 ghost use Rattle.eq_core.specs.Gates.{Table};
 ghost use Rattle.eq_core.specs.Views.{table_of, operand_of};
 ghost use Rattle.eq_build.specs.Builds.{most_gates};
@@ -8,6 +9,7 @@ ghost use Rattle.eq_build.specs.Views.{gates_in, operands_in, row_at, MakesOpera
 ghost use Rattle.eq_core.specs.Gates.{any_of};
 ghost use Rattle.gts_core.specs.Sound.{IsSound};
 ghost use Rattle.gts_core.specs.View.{net_of};
+ghost use Rattle.mode_trees.specs.declared.forests.ModeTree.{ModeTree as Tree};
 ghost use Rattle.tree_equations.specs.Seen.{GivesConflict};
 ghost use Rattle.tree_equations.specs.Index.{IsIndex};
 ghost use Rattle.tree_equations.specs.Gives.{AtObserver, IsTableOf, NeedsTooMany};
@@ -31,7 +33,8 @@ use std::alloc::Global;
 
 /// The table of gates of a static system, by the trees of its modes, for the observer of this number and a wanted value.
 ///
-/// Gates comes only where the table has more gates than a table may have; the other error is want of memory.
+/// The trees are those of a system, so that none has as many edges as a table may have gates. Gates comes only where the
+/// table has more gates than a table may have; the other error is want of memory.
 pub fn equations(
     alloc: Global,
     gts: &Gts,
@@ -39,7 +42,9 @@ pub fn equations(
     observer: u32,
     wanted: Value,
 ) -> Result<Equations, EqFault>
-    requires { observer < length gts.now.observers.items }
+    requires observer { observer < length gts.now.observers.items }
+    requires few { (tree : Tree) → IsOneOf forest.now.trees.items tree
+        → length tree.edges.items < most_gates }
     ensures table { IfOk result (λ q. AtObserver (slice_get gts.now.observers.items observer)
         (IsTableOf gts.now forest.now wanted (table_of q))) }
     ensures few { IfOk result (λ q. length q.gates.items ≤ most_gates) }
@@ -58,7 +63,9 @@ fn table(
     observer: u32,
     wanted: Value,
 ) -> Result<Equations, BuildFault>
-    requires { observer < length gts.now.observers.items }
+    requires observer { observer < length gts.now.observers.items }
+    requires few { (tree : Tree) → IsOneOf forest.now.trees.items tree
+        → length tree.edges.items < most_gates }
     ensures table { IfOk result (λ q. AtObserver (slice_get gts.now.observers.items observer)
         (IsTableOf gts.now forest.now wanted (table_of q))) }
     ensures few { IfOk result (λ q. length q.gates.items ≤ most_gates) }

@@ -1,6 +1,7 @@
-use Rattle.std.proofs.Common.{true, [], Option, subst}
+use Rattle.std.proofs.Common.{◌≤◌, ◌<◌, true, [], Option, subst, arith}
 use Rattle.ar_base.proofs.Standing.{stands_some}
 use Rattle.ar_firing.proofs.Shapes.{are_trees}
+use Rattle.cut_text.proofs.ForestPieces.{edges_of_one}
 use Rattle.domains.specs.declared.Value.TheVariants.{Truth}
 use Rattle.eq_core.specs.Views.{table_of}
 use Rattle.gts_core.specs.View.{net_of, numbered}
@@ -9,6 +10,11 @@ use Rattle.mode_trees.specs.Views.{trees_of, number_in}
 use Rattle.tree_equations.specs.Gives.{AtObserver, IsTableOf}
 use Rattle.system_cases.proofs.Keyed.{keyed_static}
 use Rattle.system_cases.proofs.analysing.table_of.Goals as goal
+
+pub equations-requires-clause-few : goal.equations-requires-clause-few
+equations-requires-clause-few c = λ tree o.
+    let all = c.requires.forest.few in
+    let one = edges_of_one c.args.forest.now.trees.items tree o in omega (arith, all, one)
 
 pub returns : goal.returns
 returns c =

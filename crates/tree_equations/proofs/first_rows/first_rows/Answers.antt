@@ -1,8 +1,9 @@
-use Rattle.std.proofs.Common.{◌≡◌, ◌<◌, ◌≤◌, ℕ, [], List, length, take, get_or, set, sym, ap, ◌∙◌, subst, rules, arith, take_all, Vec, Global, true, false}
+use Rattle.std.proofs.Common.{◌≡◌, ◌<◌, ◌≤◌, ℕ, [], ◌∷◌, List, length, take, get_or, set, sym, ap, ◌∙◌, subst, rules, arith, take_all, Vec, Global, true, false}
 use Rattle.std.proofs.Math.Path.{fun_ext}
 use Rattle.std.proofs.lemmas.List.{length_push, get_or_default, length-set}
 use Rattle.ar_base.specs.Lists.{Stands}
-use Rattle.ar_base.proofs.Standing.{stands_one, stands_within, stands_item}
+use Rattle.ar_base.proofs.Standing.{stands_one, stands_within, stands_item, stands_left, stands_next}
+use Rattle.eq_build.specs.Builds.{most_gates}
 use Rattle.eq_build.specs.Views.{row_at, lists_in, entries_in}
 use Rattle.eq_build.specs.declared.entries.Entry.{Entry}
 use Rattle.gts_core.specs.declared.system.Variable.{Variable}
@@ -16,10 +17,11 @@ use Rattle.tree_equations.proofs.first_rows.first_rows.Goals.{then-number-variab
 
 pub loop-entries-init : goal.loop-entries-init
 loop-entries-init c =
-    let l : length c.args.trees.now ≤ length c.args.modes.items = let e = c.requires in omega (arith, e) in
+    let l : length c.args.trees.now ≤ length c.args.modes.items = let e = c.requires.long in omega (arith, e) in
     record {
-      few = let e = c.requires in omega (arith, e);
+      few = let e = c.requires.long in omega (arith, e);
       long = c.in_ok-rows.ensures.long;
+      small = c.requires.few;
       same = λ x. first_from (trees_in c.args.trees.now) (lists_in c.args.modes.items) 0 c.args.variables.now x
           (row_at c.in_ok-rows.rows.items) (c.in_ok-rows.ensures.reading x)
           ∙ ap (λ (z : List ModeTree). reading_or (trees_in z) (lists_in c.args.modes.items)
@@ -43,6 +45,9 @@ loop-entries-preserved c =
     let at : tree ≡ get_or trees (length left) tree = get_or_default trees c.len.result c.index-trees-len.result tree l
     ∙ ap (λ (k : ℕ). get_or trees k tree) size in
     let rows = c.loop-entries.rows.items in
+    let small : (n : ℕ) (row : Entries) → Stands left n row → length row.items ≤ most_gates = λ n row s.
+    c.loop-entries.invariant.small n row (subst (λ (z : List Entries). Stands z n row) (sym split)
+    (stands_left left (es ∷ []) n row s)) in
     let step : (new : List Entries) → IsPlaced vs number (row_in es) rows new → (x : ℕ)
     → first_reading (trees_in trees) (lists_in c.args.modes.items) 0 (variables_from 0 vs) x
     ≡ reading_or (trees_in (take (length left) trees)) (lists_in left) (row_at new) 0 vs x =
@@ -60,6 +65,7 @@ loop-entries-preserved c =
           let within = w.if-number-variables.true in
           record {
             few = omega (arith, long, few);
+            small = small;
             long = ap length items ∙ length-set rows number w.in_ok-row.row ∙ keeps;
             same = step new (placed_put vs v number (row_in es) rows new w.in_ok-row.row st is
                 (omega (arith, within, keeps)) order items);
@@ -82,6 +88,7 @@ loop-entries-preserved c =
           ] in
           record {
             few = omega (arith, long, few);
+            small = small;
             long = ap length items ∙ c.loop-entries.invariant.long;
             same = step new (subst (λ (z : List Entries). IsPlaced vs number (row_in es) rows z) (sym items)
                 (placed_skip vs number (row_in es) rows none));
@@ -90,6 +97,15 @@ loop-entries-preserved c =
   where
     differ : true ≡ false → ⊥
     differ h = absurd (cc h)
+
+pub in_order-requires : goal.in_order-requires
+in_order-requires c =
+    let split = c.in-Some.ensures.items in
+    let es = c.in-Some.entries in
+    let left = c.pop.new.self.items in
+    let small = c.loop-entries.invariant.small (length left) es
+    (subst (λ (z : List Entries). Stands z (length left) es) (sym split) (stands_next left es [])) in
+    subst (λ (z : List Entry). length z ≤ most_gates) (sym c.deref.ensures.value) small
 
 pub returns : goal.returns
 returns c =

@@ -22,13 +22,23 @@ use Rattle.tree_equations.specs.Blocks.{blocks_in}
 use Rattle.tree_equations.specs.Seen.{Conflicting}
 use Rattle.ar_base.proofs.Standing.{stands_item}
 use Rattle.tree_equations.proofs.Conflicting.{table_first, table_second, table_third, table_fourth, table_made}
+use Rattle.tree_equations.proofs.FewGates.{rows_few}
 use Rattle.tree_equations.proofs.Flowing.{threads_long}
 use Rattle.tree_equations.proofs.IndexLemmas.{blocks_under}
 use Rattle.tree_equations.proofs.Tabling.{all_need, one_needs, one_table, err_on}
 use Rattle.tree_equations.proofs.table.table.Goals as goal
 
-pub first_rows-requires : goal.first_rows-requires
-first_rows-requires c =
+pub first_rows-requires-clause-few : goal.first_rows-requires-clause-few
+first_rows-requires-clause-few c =
+    let g1 = gates_in c.modes.new.gates.items in
+    let trees = c.args.forest.now.trees.items in
+    let modes = lists_in c.in_ok-modes.modes.items in
+    let d1 = subst (λ (ts : List ModeTree). Threads Has_modes (gates_in c.new-gates.result.items) (map tree_in ts) modes
+    g1) c.deref-2.ensures.value c.in_ok-modes.ensures.0 in
+    rows_few _ g1 trees c.in_ok-modes.modes.items d1 c.requires.few
+
+pub first_rows-requires-clause-long : goal.first_rows-requires-clause-long
+first_rows-requires-clause-long c =
     sym (length-map c.in_ok-modes.modes.items _) ∙ threads_long c.in_ok-modes.ensures.0
     ∙ length-map c.deref-2.result.now _
     ∙ ap length (c.deref-2.ensures.value ∙ sym c.deref-4.ensures.value)
@@ -141,7 +151,7 @@ returns-in_err-seen-clause-gates c =
     let g3 = gates_in c.conflicts.new.gates.items in
     let o = c.index.result.now in
     let under = subst (λ (z : GtsParts). c.args.observer < length z.observers.items) (sym c.parts-parts.ensures.parts)
-    c.requires in
+    c.requires.observer in
     let st = stands_item p.observers.items c.args.observer o under c.index.ensures in
     err_on (TooMany (λ es h. Builds (row_at c.deref-6.result.now) g3 (out-Expr ℕ (numbered o.value))
     (record { entries = es; gates = h }))) _ c.from_residual-in_err-seen.result c.in_err-seen.field-0.0
@@ -179,7 +189,7 @@ returns-clause-table c =
     let g3 = gates_in c.conflicts.new.gates.items in
     let o = c.index.result.now in
     let under = subst (λ (z : GtsParts). c.args.observer < length z.observers.items) (sym c.parts-parts.ensures.parts)
-    c.requires in
+    c.requires.observer in
     let st = stands_item p.observers.items c.args.observer o under c.index.ensures in
     let es = row_in c.in_ok-seen.seen in
     let h = gates_in c.built.new.gates.items in

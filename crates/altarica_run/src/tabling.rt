@@ -1,7 +1,8 @@
 //! The observer and the value that a job asks for, and the gate table.
 
-ghost use Rattle.std.specs.Prelude.{◌≡◌, ℕ, true, option_map};
+ghost use Rattle.std.specs.Prelude.{◌≡◌, ◌≤◌, ℕ, true, option_map};
 ghost use Rattle.ar_base.specs.Stages.{Where};
+ghost use Rattle.cut_text.specs.ForestPrinted.{edge_count};
 ghost use Rattle.gts_flatten.specs.Elaborating.{Elaborated};
 ghost use Rattle.gts_flatten.specs.Flat.{IsFlat};
 ghost use Rattle.run_words.specs.declared.verbs.Verb.{Verb};
@@ -51,15 +52,16 @@ pub fn wanted_of(
     }
 }
 
-/// The gate table of the system by the trees of its modes, for what is asked for; an empty one
-/// where nothing is.
+/// The gate table of the system by the trees of its modes, which have few edges, for what is asked
+/// for; an empty one where nothing is.
 pub fn table_of(
     alloc: Global,
     system: &Gts,
     forest: &Forest,
     wanted: Option<Wanted>,
 ) -> Result<GateTable, Stop>
-    requires { HasObserver system.now wanted }
+    requires observer { HasObserver system.now wanted }
+    requires few { edge_count forest.now.trees.items ≤ 2048 }
     ensures { (command : Verb) (w : Ready) → IsFlat w.source system.now → w.wanted ≡ wanted
         → IsThere (has_table command) wanted
         → (has_table command ≡ true → IsForestOf system.now w.dropped forest.now)
@@ -81,7 +83,8 @@ pub fn table_of(
 
 // The gate table for an observer and its value.
 fn tabled(alloc: Global, system: &Gts, forest: &Forest, wanted: Wanted) -> Result<GateTable, Stop>
-    requires { HasObserver system.now (Some wanted) }
+    requires observer { HasObserver system.now (Some wanted) }
+    requires few { edge_count forest.now.trees.items ≤ 2048 }
     ensures { (command : Verb) (w : Ready) → IsFlat w.source system.now → w.wanted ≡ Some wanted
         → IsForestOf system.now w.dropped forest.now
         → IsStageOf (HasTable command system.now forest.now) (Tabled w) result }

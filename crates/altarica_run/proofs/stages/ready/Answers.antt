@@ -39,12 +39,23 @@ returns-in_err-forest c = λ texts x second of.
     stage_passes stop_told (Asks job texts) (Demands job.command) x
     (IsRequested job.command x p) (IsReady job) f.0 _ f.1 (forest_stops job f.0 p _ _ _ r.1 r.2 k)
 
-pub table_of-requires : goal.table_of-requires
-table_of-requires c =
+pub table_of-requires-clause-observer : goal.table_of-requires-clause-observer
+table_of-requires-clause-observer c =
     let source = c.requires.source in
     let f = c.in_ok-request.ensures ([] ∷ script_texts c.args.script.now) source.0
     (second_here (is_second (shape_of c.args.job.now.command).files) [] c.args.script.now) source.1 in
     f.2.wanted.inside
+
+pub table_of-requires-clause-few : goal.table_of-requires-clause-few
+table_of-requires-clause-few c =
+    let source = c.requires.source in
+    let job = c.args.job.now in
+    let p = c.args.flattened.system in
+    let f = c.in_ok-request.ensures ([] ∷ script_texts c.args.script.now) source.0
+    (second_here (is_second (shape_of job.command).files) [] c.args.script.now) source.1 in
+    let flat = subst (λ (z : Elaborated). IsFlat z p) (sym f.2.source) source.1.flat in
+    let h = rw c.deref.ensures.value at c.in_ok-forest.ensures f.0 flat in
+    (forest_here job f.0 p c.in_ok-forest.forest (h f.2.dropped.are)).written.few
 
 pub returns-in_err-table : goal.returns-in_err-table
 returns-in_err-table c = λ texts x second of.

@@ -5,8 +5,8 @@ use Rattle.altarica_run.specs.Stages.{Tabled, has_table}
 use Rattle.altarica_run.proofs.TableLemmas.{is_there, not_there, none_tabled}
 use Rattle.altarica_run.proofs.tabling.table_of.Goals as goal
 
-pub tabled-requires : goal.tabled-requires
-tabled-requires c = subst (HasObserver c.args.system.now) c.in-Some.is c.requires
+pub tabled-requires-clause-observer : goal.tabled-requires-clause-observer
+tabled-requires-clause-observer c = subst (HasObserver c.args.system.now) c.in-Some.is c.requires.observer
 
 pub returns-in-Some : goal.returns-in-Some
 returns-in-Some c = λ command w of e there trees.

@@ -1,5 +1,6 @@
 pub mod Containment
 mod Firsts
+mod Forced
 mod Inherited
 pub mod Inside
 mod Items

@@ -22,7 +22,7 @@ use Rattle.hierarchy.specs.Models.{RootedModel}
 use Rattle.hierarchy.specs.Units.{UnitPath, Thing, members_at, names_at}
 use Rattle.hierarchy.specs.Walks.{WalkOutcome, thing, PassesTest, is_parameter}
 use Rattle.hierarchy.specs.Listing.{form_of, forms_at}
-use Rattle.hierarchy.specs.Settings.{TargetWord, Named, target_word_of, target_of, settings_in, settings_of, settings_at, is_init, is_reset, is_state, is_flow, is_state_variable, is_flow_variable}
+use Rattle.hierarchy.specs.Settings.{TargetWord, target_word_of, target_of, settings_in, settings_of, settings_at, is_init, is_reset, is_state, is_flow, is_state_variable, is_flow_variable}
 use Rattle.unit_rules.specs.Typing.{bounds_variables}
 use Rattle.unit_rules.specs.Statements.{HasPath, clones, embeds, WalkEnds}
 use Rattle.unit_rules.specs.Rules.{BreaksForm, declares, BreaksDeclaration, IsSettingTarget, parameter, init, reset, inside, HasSetting, BreaksSetting, no_target, twice}
@@ -37,14 +37,14 @@ use Rattle.unit_laws.proofs.Named.{Both, neither, both, types_both, owned_both}
 use Rattle.unit_laws.proofs.Leading.{parameter_same, members_same, names_same, name_same, kind_same, given_there, makes_there}
 
 -- what stands for the first is there for the second, and agrees
-other_of : {A : Type 0} {R : A → A → Type 0} {o p : Option A} → Both R o p → (a : A) → o ≡ Some a
+pub other_of : {A : Type 0} {R : A → A → Type 0} {o p : Option A} → Both R o p → (a : A) → o ≡ Some a
     → (b : A) × (p ≡ Some b) × R a b
 other_of neither a e = cc
 other_of {R = R} (both {a = c} {b = b} r) a e = let same : c ≡ a = cc in (b, refl, subst (λ z. R z b) same r)
 
 -- Settings
 
-target_same : {s t : Setting} → SameSetting s t → target_of s ≡ target_of t
+pub target_same : {s t : Setting} → SameSetting s t → target_of s ≡ target_of t
 target_same r = ap (λ (ws : List Word). map target_word_of ws) r.target
 
 state_same : {ss rs : List Setting} → Along SameSetting ss rs → is_state ss ≡ is_state rs

@@ -44,3 +44,10 @@ pub record AreSeenAlike (main : Option (List ℕ)) (m n : RootedModel) : Type 0 
   pub members : m.members ≡ n.members
   pub names : m.names ≡ n.names
   pub is_main : IsMain n.names n.declared main m.main
+
+-- the same table, members, main block and names
+pub record SameRooted (m n : RootedModel) : Type 0 where
+  pub declared : SameTable m.declared n.declared
+  pub members : m.members ≡ n.members
+  pub main : m.main ≡ n.main
+  pub names : m.names ≡ n.names

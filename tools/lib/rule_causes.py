@@ -360,12 +360,22 @@ def alone(text, missing, path):
             return "`%s` in the %s is %s and no unit" % (missing.name, unit_named(missing.where), WORDS[missing.found[0]])
         return "the %s has no member `%s`%s%s" % (
             unit_named(missing.where), missing.name, near(missing.name, [t.text for t, _, _ in text.bodies.names(
-                missing.where.unit)]), of_the_main_block(text, missing, path))
+                missing.where.unit)]), of_the_unit_above(text, missing, path) or of_the_main_block(text, missing, path))
     if missing.name.lower() in ("true", "false"):
         return "the truth values are written `true` and `false`, in small letters"
     known = [t.text for t, k, _ in text.bodies.names(missing.where.unit) if k in ("variable", "parameter")]
     return "`%s` is no variable or parameter of the %s, and no domain has such a symbol%s" % (
         missing.name, unit_named(missing.where), near(missing.name, known + list(text.bodies.symbols)))
+
+
+def of_the_unit_above(text, missing, path):
+    """What to write where a block lacks a member that the unit above has, which is not the main block."""
+    where, main = missing.where, text.bodies.main
+    if missing.number or where.unit.kind != "block" or where.owner is None or where.owner.unit is main or not text.bodies.find(
+            where.owner, missing.name):
+        return ""
+    return "; the unit above has one, `owner.%s`. Or the `end` of the block `%s` is missing above" % (
+        ".".join(n.text for n in path.names), where.unit.name.text)
 
 
 def of_the_main_block(text, missing, path):
@@ -416,7 +426,7 @@ class Types:
     """The kinds of expressions in a scope, and the places where another one is needed."""
 
     def __init__(self, text, scope):
-        self.text, self.scope, self.wrong = text, scope, []
+        self.text, self.scope, self.wrong, self.counting = text, scope, [], 0
 
     def of_path(self, path):
         try:
@@ -435,9 +445,14 @@ class Types:
             return "real"
         if form == "path":
             return self.of_path(parts[0])
-        if form in ("not", "and", "or", "count"):
+        if form == "count":
+            self.counting += 1
+            self.need("Boolean", parts, "an operand of `count`")
+            self.counting -= 1
+            return "number"
+        if form in ("not", "and", "or"):
             self.need("Boolean", parts, "an operand of `%s`" % form)
-            return "number" if form == "count" else "Boolean"
+            return "Boolean"
         if form in COMPARISONS:
             return self.compared(form, parts)
         if form in ("+", "-", "*", "min", "max"):
@@ -454,7 +469,7 @@ class Types:
         if form in ("==", "!="):
             self.need(self.of(parts[0]), parts[1:], "the right side of `%s`" % form)
         else:
-            self.need("number", parts, "an operand of `%s`" % form)
+            self.need("number", parts, "an operand of `%s`%s" % (form, IN_COUNT if self.counting else ""))
         return "Boolean"
 
     def need(self, kind, exprs, what):
@@ -495,12 +510,27 @@ def wrong_type(text):
             types.instr(member.parts[0], "")
         for expr, kind, found, what in types.wrong:
             if text.here(expr.first):
-                return "%s has to be %s, and this is %s%s" % (what, KINDS[kind], KINDS[found], advice(kind, found, what))
+                return "%s has to be %s, and this is %s%s" % (what, KINDS[kind], KINDS[found], advice(kind, found, what, expr))
         return None
     return text.first(cause)
 
 
-def advice(kind, found, what):
+IN_COUNT = " in a `count`"
+
+
+def advice(kind, found, what, expr):
+    if (kind, found) == ("number", "Boolean") and what.endswith(IN_COUNT):
+        return ": does the bracket of `count` end too late? Two of three is `count(a, b, c) >= 2`"
+    if (kind, found) == ("Boolean", "number") and expr.form in ("max", "min"):
+        return ": of truth values the greatest is written with `or`, the least with `and`"
+    if (kind, found) == ("Boolean", "number") and expr.form == "count":
+        last = expr.parts[-1].form in COMPARISONS
+        return ": a vote compares it with a number, as `count(a, b, c) >= 2`" + (
+            ", with the bracket before the comparison" if last else "")
+    if (kind, found) == ("number", "Boolean") and what in ("an operand of `max`", "an operand of `min`"):
+        return ": of truth values the greatest is written with `or`, the least with `and`"
+    if (kind, found) == ("number", "Boolean") and what == "an operand of `+`":
+        return ": how many truth values are true is `count(a, b)`"
     if (kind, found) == ("Boolean", "number") and what.startswith("the value of"):
         return ": a comparison makes one of it, as `n > 0`"
     if found == "real":

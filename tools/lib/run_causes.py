@@ -208,7 +208,9 @@ def _action(asked, text, path):
         others = modes.others(way)[1]
         if modes.variable(way) == path and others:
             units = {one.target.rpartition(".")[0] for one in way.sets}
-            common = ": what breaks several units is a common cause, a unit with a state of its own" if len(units) > 1 else ""
+            common = ""
+            if len(units) > 1:
+                common = by_a_flow(asked, path, [o for o in others if not o.rpartition(".")[0] == path.rpartition(".")[0]])
             return asked.at_transition(way.event, text, "its action names %s besides `%s`, and an event is about one state%s" % (
                 quoted(others), path, common))
     for way, mode, given in modes.edges(path):
@@ -221,6 +223,15 @@ def _action(asked, text, path):
     return asked.note(path, text, None)
 
 
+def by_a_flow(asked, path, others):
+    """How a common cause is written, whose own state this is, in place of an action on the states of others."""
+    first, reader = asked.flat.variables[path], others[0].rpartition(".")[0] if others else ""
+    absent = path if first.value == "true" else "not %s" % path if first.value == "false" else "%s == %s" % (path, first.value)
+    wire = "%sspared := %s;" % (reader + "." if reader else "", absent)
+    return (": what breaks several units is a common cause. Let the action change `%s` alone, and let the others read it by a flow that "
+            "the main block sets, as `%s`" % (path, wire))
+
+
 def _two_edges(asked, text, path):
     modes, found = Modes(asked), {}
     for variable in [v for v in asked.flat.variables if v in modes.of]:
@@ -228,6 +239,10 @@ def _two_edges(asked, text, path):
             found.setdefault(way.event, []).append((variable, mode, given[0] if given else "?"))
     for event, moves in found.items():
         if len(moves) > 1 and moves[0][0] == path:
+            first = asked.flat.variables[path].value
+            if all(m[0] == path and m[1] != first and m[2] == first for m in moves):
+                return asked.at_transition(event, text, "`%s` leads back to %s, where `%s` begins, as a repair does: %s" % (
+                    event, first, path, all_that_lead_back(asked, event)))
             said = " and ".join("`%s` from %s to %s" % m for m in moves[:3])
             return asked.at_transition(event, text, "`%s` moves %s: each move needs an event of its own" % (event, said))
     return asked.note(path, text, None)
@@ -320,7 +335,7 @@ def two_values(flat, path, state):
     found = settle.facts(flat, state) if state is not None else {}
     if len(found.get(path, ())) > 1:
         first, second = (given_by(found, path, value) for value in list(found[path])[:2])
-        return "in this state %s, and %s" % (first, second)
+        return "in this state %s, and %s%s" % (first, second, misspelt_target(flat, path))
     at = places(flat)
     before = sorted(p for p in before_all(flat, [a.set for a in flat.asserts if a.set.target == path]) - {path}
                     if len(at.get(p, ())) > 1)
@@ -329,6 +344,16 @@ def two_values(flat, path, state):
             " and ".join(at[path]), "which give" if len(at[path]) == 2 else "and two of them give")
     said = ["`%s` at %s" % (p, " and ".join(at[p])) for p in [path] + before[:3]]
     return "it, or a flow on which it depends, is set to two values: the assignments are those of %s" % ", of ".join(said)
+
+
+def misspelt_target(flat, path):
+    """A flow of the same part that no assertion sets, where a flow of the part is set twice."""
+    unit, at = path.rpartition(".")[0], places(flat)
+    unset = [p for p, v in flat.variables.items() if not v.state and p not in at and unit and p.rpartition(".")[0] == unit]
+    sets = [a.set for a in flat.asserts if a.set.target == path]
+    if len(sets) != 2 or not unset or any(s.conditions for s in sets):
+        return ""
+    return ". No assertion sets %s: is that the target that one of them should have?" % quoted(unset[:3])
 
 
 def given_by(found, path, value):
@@ -441,6 +466,10 @@ def set_elsewhere(waiting):
     said = "`%s` is %s by the assignment at %d:%d, and %s, which this one reads, %s no value in this state but %s reset" % (
         waiting.one.target, values.text_of(value), by.line, by.column, quoted(dead[:3]), "has" if len(dead) == 1 else "have",
         "its" if len(dead) == 1 else "their")
+    if dead == [waiting.one.value] and dead[0] in waiting.unset():
+        return ("%s, %s: no assertion sets it. Is the wire the wrong way round? The side that receives is left: `%s := %s;`. Only if both "
+                "are one and the same, tie them: `%s :=: %s`" % (
+                    said, waiting.reset(dead[0]), dead[0], waiting.one.target, waiting.one.target, dead[0]))
     if dead == [waiting.one.value]:
         return "%s, %s. If both are one and the same, tie them: `%s :=: %s`" % (
             said, waiting.reset(dead[0]), waiting.one.target, dead[0])
@@ -456,8 +485,11 @@ def in_loop(waiting):
     if other is not None:
         return "%s: it is in a loop with `%s`, which has the reset %s: give the flows of one loop one reset value" % (
             said, other, waiting.reset(other))
-    return ("%s: `%s` depends on itself. In a loop write `and`, `or`, `:=:` and `if CONDITION then`, and no `not`, comparison, "
-            "`count`, sum or `else` with its flows" % (said, target))
+    named = [waiting.one.value, *(c for c, _ in waiting.one.conditions)]
+    demand = (". A demand reads what comes before the loop, as `demand := not grid.ok;`, and not what it brings about; an alarm is an "
+              "observer" if any("(not " in text for text in named) else "")
+    return ("%s: `%s` depends on itself. In a loop write `and`, `or`, `:=:` and `if CONDITION then` with conditions on states, and no "
+            "`not`, comparison, `count`, sum or `else` with its flows%s" % (said, target, demand))
 
 
 def reads_dead(waiting):
@@ -466,6 +498,10 @@ def reads_dead(waiting):
     said = "%s %s no value in this state but %s reset, in the end, when `%s` has its own, %s, already" % (
         quoted(dead[:3]), "has" if len(dead) == 1 else "have", "its" if len(dead) == 1 else "their", target,
         waiting.reset(target))
+    others = [p for p in dead if waiting.reset(p) != waiting.reset(target)]
+    if others and not re.search(r"\(not |==|!=|[<>]|\b(count|if|switch)\b", waiting.one.value):
+        return ("%s: give both one reset, and so on to the last flow that reads them: `false` for what is supplied; `true` for a loop that "
+                "keeps itself running, and for all that reads it" % said)
     if any(target in settle.names_of(a.set) for a in waiting.flat.asserts):
         return "%s: let the assertions that read `%s` do without it, or without `not` and comparisons" % (said, target)
     return "%s: read %s with `not` in an observer alone, or give `%s` the reset that it then has" % (
@@ -542,6 +578,7 @@ def state_of_script(asked):
 # Scripts, lists and words.
 
 COMMANDS = ("fire LABEL", "back", "show", "enabled")
+KNOWN = tuple(c.split()[0] for c in COMMANDS)
 
 
 def script(asked, line):
@@ -553,13 +590,55 @@ def script(asked, line):
     source = tokens.read(asked.script).split("\n")[number - 1]
     column = len(source) - len(source.lstrip(" \t")) + 1
     if what == "is no command":
-        cause = "a line is one of %s, in small letters, and nothing follows it" % ", ".join("`%s`" % c for c in COMMANDS)
+        cause = no_command(asked, source.strip(" \t\r"))
     elif what == "is no cut":
-        cause = "a line is a cut in braces, as `{a.fail, b.fail}`, or `count N`"
+        cause = no_cut(asked, source.strip(" \t\r"))
     else:
         label, cause = bad_label(asked, source, what)
         column = source.index(label) + 1 if label and label in source else column
     return Note(asked.script, number, column, line, cause)
+
+
+def is_event(asked, label):
+    return label_cause(asked, label.strip()) is None
+
+
+def no_command(asked, line):
+    """Why a line of a script is no command, as far as the slip is plain."""
+    word, _, rest = line.partition(" ")
+    first = COMMANDS[0].split()[0]
+    if line.startswith("{"):
+        inner = line.strip("{};").split(",")[0].strip()
+        return ("a cut in braces is a line of a list. In a script each event has a line of its own, `fire %s`; tools/line_as_script "
+                "writes a line of a list so" % (inner or "LABEL"))
+    if word not in KNOWN and word.lower() in KNOWN:
+        return "`%s` is written `%s`, in small letters" % (word, word.lower())
+    if word == first and "//" in rest:
+        return "a remark is on a line of its own, behind `//`"
+    if word == first and ":=" in rest:
+        return "what is fired is an event, not a value of a state: the line names an event that gives the value"
+    if word == first and len(rest.replace(",", " ").split()) > 1:
+        return "one event a line: %s" % ", then ".join("`fire %s`" % label for label in rest.replace(",", " ").split()[:3])
+    if word == first:
+        return "`fire` has the label of an event behind it"
+    if word in KNOWN:
+        return "nothing follows `%s`" % word
+    if is_event(asked, line.rstrip(";")):
+        return "no `fire` is before the label: write `fire %s`" % line.rstrip(";")
+    return "a line is one of %s, in small letters, and nothing follows it%s" % (
+        ", ".join("`%s`" % c for c in COMMANDS), near(word, KNOWN))
+
+
+def no_cut(asked, line):
+    """Why a line of a list is no cut, as far as the slip is plain."""
+    bare = line.rstrip(";").strip()
+    if line.startswith("fire "):
+        return "this is a line of a script: a list has a cut in braces on each line, as `{a.fail, b.fail}`"
+    if line.startswith("{") and line.endswith(";"):
+        return "no `;` is behind a cut: write `%s`" % bare
+    if not line.startswith("{") and all(is_event(asked, label) for label in bare.split(",")):
+        return "a cut is in braces: write `{%s}`" % bare
+    return "a line is a cut in braces, as `{a.fail, b.fail}`, or `count N`"
 
 
 def bad_label(asked, source, what):
@@ -601,7 +680,32 @@ def no_event(asked, path):
         return "`%s` is %s %s and no event" % (path, "an" if kind == "observer" else "a", kind)
     if any(n.path == path for n in asked.tree.nodes):
         return "`%s` is a unit and no event" % path
-    return "the model has no event `%s`%s" % (path, near(path, {w.event for w in asked.flat.ways if not w.hidden}))
+    events = {w.event for w in asked.flat.ways if not w.hidden}
+    if path.endswith(";") and path.rstrip(";") in events:
+        return "no `;` is behind a label: write `%s`" % path.rstrip(";")
+    main, _, rest = path.partition(".")
+    if asked.tree.bodies.main is not None and main == asked.tree.bodies.main.name.text and rest in events:
+        return "a path begins below the main block, without its name: write `%s`" % rest
+    return "the model has no event `%s`%s" % (path, nearest_events(path, events))
+
+
+def nearest_events(path, events):
+    """The events that a wrong path may mean: all that end with it, else those that begin with it, else the nearest."""
+    unit, _, name = path.rpartition(".")
+    ends = sorted(e for e in events if e.endswith("." + path))
+    if len(ends) > 1:
+        more = ", .." if len(ends) > MOST_NAMED else ""
+        return "; %d events end so: %s%s" % (len(ends), ", ".join("`%s`" % e for e in ends[:MOST_NAMED]), more)
+    begins = sorted(e for e in events if e.startswith(path) and e.rpartition(".")[0] == unit and name)
+    if not ends and len(begins) > 1:
+        return "; the nearest are %s" % quoted(begins[:MOST_NAMED])
+    return near(path, ends or events) or ("; the event of this name is `%s`" % ends[0] if ends else of_unit(unit, events))
+
+
+def of_unit(unit, events):
+    """The events of a unit."""
+    own = sorted(e for e in events if unit and e.rpartition(".")[0] == unit)
+    return "; the unit `%s` has %s" % (unit, quoted(own[:MOST_NAMED])) if own else ""
 
 
 def word_cause(asked, line):

@@ -90,14 +90,30 @@ def adjacent(before, at):
     return before is not None and before.end == at.start
 
 
-def _of_end(fault):
+def unended(before):
+    """The body that most likely lacks its `end`, by these tokens, in words: the one whose `end` is in the column of a body
+    around it, else none."""
+    bodies = []
+    for number, token in enumerate(before):
+        is_first = number == 0 or before[number - 1].line < token.line
+        if token.kind in ("class", "block") and number + 1 < len(before):
+            bodies.append((token, before[number + 1], is_first))
+        elif token.kind == "end" and bodies:
+            opened, name, was_first = bodies.pop()
+            if is_first and was_first and token.column < opened.column:
+                return "`%s %s`, which begins on line %d, has no `end` of its own: by its column the `end` on line %d is that of a " \
+                       "body around it" % (opened.kind, name.text, opened.line, token.line)
+    return None
+
+
+def _of_end(fault, tokens):
     units = [(form, first) for form, first in fault.open if form.split(" ")[0] in ("class", "block") and " " in form]
     brackets = [first for form, first in fault.open if form in ("attributes", "bracket")]
     if brackets:
         return "the `(` on line %d, column %d, is not closed: any token may follow it, `;` too" % (
             brackets[-1].line, brackets[-1].column)
     if units and "end" in fault.wanted:
-        return "`%s`, which begins on line %d, is not ended: one more `end` is needed, here or before" % (
+        return unended(tokens) or "`%s`, which begins on line %d, is not ended: one more `end` is needed, here or before" % (
             units[-1][0], units[-1][1].line)
     before = fault.before
     if before is not None and before.kind in ("block", "class", "domain"):
@@ -120,7 +136,7 @@ def followed(at, after, kind):
     return after is not None and after.kind == kind and adjacent(at, after)
 
 
-def _of_header(fault):
+def _of_header(fault, tokens=()):
     """Causes where a body begins, or where words of a section come without it."""
     at, before = fault.at, fault.before
     form = fault.open[-1][0] if fault.open else ""
@@ -134,7 +150,8 @@ def _of_header(fault):
             return "one `;` ends a declaration, a transition or an assertion: this is one more"
         if at.kind in ("class", "domain"):
             inner = "; a part that exists once is a `block` in the body" if at.kind == "class" else ""
-            return "a `%s` is an item of the text: the body before it needs its `end`%s" % (at.kind, inner)
+            return "a `%s` is an item of the text: the body before it needs its `end`%s%s" % (
+                at.kind, lacking(fault, tokens), inner)
     if at.kind == ";" and before is not None and before.kind == ";" and "skip" in fault.wanted:
         return "one `;` ends a declaration, a transition or an assertion: this is one more"
     if at.kind == ":" and fault.wanted == {"name"}:
@@ -179,7 +196,7 @@ def _of_declaration(fault):
     if at.kind == "," and before.kind == ")" and form == "declaration":
         return ("a declaration has its settings once, after all its names, and they hold for all of them: write two "
                 "declarations, as `C a (x = 1); C b;`")
-    if at.kind == "Boolean" and before.kind == "name":
+    if at.kind == "Boolean" and before.kind == "name" and (at.line == before.line or before is fault.open[-1][1]):
         return "a declaration begins with its type, as `Boolean`: `%s` is no word of the language" % before.text
     if at.kind == "[" and form == "declaration":
         return "there are no arrays of parts: each has a name of its own, as `C c1, c2, c3;`"
@@ -240,6 +257,9 @@ def _of_section(fault, after):
         return "an assignment is written `:=`; `==` is a comparison, and compares nothing where an assignment begins"
     if at.kind == "switch" and "skip" in fault.wanted:
         return "`switch` is an expression, after `:=`: for instructions write `if TEST then .. else ..`"
+    if at.kind == "," and form in ("instruction", "transition of an event") and ";" in fault.wanted and after is not None and (
+            after.line > at.line):
+        return "a transition and an assertion end with `;`: write `;` for this `,`"
     if at.kind == "," and form in ("instruction", "transition of an event") and "and" in fault.wanted and ";" in fault.wanted:
         return "an assignment ends with `;`: those of one transition are in braces, as `{ a := 1; b := 2; }`"
     if at.kind in ("and", "+", "or") and "&" in fault.wanted:
@@ -332,8 +352,15 @@ def _of_word(fault):
     return None
 
 
-def of_syntax(fault, after):
-    """The cause of a SyntaxFault; `after` is the token behind its place, or None."""
+def lacking(fault, tokens):
+    """Which body lacks its `end`: by the columns, else the innermost that is open."""
+    inner = [(form, first) for form, first in fault.open if form.split(" ")[0] in ("class", "block") and " " in form]
+    said = unended(tokens)
+    return ". " + said if said else ": `%s` of line %d is open" % (inner[-1][0], inner[-1][1].line) if inner else ""
+
+
+def of_syntax(fault, after, tokens=()):
+    """The cause of a SyntaxFault; `after` is the token behind its place, or None, `tokens` are those before it."""
     at = fault.at
     near = _of_word(fault)
     if near:
@@ -343,13 +370,13 @@ def of_syntax(fault, after):
     if not fault.open and at.kind != "END" and fault.wanted <= {"domain", "class", "block", "END"}:
         return _of_item(fault)
     if at.kind in NOT_MEMBERS and "extends" in fault.wanted:
-        return _of_header(fault) or NOT_MEMBERS[at.kind]
+        return _of_header(fault, tokens) or NOT_MEMBERS[at.kind]
     if "extends" in fault.wanted and at.kind == "name":
         return _of_member(fault, after)
-    tries = [lambda: _of_section(fault, after), lambda: _of_lists(fault), lambda: _of_header(fault),
+    tries = [lambda: _of_section(fault, after), lambda: _of_lists(fault), lambda: _of_header(fault, tokens),
              lambda: _of_declaration(fault), lambda: _of_settings(fault), lambda: _of_expression(fault, after)]
     if at.kind == "END":
-        tries.insert(0, lambda: _of_end(fault))
+        tries.insert(0, lambda: _of_end(fault, tokens))
     for one in tries:
         cause = one()
         if cause:

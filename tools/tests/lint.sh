@@ -5,8 +5,9 @@
 usage lint
 
 for plant in brake bus conflict pumps repair ring supply; do
-  equal "lint has nothing to say of $plant" ' status 0' "$(tools/lint "examples/$plant.alt" 2>&1) status $?"
+  equal "lint has nothing to say of $plant" ' status 0' "$(tools/lint "examples/$plant.alt" 2>/dev/null) status $?"
 done
+equal "a lint that finds nothing says so on standard error" 'lint: nothing to say of the main block `Supply`' "$(tools/lint examples/supply.alt 2>&1)"
 equal "lint says of hydraulic that gear_power is read nowhere" \
   "examples/hydraulic.alt:35:24: lint: flow gear_power is read nowhere: no assertion, transition or observer names it status 1" \
   "$(tools/lint examples/hydraulic.alt 2>&1) status $?"
@@ -14,19 +15,27 @@ equal "lint says each slip of slips.alt" "$(cat tests/lint/expected)" "$(tools/l
 equal "lint says which loops of flows nothing starts, and which flows their own assertion reads" "$(cat tests/lint/loops.expected)" "$(tools/lint tests/lint/loops.alt 2>&1)"
 equal "lint says which values a domain does not have" "$(cat tests/lint/values.expected)" "$(tools/lint tests/lint/values.alt 2>&1)"
 equal "lint says which wires a part closes over itself, which ties are written twice, and what its own transitions alone read" "$(cat tests/lint/wiring.expected)" "$(tools/lint tests/lint/wiring.alt 2>&1)"
+equal "lint says which inputs have one source, which flows get their reset alone, and which loops keep themselves true" "$(cat tests/lint/circuit.expected)" "$(tools/lint tests/lint/circuit.alt 2>&1)"
+equal "lint with an observer says after which cut set a further event takes the value away" \
+  'tests/lint/comes_back.alt:9:20: lint: observer dark is true after {bus.fail}, and no longer after a further event, grid.fail status 1' \
+  "$(tools/lint tests/lint/comes_back.alt --observer dark 2>&1) status $?"
+equal "lint of a text with several blocks says which it has not looked at" \
+  'lint: nothing to say of the main block `Summer`; not looked at: --main Winter' "$(tools/lint tests/lint/two_blocks.alt 2>&1)"
+equal "lint with two observers lists the failures that are in no cut set of either" ' status 0' \
+  "$(tools/lint tests/models/howto/protection.alt --observer no_trip,spurious 2>/dev/null) status $?"
 equal "lint with an observer: in the right model each failure is in a cut set" ' status 0' \
-  "$(tools/lint tests/models/howto/trains.alt --observer no_flow 2>&1) status $?"
+  "$(tools/lint tests/models/howto/trains.alt --observer no_flow 2>/dev/null) status $?"
 equal "lint with an observer lists the failures that are in no cut set" 'bus_b.fail b.valve.fail b.pump.fail b.check.fail' \
   "$(tools/lint tests/models/howto/trains_open.alt --observer no_flow | sed -n 's/.* event \(.*\) is in no minimal cut set of no_flow$/\1/p' | paste -sd' ')"
 equal "lint with an observer, without the dropped events" ' status 0' \
-  "$(tools/lint examples/ring.alt --observer south_is_deaf --drop north.mend,east.mend,south.mend,west.mend 2>&1) status $?"
+  "$(tools/lint examples/ring.alt --observer south_is_deaf --drop north.mend,east.mend,south.mend,west.mend 2>/dev/null) status $?"
 equal "lint with an observer whose cut sets are refused" 'examples/ring.alt: outside: S6 at north.works status 2' \
   "$(tools/lint examples/ring.alt --observer south_is_deaf 2>&1) status $?"
 equal "lint finds the nine things that vote.alt leaves open, and the two that vote2.alt reads nowhere" '9 2' \
   "$(tools/lint tests/beside/vote.alt | wc -l) $(tools/lint tests/beside/vote2.alt | wc -l)"
 for model in tests/beside/*.alt; do
   case $model in */vote*) continue ;; esac
-  equal "lint has nothing to say of $model" ' status 0' "$(tools/lint "$model" 2>&1) status $?"
+  equal "lint has nothing to say of $model" ' status 0' "$(tools/lint "$model" 2>/dev/null) status $?"
 done
 got=$(for model in tests/mistakes/*.alt tests/literature/*.alt; do tools/lint "$model" >/dev/null 2>&1; echo $?; done | sort | uniq -c | tr -s ' ')
 equal "lint refuses each model that the program refuses" ' 68 2' "$got"

@@ -58,6 +58,7 @@ case \$1 in
   try)
     shift 2
     folder=\$(mktemp -d "$lab/try.XXXXXX")
+    [ ! -e "$lab/slow" ] || sleep 2.5
     cp "$ALTARICA" "\$folder/program"
     "\$folder/program" "\$@"
     rm -rf "\$folder"
@@ -244,13 +245,35 @@ count 0|unexpected: cuts that are not those you expected
 unexpected|unexpected: cuts that are not those you expected
 lint|unexpected: cuts that are not those you expected
 tie|Networks and ties
+flow loop|Networks and ties
+closed|A closed circuit
+circuit|A closed circuit
+leak|A failure that acts on its neighbours
+keeps|A loop that keeps itself running
+levels|Levels in a loop
+standby|A spare that starts on demand;A pump that fails to start or while it runs
+spare|A spare that starts on demand
+demand|A spare that starts on demand
+common cause|Common cause
+repair|Repairs
+vote|Voting
+control loop|A control loop
+out of service|A part that is out of service
+observer|script: a script, a list or a word names nothing
+no observer|script: a script, a list or a word names nothing
+S4 at shock.absent|S4: an action touches something besides its own state
+not|fault: assignment does not hold
 owner|L10: nothing with this name;Paths
 embeds|Units
 END
 run --explain 'syntax =>'
-point "--explain syntax =>: the rows with this sign" both '[ $status -eq 0 ]' '[ "$(grep -c "^| .=>. |" "$lab/out")" -eq 2 ]' '[ "$(grep -vc "^| .=>. |" "$lab/out")" -eq 2 ]'
+point "--explain syntax =>: the rows with this sign" both '[ $status -eq 0 ]' '[ "$(grep -c "^| .=>. |" "$lab/out")" -eq 2 ]' '[ "$(grep -c "^|" "$lab/out")" -eq 4 ]' 'grep -q "altarica --explain syntax$" "$lab/out"'
 run --explain nonsense
-point "--explain of nothing: the list of sections, status 1" both '[ $status -eq 1 ]' 'said "no page has a section on nonsense"' 'said "L14:"'
+point "--explain of nothing: the list of sections, status 1" both '[ $status -eq 1 ]' 'said "no page has a section on nonsense"' 'said "L14:"' 'said "^Common cause$"' 'said "^A closed circuit$"'
+for first in --unproved --why; do
+  run $first --explain L10
+  point "$first --explain L10 prints the section" both '[ $status -eq 0 ]' 'grep -q "^## L10:" "$lab/out"' '[ ! -s "$lab/err" ]'
+done
 
 # --why, by itself and with ALTARICA.
 by_env() {
@@ -269,8 +292,14 @@ point "--why runs tools/why with the proved program" both '[ $status -eq 0 ]' 'w
 if [ "$(head -c 4 "$ALTARICA" | tail -c 3)" = ELF ] && [ -d "/proc/$$" ]; then
   new_copy
   : >"$lab/works"
+  : >"$lab/slow"
+  ALTARICA_TELL=1 run --unproved check plant.alt
+  rm -f "$lab/slow"
+  point "--unproved says while it compiles that it does" both '[ $status -eq 0 ]' 'said "still compiling, for 0:0"'
+  new_copy
+  : >"$lab/works"
   run --unproved check plant.alt
-  point "--unproved says that it compiles, how long, and that nothing is proved" both 'said "compiling .*minutes"' 'said "nothing of this run is proved"'
+  point "--unproved says that it compiles, how long, and that nothing is proved" both 'said "compiling .*minutes"' 'said "a quarter of an hour on a busy one"' '! said "still compiling"' 'said "nothing of this run is proved"'
   point "--unproved gives the program's answer" both '[ $status -eq 0 ]' 'wrote "$answer"' 'calls 1'
   : >"$lab/calls"
   run --unproved check plant.alt
@@ -296,7 +325,7 @@ if [ "$(head -c 4 "$ALTARICA" | tail -c 3)" = ELF ] && [ -d "/proc/$$" ]; then
   run --unproved --why check plant.alt
   point "--unproved --why runs tools/why" both '[ $status -eq 0 ]' 'grep -q "check plant.alt$" "$lab/out"' 'calls 0'
   by_env -u ALTARICA ./altarica --why check plant.alt
-  point "--why where no proved program is built takes the unproved one" both '[ $status -eq 0 ]' 'said "takes the program without its proofs"' 'calls 0'
+  point "--why where no proved program is built takes the unproved one, and says so in one line" both '[ $status -eq 0 ]' 'said "takes the program without its proofs, so nothing of this run is proved"' 'calls 0' '[ "$(grep -c . "$lab/err")" -eq 1 ]'
   helped=$lab/helped
   mkdir "$helped"
   cp -r "$top/tools" "$helped/tools"

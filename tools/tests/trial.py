@@ -1,9 +1,10 @@
-"""What a new user meets: six models, and a dozen and more typical mistakes in each.
+"""What a new user meets: nine models, and a dozen and more typical mistakes in each.
 
 Tried is that the models have the cuts that were found by hand, that each mistake gets the line that is written here, and
 that the section which `./altarica --explain` prints for this line has the words that mend the mistake. Where a mend is
 written here, as the section has it, the mended model has the cuts by hand again. Where a mistake is not refused, the line
-is the first of a wrong list, and where words of `tools/lint MODEL --observer O` are written here, lint says them.
+is the first of a wrong list, and where words of `tools/lint MODEL --observer O` are written here, lint says them. Where words of
+`tools/why` are written here, it says them of the refusal.
 """
 
 import os
@@ -25,10 +26,15 @@ BOTH = ("cuts", "--observer", "both_lost")
 TRIP = ("cuts", "--observer", "no_trip")
 SPURIOUS = ("cuts", "--observer", "spurious")
 
-Mistake = namedtuple("Mistake", "what changes words line mend mended lint", defaults=(None, None))
+NO_FLOW = ("cuts", "--observer", "no_flow")
+C2_DRY = ("cuts", "--observer", "c2_dry")
+DEMANDED = ("cuts", "--main", "Demanded", "--observer", "no_trip")
+CALM = ("cuts", "--main", "Calm", "--observer", "spurious_trip")
+
+Mistake = namedtuple("Mistake", "what changes words line mend mended lint why", defaults=(None, None, None))
 """changes: pairs of a text of the model and what is written in its place, or the text of a script; line: the program's
 answer, its last line for a script and else its first; mend: words of the section; mended: changes of the right model, as
-the section has them; lint: words of lint on the model with the mistake."""
+the section has them; lint: words of lint on the model with the mistake; why: words of `why` on it."""
 
 FILES = {"pumps": "tests/models/howto/start_or_run.alt", "protection": "tests/models/howto/protection.alt"}
 
@@ -59,6 +65,21 @@ CUTS = {
     "loop": (DARK, ["b2.fail", "b1.fail, b3.fail", "tie_12.fail, tie_23.fail", "grid.fail, diesel.fail", "b1.fail, tie_23.fail",
                     "tie_12.fail, b3.fail", "b1.fail, diesel.fail", "grid.fail, b3.fail", "grid.fail, tie_23.fail, tie_31.fail",
                     "diesel.fail, tie_12.fail, tie_31.fail"]),
+}
+
+LEGS = ("isolation.close", "pump.fail_to_start", "pump.fail_to_run", "check.stick")
+TOWERS = ("fan", "pump")
+CUTS |= {
+    "injection": (NO_FLOW, ["tank.fail", "bus.fail", "shock.fail", "grid.fail, diesel.fail_to_start", "grid.fail, diesel.fail_to_run",
+                            *(f"a.{x}, b.{y}" for x in LEGS for y in LEGS)]),
+    "cooling": (C2_DRY, ["return_main.fail", "c2.inlet.fail", "s12.leak", "s23.leak", "s34.leak", "s23.stick, s34.stick",
+                         "s23.stick, s41.stick", "s23.stick, s41.leak", *(f"a.{x}.fail, b.{y}.fail" for x in TOWERS for y in TOWERS), *(
+                             f"{tower}.{x}.fail, {rest}" for x in TOWERS for tower, rest in (
+                                 ("b", "s41.leak"), ("a", "s12.stick, s23.stick"), ("b", "s12.stick, s34.stick"),
+                                 ("b", "s12.stick, s41.stick")))]),
+    "channel": (DEMANDED, ["supply.lose", "voter.stick_off", "s1.go_silent, s2.go_silent", "s1.go_silent, s3.go_silent",
+                           "s2.go_silent, s3.go_silent", "a.stick, b.stick"]),
+    "channel without demand": (CALM, ["s1.go_high, s2.go_high", "s1.go_high, s3.go_high", "s2.go_high, s3.go_high", "voter.fire_itself"]),
 }
 
 PUMP = """  Component valve, check;
@@ -202,7 +223,7 @@ MISTAKES = {
         Mistake("a part of the unit above is named without owner", [("flow := suction", "flow := tank.state == OK")],
                 ("check",), "rule: L10 at 13:13", "write `owner.` for the unit above"),
         Mistake("False is written for false", [("(reset = false);", "(reset = False);")], ("check",), "rule: L10 at 11:41",
-                "`True` and `FALSE` are names"),
+                "`FALSE` are names like any other"),
         Mistake("a common cause is a synchronisation",
                 [("  Train a, b;\n", "  Train a, b;\n  event fire;\n  transition fire: ?a.pump.fail & ?b.pump.fail;\n")], DRY,
                 "outside: S1 at fire", "Write the common cause as a unit of its own"),
@@ -232,7 +253,7 @@ MISTAKES = {
         Mistake("two assignments have no braces", [("ok := false;", "ok := false; ok := false;")], ("check",),
                 "syntax: 14:42", "Two assignments of one transition are in braces"),
         Mistake("a symbol is misspelt", [("mode := HIGH", "mode := HIHG")], ("check",), "rule: L10 at 9:38",
-                "A misspelt\nsymbol is L10 too"),
+                "A misspelt symbol is L10 too"),
         Mistake("a symbol is of another domain", [("domain Votes", "domain Pump {ON, OFF}\ndomain Votes"), ("= OK)", "= ON)")],
                 ("check",), "rule: L12 at 6:21", "A symbol of another domain is L12"),
         Mistake("a repair leads back from several modes",
@@ -254,7 +275,7 @@ MISTAKES = {
         Mistake("a bus feeds itself", [("b2.from_left := tie_12.ok and b1.live", "b2.from_left := tie_12.ok and b2.live")], DARK, "{grid.fail, diesel.fail}",
                 "a flow feeds itself", None, "flow b2.from_left is set at 25:5 from b2.live of its own unit"),
         Mistake("two resets in one loop", [("from_left, from_right, live (reset = false);", "from_left, from_right (reset = false);\n  Boolean live (reset = true);")],
-                DARK, "fault: {grid.fail, diesel.fail}: assignment 4 at 24:5 does not hold", "its flows have different resets"),
+                DARK, "fault: {grid.fail, diesel.fail}: assignment 4 at 24:5 does not hold", "have different resets"),
         Mistake("an if reads a flow of the loop", [("(fed or from_left or", "(if from_left then true else fed or")], DARK,
                 "fault: {}: assignment 10 at 13:5 does not hold", "HOWTO_LOOPS"),
         Mistake("nothing starts the loop", [("b1.fed := grid.ok", "b1.fed := false"), ("b3.fed := diesel.ok", "b3.fed := false")],
@@ -285,6 +306,136 @@ MISTAKES = {
                 "put a remark on a line of its own"),
         Mistake("a failure is fired twice", "fire grid.fail\nfire grid.fail\n", ("replay",), "fault: grid.fail: not enabled",
                 "The guard of the event is false"),
+    ],
+}
+
+
+SPARED = "outflow := mode == READY and spared and inflow and power;"
+SHOCK = "  Component tank, grid, bus, shock;\n"
+STRIKE = """  Component tank, grid, bus;
+  block shock
+    Boolean absent (init = true);
+    event strike;
+    transition strike: absent -> %s
+  end
+"""
+WIRES = "    a.pump.spared := shock.ok;\n    b.pump.spared := shock.ok;\n"
+DIESEL = "  Boolean demand, runs (reset = false);"
+ALL_TRUE = [(DIESEL, "  Boolean demand, runs, cooled (reset = true);"), ("runs := demand and mode == READY;", "runs := demand and mode == READY and cooled;"),
+            ("    diesel.demand := not grid.ok;\n", "    diesel.demand := not grid.ok;\n    diesel.cooled := live;\n")]
+RESETS = ("returns, supply", "from_a, from_b, to_a, to_b, tight", "from_left, from_right, fed, water", "supply, cooled")
+RETURNS = "    a.returns := return_main.ok;\n    b.returns := return_main.ok;\n"
+FED_BACK = RETURNS.replace("ok;", "ok and (c1.cooled or c2.cooled or c3.cooled);")
+RIGHT = "n2.left_tight := s12.tight;  n2.right_tight := s23.tight;"
+VOTE = "count(in1, in2, in3) >= 2"
+
+
+def with_true(*names):
+    return [(f"{name} (reset = false)", f"{name} (reset = true)") for name in names]
+
+
+MISTAKES |= {
+    "injection": [
+        Mistake("a semicolon before Boolean is missing", [("  Train a, b;", "  Train a, b")], ("check",), "syntax: 51:3",
+                "`Base left Boolean ok (init = true);`", why="a `;` is missing after `b` on line 50"),
+        Mistake("an end is missing", [("disc := STUCK;\n  end\n", "disc := STUCK;\n")], ("check",), "syntax: 31:1",
+                "`end` in the column of an outer body", why="`block check`, which begins on line 22, has no `end`"),
+        Mistake("an end is too far down", [("disc := STUCK;\n  end\n", "disc := STUCK;\n"), ("check.disc == FREE;\nend\n", "check.disc == FREE;\nend\nend\n")],
+                ("check",), "rule: L10 at 28:5", "Where a block lacks its `end`", why="the `end` of the block `check` is missing"),
+        Mistake("a shock breaks both pumps by its action",
+                [(SHOCK, STRIKE % "{ absent := false; owner.a.pump.mode := FAILED_RUN; owner.b.pump.mode := FAILED_RUN; }"), (WIRES, ""),
+                 (SPARED, SPARED.replace("spared and ", ""))], NO_FLOW, "outside: S4 at shock.absent",
+                "`strike: absent -> absent := false;`", why="`a.pump.spared := shock.absent;`"),
+        Mistake("a spare is asked for by the loss of what it restores", [("diesel.demand := not grid.ok", "diesel.demand := not live")],
+                NO_FLOW, "fault: {grid.fail}: assignment 1 at 56:5 does not hold", "`demand := not grid.ok;`",
+                [("    diesel.demand := not grid.ok;\n", ""), ("runs := demand and", "runs :=")], why="`demand := not grid.ok;`"),
+        Mistake("what reads a loop that keeps itself running has another reset",
+                [*ALL_TRUE, ("  Boolean live, vessel (reset = false);", "  Boolean live (reset = true);\n  Boolean vessel (reset = false);")],
+                NO_FLOW, "fault: {grid.fail}: assignment 6 at 62:5 does not hold", "on to the last flow",
+                [*ALL_TRUE, *with_true("power, spared, outflow", "suction, flow", "live, vessel")], why="give both one reset"),
+        Mistake("a wire the wrong way round", [("a.pump.power := live", "live := a.pump.power")], NO_FLOW,
+                "fault: {}: assignment 5 at 60:5 does not hold", "`a.pump.power := live;`", why="`a.pump.power := live;`"),
+        Mistake("a repair from two modes", [("fail_to_run (delay = exponential(1.0e-5));\n", "fail_to_run, repair;\n"), (
+            "  assertion\n    outflow", "    repair: mode != READY -> mode := READY;\n  assertion\n    outflow")], NO_FLOW,
+                "outside: S5 at a.pump.mode", "leave it out by `--drop`", why="--drop a.pump.repair,b.pump.repair"),
+        Mistake("a spare begins on standby", [
+            ("domain ValveState", "domain DieselState {STANDBY, RUNNING, FAILED_START, FAILED_RUN}\ndomain ValveState"),
+            ("  PumpState mode (init = READY);\n" + DIESEL, "  DieselState mode (init = STANDBY);\n" + DIESEL),
+            ("  event fail_to_start, fail_to_run;\n  transition\n    fail_to_start: mode == READY -> mode := FAILED_START;\n"
+             "    fail_to_run: mode == READY", "  event start, fail_to_start, fail_to_run;\n  transition\n    start: mode == STANDBY -> mode := RUNNING;\n"
+             "    fail_to_start: mode == STANDBY -> mode := FAILED_START;\n    fail_to_run: mode == RUNNING"),
+            ("demand and mode == READY", "demand and mode == RUNNING")], NO_FLOW, "{tank.fail}", "the spare begins in STANDBY", None,
+                "event diesel.start is in no minimal cut set of no_flow"),
+        Mistake("the common cause reaches one train alone", [("b.pump.spared := shock.ok", "b.pump.spared := bus.ok")], NO_FLOW, "{tank.fail}",
+                "a common part reaches one train alone"),
+        Mistake("each train has a common cause of its own", [(SHOCK, SHOCK.replace(", shock", "")), ("  Pump pump;\n", "  Pump pump;\n  Component shock;\n"), (
+            WIRES, WIRES.replace(":= shock", ":= X.shock").replace("X", "a", 1).replace("X", "b", 1))], NO_FLOW, "{tank.fail}",
+                "is declared in the class of the trains"),
+        Mistake("a spare feeds through the failed bus", [("bus.ok and (grid.ok or diesel.runs)", "bus.ok and grid.ok or diesel.runs")], NO_FLOW,
+                "{tank.fail}", "a further failure brings the function back", None, "after {bus.fail}, and no longer after a further event, grid.fail"),
+        Mistake("a flow is only given its reset", [("vessel := a.flow or b.flow;", "if not a.flow and not b.flow then vessel := false;")], NO_FLOW,
+                "{}", "a flow is only ever given its reset", None, "flow vessel is only ever given its reset value, false"),
+        Mistake("not binds the first alone", [("no_flow = not vessel", "no_flow = not a.flow and b.flow")], NO_FLOW, "{a.isolation.close}",
+                "`(not a) and b`"),
+        Mistake("fire is missing", "a.check.stick\n", ("replay",), "script: line 1 is no command", "no `fire`", why="write `fire a.check.stick`"),
+        Mistake("a cut is a line of a script", "{a.check.stick}\n", ("replay",), "script: line 1 is no command", "a cut in braces",
+                why="tools/line_as_script"),
+        Mistake("an event is one of two", "fire a.pump.fail\n", ("replay",), "script: line 1 names no event", "the path is misspelt",
+                why="the nearest are `a.pump.fail_to_run` and `a.pump.fail_to_start`"),
+    ],
+    "cooling": [
+        Mistake("a closed circuit is fed back", [(RETURNS, FED_BACK)], C2_DRY, "{}", "do not feed the return back", None,
+                "is in a loop that nothing starts"),
+        Mistake("a closed circuit keeps itself running", [(RETURNS, FED_BACK), *with_true(*RESETS)], C2_DRY, "{s12.leak, s34.stick}",
+                "`reset = true` in a ring or a circuit", None, "which nothing feeds at the start: it is true by its reset alone"),
+        Mistake("a ring has another reset than what reads it", with_true(*RESETS[1:3]), C2_DRY,
+                "fault: {return_main.fail}: assignment 31 at 72:5 does not hold", "`true` the list loses the sources", why="`false` for what is supplied"),
+        Mistake("a ring and what reads it have the reset true", with_true(*RESETS[1:]), C2_DRY, "{s12.leak, s34.stick}",
+                "which then needs no source", None, "which nothing feeds after {return_main.fail}"),
+        Mistake("two inputs have one source", [(RIGHT, RIGHT.replace("s23", "s12"))], C2_DRY, "{return_main.fail}",
+                "two inputs of a part have one source", None, "flow n2.right_tight is set from s12.tight, as n2.left_tight of the same part is"),
+        Mistake("a target is misspelt", [("n2.from_right := s23.to_a", "n2.from_left := s23.to_a")], C2_DRY,
+                "fault: {s12.stick}: flow n2.from_left has two values", "`n2.from_right := s23.to_a;`", why="No assertion sets `n2.from_right`"),
+        Mistake("a wire the wrong way round", [("n3.from_left := s23.to_b", "s23.to_b := n3.from_left")], C2_DRY,
+                "fault: {}: assignment 19 at 66:5 does not hold", "a tie `:=:` is not the mend", why="`n3.from_left := s23.to_b;`"),
+        Mistake("the greatest of truth values", [("(fed or from_left or from_right)", "max(fed, from_left, from_right)")], ("check",),
+                "rule: L11 at 35:45", "`assertion water := a.flow or b.flow;`", why="of truth values the greatest is written with `or`"),
+        Mistake("when is written for if", [("to_b := mode == OK and from_a;", "to_b :=: from_a when mode == OK;")], ("check",), "syntax: 28:21",
+                "`assertion if mode == OK then power :=: flow;`", [("to_b := mode == OK and from_a;", "if mode == OK then to_b :=: from_a;")]),
+        Mistake("a segment passes on in one way", [("    to_a := mode == OK and from_b;\n", "")], C2_DRY, "{return_main.fail}", "an input is open",
+                None, "flow s12.to_a is set by no assertion"),
+    ],
+    "channel": [
+        Mistake("a comma is between two transitions", [("mode := SILENT;", "mode := SILENT,")], ("check",), "syntax: 12:46",
+                "`transition fail: mode == OK -> mode := FAILED, repair: mode == FAILED -> mode := OK;`", why="write `;` for this `,`"),
+        Mistake("the bracket of a vote ends too late", [(VOTE, "count(in1, in2, in3 >= 2)")], ("check",), "rule: L11 at 26:55",
+                "`assertion water := count(a.flow, b.flow) >= 2;`", why="with the bracket before the comparison"),
+        Mistake("the bracket of a vote ends too late, and it is compared twice", [(VOTE, "count(in1, in2, in3 >= 2) >= 2")], ("check",),
+                "rule: L11 at 26:71", "`assertion water := count(a.flow, b.flow) >= 2;`", why="does the bracket of `count` end too late?"),
+        Mistake("a vote has == for >=", [(VOTE, "count(in1, in2, in3) == 2")], DEMANDED, "{}", "`votes == 2` is false at three votes"),
+        Mistake("one of three for two of three", [(VOTE, "count(in1, in2, in3) >= 1")], DEMANDED, "{s1.go_silent, s2.go_silent, s3.go_silent}",
+                "a wrong number in a vote"),
+        Mistake("a demand ends with the trip", [("  assertion demand := true;", "  Boolean hazard (init = true);\n  assertion demand := hazard and not trip;")],
+                DEMANDED, "fault: {}: assignment 12 at 73:13 does not hold", "`demand := hazard;`",
+                [("  assertion demand := true;", "  Boolean hazard (init = true);\n  assertion demand := hazard;")], why="and not what it brings about"),
+        Mistake("a demand ends with the trip, by if",
+                [("  assertion demand := true;", "  Boolean hazard (init = true);\n  assertion if hazard and not trip then demand := true;")],
+                DEMANDED, "fault: {}: assignment 12 at 73:41 does not hold", "`demand := hazard;`", why="with conditions on states"),
+        Mistake("a common cause fires one failure of each", [
+            ("  Boolean demand, trip (reset = false);\n", "  event high;\n  transition high: !s1.go_high & !s2.go_high;\n  Boolean demand, trip (reset = false);\n")],
+                DEMANDED, "outside: S1 at high", "goes in by `or`"),
+        Mistake("a failure that acts by itself has a condition", [("mode == HIGH or (mode == GOOD and demand)", "(mode == HIGH or mode == GOOD) and demand")],
+                CALM, "{voter.fire_itself}", "it acts by itself and has a condition all the same", None, "event s1.go_high is in no minimal cut set"),
+        Mistake("a flow tests the wrong mode", [("(mode == GOOD and demand)", "(mode == SILENT and demand)")], DEMANDED, "{}",
+                "a flow tests the wrong mode"),
+        Mistake("two inputs of a voter have one source", [("voter.in3 := s3.alarm", "voter.in3 := s2.alarm")], DEMANDED, "{s2.go_silent}",
+                "two inputs of a part have one source", None, "flow voter.in3 is set from s2.alarm, as voter.in2 of the same part is"),
+        Mistake("an open demand before a vote", [("  assertion demand := true;\n", "")], DEMANDED,
+                "fault: {s1.go_high, s2.go_high}: assignment 15 at 26:5 does not hold", "`count` waits for all its operands", why="which no assertion sets"),
+        Mistake("a wire the wrong way round", [("voter.in1 := s1.alarm", "s1.alarm := voter.in1")], DEMANDED,
+                "fault: {}: assignment 4 at 53:5 does not hold", "`voter.in1 := s1.alarm;`", why="`voter.in1 := s1.alarm;`"),
+        Mistake("a slip is in the other main block", [("spurious_trip = trip", "spurious_trip = tripp")], ("check", "--main", "Calm"),
+                "rule: L10 at 65:36", "The path is misspelt", why="the nearest is `trip`"),
     ],
 }
 
@@ -342,6 +493,13 @@ def mended(mistake, name, folder):
     return "; ".join(filter(None, (cuts(it, f"{folder}/model") for it in CUTS if it.split()[0] == name)))
 
 
+def explained(mistake, folder):
+    """Says that `why` lacks the words on the model with the mistake, which is the last that was written."""
+    files = [f"{folder}/model"] + [f"{folder}/script"] * isinstance(mistake.changes, str)
+    said = "\n".join(lines_of(["tools/why", mistake.words[0], *files, *mistake.words[1:]]))
+    return "" if mistake.why in said else f"it lacks `{mistake.why}`"
+
+
 def linted(mistake, folder):
     """Says that lint lacks the words on the model with the mistake, which is the last that was written."""
     said = "\n".join(lines_of(["tools/lint", f"{folder}/model", *mistake.words[1:]]))
@@ -356,6 +514,8 @@ with tempfile.TemporaryDirectory() as made:
             got = answer(it, model, made)
             point(f"{model}, {it.what}: {it.line}", "" if got == it.line else f"got {got}")
             point(f"{model}, {it.what}: the section mends it", "" if it.mend in section_of(it.line) else f"it lacks `{it.mend}`")
+            if it.why:
+                point(f"{model}, {it.what}: why says it", explained(it, made))
             if it.lint:
                 point(f"{model}, {it.what}: lint says it", linted(it, made))
             if it.mended:

@@ -25,6 +25,6 @@ got=$(python3 tools/tests/places.py tests/*/*.alt examples/*.alt crates/altarica
 equal "the grammar refuses what the program refuses, at the same places" '' "$got"
 
 got=$(python3 tools/tests/settled.py examples/*.alt tests/lint/*.alt tests/models/howto/{tie_bars,loop,protection}.alt 2>&1)
-equal "the values by which a fault is explained are those of the program, at the start and after each event" '15 models' "$got"
+equal "the values by which a fault is explained are those of the program, at the start and after each event" '18 models' "$got"
 
 equal "what is not refused is passed on" "$("$ALTARICA" check examples/pumps.alt)" "$(tools/why check examples/pumps.alt)"

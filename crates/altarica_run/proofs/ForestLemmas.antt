@@ -1,5 +1,5 @@
 -- The dropped events and the forest of a job.
-use Rattle.std.proofs.Common.{◌≡◌, ℕ, Bool, true, false, List, [], Result, Ok, Err, map, refl, sym, ◌∙◌, ap, subst, arith, Vec}
+use Rattle.std.proofs.Common.{◌≡◌, ◌≤◌, ℕ, zero, suc, Bool, true, false, List, [], ◌∷◌, length, Result, Ok, Err, map, refl, sym, ◌∙◌, ap, subst, arith, Vec}
 use Rattle.std.specs.Global.{Global}
 use Rattle.ar_base.specs.Lists.{IsOneOf, Stands}
 use Rattle.ar_base.specs.Numbers.{EventId}
@@ -40,6 +40,16 @@ use Rattle.altarica_run.specs.declared.stages.Prepared.{Prepared}
 use Rattle.altarica_run.specs.declared.stops.Stop.{Stop}
 use Rattle.altarica_run.specs.declared.stops.Stop.TheVariants.{Refused}
 use Rattle.altarica_run.specs.declared.tabling.GateTable.{GateTable}
+
+-- a tree has no more edges than all trees
+pub edges_of_one : (ts : List ModeTree) (t : ModeTree) → IsOneOf ts t → length t.edges.items ≤ edge_count ts
+edges_of_one ts t o = go ts o.place o.stands
+  where
+    go : (us : List ModeTree) (n : ℕ) → Stands us n t → length t.edges.items ≤ edge_count us
+    go [] zero s = cc
+    go [] (suc n) s = cc
+    go (u ∷ us) zero s = let i : u ≡ t = cc in let l = ap (λ (z : ModeTree). length z.edges.items) i in omega (arith, l)
+    go (u ∷ us) (suc n) s = let r = go us n s in omega (arith, r)
 
 -- no dropped events
 pub none_dropped : (p : GtsParts) (events : List EventId) → events ≡ [] → AreDropped p [] events

@@ -1,13 +1,13 @@
 use Rattle.std.proofs.Common.{◌≤◌, ◌<◌, true, [], Option, subst, arith}
 use Rattle.ar_base.proofs.Standing.{stands_some}
 use Rattle.ar_firing.proofs.Shapes.{are_trees}
-use Rattle.cut_text.proofs.ForestPieces.{edges_of_one}
 use Rattle.domains.specs.declared.Value.TheVariants.{Truth}
 use Rattle.eq_core.specs.Views.{table_of}
 use Rattle.gts_core.specs.View.{net_of, numbered}
 use Rattle.gts_core.specs.declared.system.Observer.{Observer}
 use Rattle.mode_trees.specs.Views.{trees_of, number_in}
 use Rattle.tree_equations.specs.Gives.{AtObserver, IsTableOf}
+use Rattle.system_cases.proofs.Edges.{edges_of_one}
 use Rattle.system_cases.proofs.Keyed.{keyed_static}
 use Rattle.system_cases.proofs.analysing.table_of.Goals as goal
 

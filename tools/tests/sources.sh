@@ -17,7 +17,7 @@ at_most() {
   [ -n "$count" ] && [ "$count" -le "$most" ] || { echo "$count, and at most $most were left"; return 1; }
 }
 
-point "no further place answers want of memory by itself" at_most 3 tools/memory_places
+point "no further place answers want of memory by itself" at_most 2 tools/memory_places
 point "no further body of a function is in two files" at_most 20 tools/twins
 # Memory that is refused call by call, and in a small room; every 97th call here, and by hand each.
 if command -v cc >/dev/null; then

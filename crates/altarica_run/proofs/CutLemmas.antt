@@ -1,5 +1,6 @@
 -- The cuts of a job, as they are written.
-use Rattle.std.proofs.Common.{◌≡◌, ◌≢◌, ◌≤◌, ◌⊎◌, inl, inr, true, false, ℕ, zero, suc, List, [], ◌∷◌, Result, Ok, Err, length, map, reverse, refl, sym, ◌∙◌, ap, subst, arith}
+use Rattle.std.proofs.Common.{◌≡◌, ◌≢◌, ◌≤◌, true, ℕ, zero, suc, Some, List, [], ◌∷◌, Result, Ok, Err, length, map, reverse, refl, sym, ◌∙◌, ap, subst, arith}
+use Rattle.std.proofs.lemmas.Option.{same_Some}
 use Rattle.ar_base.specs.Lists.{Stands}
 use Rattle.ar_base.specs.Lists as l
 use Rattle.ar_base.proofs.Standing.{stands_one, stands_some, stands_map, one_here, along_on, along_back}
@@ -43,6 +44,7 @@ use Rattle.gts_flatten.specs.Flat.{naming_of}
 use Rattle.hierarchy.specs.Listing.{variables}
 use Rattle.hierarchy.specs.Units.{Thing}
 use Rattle.mode_trees.specs.declared.forests.Edge.{Edge}
+use Rattle.mode_trees.specs.declared.forests.Forest.{Forest}
 use Rattle.mode_trees.specs.Views.{trees_of, number_in}
 use Rattle.zdd_families.specs.Families.{Family as Sets}
 use Rattle.zdd_families.specs.Sections.{IsCounted, IsMoreThan}
@@ -70,25 +72,24 @@ use Rattle.cut_text.proofs.Source.{replays as source_replays}
 use Rattle.cut_text.specs.Answers.{Prints}
 use Rattle.cut_text.specs.Printed.{edges_of, labels_in, cuts_text, conflict_text, IsForestOf}
 use Rattle.check_text.specs.Texts.{IsCheckText}
+use Rattle.cut_check.specs.Flat.{AreVerdicts}
+use Rattle.cut_check.specs.declared.checking.Verdict.{Verdict}
 use Rattle.cut_text.specs.Texts.{IsCutText, IsConflictText}
 use Rattle.module_text.specs.Texts.{IsModuleText}
 use Rattle.job_inputs.specs.Chains.{cut_of}
 use Rattle.job_inputs.specs.CutLists.{CutLine}
+use Rattle.job_inputs.specs.declared.wanting.Wanted.{Wanted}
 use Rattle.cut_text.specs.declared.faults.PrintFault.{PrintFault}
 use Rattle.cut_text.specs.declared.faults.PrintFault.TheVariants as print
-use Rattle.run_words.specs.Commands.{shape_of}
-use Rattle.run_words.proofs.Reaches.{cuts_to_forest, cuts_to_table}
 use Rattle.run_words.specs.declared.jobs.Job.{Job}
-use Rattle.run_words.specs.declared.verbs.Verb.{Verb}
-use Rattle.run_words.specs.declared.verbs.Verb.TheVariants.{Check, Flat, Replay, Fragment, Equations, Cuts, Make, Explain, CheckCuts, Modules}
-use Rattle.altarica_run.specs.Passing.{IsReady, IsGateTable}
-use Rattle.altarica_run.specs.Passing as passing
-use Rattle.altarica_run.specs.Stages.{Ready, is_static as asks_static, has_table, lists_cuts}
+use Rattle.run_words.specs.declared.verbs.Verb.TheVariants.{Cuts, Make, CheckCuts, Modules}
+use Rattle.altarica_run.specs.Passing.{HasForest, IsGateTable, HasGates}
+use Rattle.altarica_run.specs.Stages.{Ready, lists_cuts}
 use Rattle.altarica_run.specs.Telling.{IsWritten, whole, cut, nothing, status_printed}
-use Rattle.altarica_run.specs.Tells.{HasCuts, IsFirableSet, Replays, make_lines, Tells, cuts, make, checks, in_short, conflict, nodes, nodes_line}
-use Rattle.altarica_run.specs.declared.stages.Prepared.{Prepared}
+use Rattle.altarica_run.specs.Tells.{HasCuts, IsFirableSet, Replays, make_lines, MayNeedMore, nodes_line, Tells, cuts, make, checks, in_short, conflict, nodes}
 use Rattle.altarica_run.specs.declared.status.Status.{Status}
 use Rattle.altarica_run.specs.declared.status.Status.TheVariants.{Done, Fault, Nodes}
+use Rattle.altarica_run.specs.declared.tabling.GateTable.{GateTable}
 use Rattle.altarica_run.proofs.LineLemmas.{made_same}
 use Rattle.altarica_run.proofs.TableLemmas.{at_observer}
 use Rattle.altarica_run.proofs.TellLemmas.{many_units, many_events}
@@ -141,49 +142,29 @@ few_counted sections room s n limit sound is few more =
     (λ h c. counted_stored sections s n sound is h c) more) in
     absurd (omega (arith, k, few))
 
--- a command that lists cuts, or tells of them, asks for a static system and is about the gate table
-lists_static : (v : Verb) → lists_cuts v ≡ true → asks_static v ≡ true
-lists_static v e = cuts_to_forest (shape_of v).reach e
-
-lists_table : (v : Verb) → lists_cuts v ≡ true → has_table v ≡ true
-lists_table v e = cuts_to_table (shape_of v).reach e
-
--- these commands list cuts, or tell of them
-pub one_lists : (v : Verb) → (v ≡ Cuts) ⊎ ((v ≡ Make) ⊎ ((v ≡ CheckCuts) ⊎ (v ≡ Modules))) → lists_cuts v ≡ true
-one_lists v (inl e) = ap lists_cuts e
-one_lists v (inr (inl e)) = ap lists_cuts e
-one_lists v (inr (inr (inl e))) = ap lists_cuts e
-one_lists v (inr (inr (inr e))) = ap lists_cuts e
-
--- and the command that lists them is the only one but these
-pub only_cuts : (v : Verb) → lists_cuts v ≡ true → (v ≡ Make → ⊥) → (v ≡ CheckCuts → ⊥) → (v ≡ Modules → ⊥) → v ≡ Cuts
-only_cuts Check e a b c = let k : false ≡ true = e in absurd cc
-only_cuts Flat e a b c = let k : false ≡ true = e in absurd cc
-only_cuts Replay e a b c = let k : false ≡ true = e in absurd cc
-only_cuts Fragment e a b c = let k : false ≡ true = e in absurd cc
-only_cuts Equations e a b c = let k : false ≡ true = e in absurd cc
-only_cuts Cuts e a b c = refl
-only_cuts Make e a b c = absurd (a refl)
-only_cuts Explain e a b c = let k : false ≡ true = e in absurd cc
-only_cuts CheckCuts e a b c = absurd (b refl)
-only_cuts Modules e a b c = absurd (c refl)
+-- more nodes may be needed
+pub nodes_told : (job : Job) (w : Ready) → lists_cuts job.command ≡ true → (n : ℕ) → job.nodes ≡ n → MayNeedMore w n
+    → Tells job w (nodes_line n) Nodes
+nodes_told job w e n same may =
+    subst (λ (z : ℕ). Tells job w (nodes_line z) Nodes) same
+    (nodes e (subst (λ (z : ℕ). MayNeedMore w z) (sym same) may))
 
 -- What stands ready
 
-module _ (job : Job) (w : Ready) (p : Prepared) (is : IsReady job w p) (e : lists_cuts job.command ≡ true) where
+module _ (w : Ready) (p : GtsParts) (forest : Forest) (gates : GateTable) (is : HasGates w p forest gates) where
   abbrev flat : System ℕ
   flat = is.flat.flat
 
   abbrev things : List Thing
   things = variables w.source.declarations.model w.source.declarations.units
 
-  own : passing.IsForestOf p.system w.dropped p.forest
-  own = is.forest.own (lists_static job.command e)
+  own : HasForest p w forest
+  own = is.forest
 
-  pub table : IsGateTable p.system w p.forest p.table
-  table = is.table.own (lists_table job.command e)
+  pub table : IsGateTable p forest w gates
+  table = is.table
 
-  pub forest_is : IsForestOf w.source p.system flat w.dropped p.forest
+  pub forest_is : IsForestOf w.source p flat w.dropped forest
   forest_is = record {
     is_flat = is.flat;
     views = is.flat.views;
@@ -192,64 +173,64 @@ module _ (job : Job) (w : Ready) (p : Prepared) (is : IsReady job w p) (e : list
     own = is.forest.written.own;
   }
 
-  pub seen : (o : Observer) × Stands p.system.observers.items table.wanted.observer o
+  pub seen : (o : Observer) × Stands p.observers.items table.wanted.observer o
   seen = stands_some _ _ table.inside
 
   abbrev pub observed : Expr ℕ
   observed = numbered seen.0.value
 
-  by_trees : IsTable (net_of p.system) (trees_of (number_in p.system) p.forest) (numbered seen.0.value)
-      table.wanted.value (table_of p.table.equations)
-  by_trees = at_observer _ seen.0 (gives.IsTableOf p.system p.forest table.wanted.value (table_of p.table.equations))
+  by_trees : IsTable (net_of p) (trees_of (number_in p) forest) (numbered seen.0.value)
+      table.wanted.value (table_of gates.equations)
+  by_trees = at_observer _ seen.0 (gives.IsTableOf p forest table.wanted.value (table_of gates.equations))
       seen.1 table.by_trees
 
-  pub own_forest : IsForest flat w.dropped (trees_of (number_in p.system) p.forest)
+  pub own_forest : IsForest flat w.dropped (trees_of (number_in p) forest)
   own_forest = own.is_forest flat is.flat.views
 
   pub both : IsKeyedStatic flat w.dropped
   both = record {
-    keyed = subst (λ (z : Net ℕ). AreKeyed z) (sym is.flat.views.net) (keyed (net_of p.system) (are_numbered p.system));
+    keyed = subst (λ (z : Net ℕ). AreKeyed z) (sym is.flat.views.net) (keyed (net_of p) (are_numbered p));
     static = all_static flat w.dropped (own.keeps flat is.flat.views);
   }
 
   -- the table's gates are in order
-  pub ordered : TableIsOrdered → IsOrderedTable (table_of p.table.equations)
+  pub ordered : TableIsOrdered → IsOrderedTable (table_of gates.equations)
   ordered law =
-      law (net_of p.system) (trees_of (number_in p.system) p.forest) (numbered seen.0.value) table.wanted.value
-      (table_of p.table.equations) (are_trees flat w.dropped both.keyed both.static
-      (trees_of (number_in p.system) p.forest) own_forest)
+      law (net_of p) (trees_of (number_in p) forest) (numbered seen.0.value) table.wanted.value
+      (table_of gates.equations) (are_trees flat w.dropped both.keyed both.static
+      (trees_of (number_in p) forest) own_forest)
       by_trees
 
   flat_is : IsFlatOf things w.source.system flat
   flat_is = is.flat.is_flat
 
-  module _ (kinds : IsLawful (net_of p.system) (kind_by_number p.system))
-      (typed : (o : Observer) → l.IsOneOf p.system.observers.items o
-      → HasKind (kind_by_number p.system) (out-Expr ℕ (numbered o.value)) o.kind)
+  module _ (kinds : IsLawful (net_of p) (kind_by_number p))
+      (typed : (o : Observer) → l.IsOneOf p.observers.items o
+      → HasKind (kind_by_number p) (out-Expr ℕ (numbered o.value)) o.kind)
     where
       -- the table agrees with the system
       pub agrees : TableAgrees → Agrees flat w.dropped (numbered seen.0.value) table.wanted.value
-          (value_at (table_of p.table.equations).gates (table_of p.table.equations).conflict)
-          (value_at (table_of p.table.equations).gates (table_of p.table.equations).top)
+          (value_at (table_of gates.equations).gates (table_of gates.equations).conflict)
+          (value_at (table_of gates.equations).gates (table_of gates.equations).top)
       agrees law =
-          law flat w.dropped (kind_by_number p.system) seen.0.kind (trees_of (number_in p.system) p.forest)
-          (numbered seen.0.value) table.wanted.value (table_of p.table.equations)
-          (subst (λ (z : Net ℕ). IsLawful z (kind_by_number p.system)) (sym is.flat.views.net) kinds) both
+          law flat w.dropped (kind_by_number p) seen.0.kind (trees_of (number_in p) forest)
+          (numbered seen.0.value) table.wanted.value (table_of gates.equations)
+          (subst (λ (z : Net ℕ). IsLawful z (kind_by_number p)) (sym is.flat.views.net) kinds) both
           own_forest (typed seen.0 (one_here _ _ seen.0 seen.1))
-          (subst (λ (z : Net ℕ). IsTable z (trees_of (number_in p.system) p.forest) (numbered seen.0.value)
-          table.wanted.value (table_of p.table.equations)) (sym is.flat.views.net) by_trees)
+          (subst (λ (z : Net ℕ). IsTable z (trees_of (number_in p) forest) (numbered seen.0.value)
+          table.wanted.value (table_of gates.equations)) (sym is.flat.views.net) by_trees)
 
       -- what is drawn
-      pub are_drawn : DrawnAreMeant → (d : Drawn) → IsAnswer (trees_of (λ n. n) p.forest) (table_of p.table.equations) d
+      pub are_drawn : DrawnAreMeant → (d : Drawn) → IsAnswer (trees_of (λ n. n) forest) (table_of gates.equations) d
           → AreDrawn flat w.dropped (numbered seen.0.value) table.wanted.value d
       are_drawn meant d h =
-          meant flat w.dropped (kind_by_number p.system) seen.0.kind (number_in p.system) p.forest
+          meant flat w.dropped (kind_by_number p) seen.0.kind (number_in p) forest
           (numbered seen.0.value)
-          table.wanted.value (table_of p.table.equations) d
-          (subst (λ (z : Net ℕ). IsLawful z (kind_by_number p.system)) (sym is.flat.views.net) kinds) both
+          table.wanted.value (table_of gates.equations) d
+          (subst (λ (z : Net ℕ). IsLawful z (kind_by_number p)) (sym is.flat.views.net) kinds) both
           (own.is_forest flat is.flat.views) (typed seen.0 (one_here _ _ seen.0 seen.1))
-          (subst (λ (z : Net ℕ). IsTable z (trees_of (number_in p.system) p.forest) (numbered seen.0.value)
-          table.wanted.value (table_of p.table.equations)) (sym is.flat.views.net) by_trees)
+          (subst (λ (z : Net ℕ). IsTable z (trees_of (number_in p) forest) (numbered seen.0.value)
+          table.wanted.value (table_of gates.equations)) (sym is.flat.views.net) by_trees)
           h
 
   -- The nodes that may be needed
@@ -261,7 +242,7 @@ module _ (job : Job) (w : Ready) (p : Prepared) (is : IsReady job w p) (e : list
   behind = flat_back things w.source.system flat flat_is
 
   abbrev own_trees : List ModeTree
-  own_trees = trees_of (number_in p.system) p.forest
+  own_trees = trees_of (number_in p) forest
 
   -- the sets that are firable in the trees are those of the source
   firable_there_in : (set : List ℕ) → IsFirableOf own_trees set → IsFirableSet w.source.system w.dropped set
@@ -275,20 +256,20 @@ module _ (job : Job) (w : Ready) (p : Prepared) (is : IsReady job w p) (e : list
       (firable_there (IsNumber things) w.source.system flat there w.dropped h.1)
 
   sound_agrees : Agrees flat w.dropped (numbered seen.0.value) table.wanted.value
-      (value_at (table_of p.table.equations).gates (table_of p.table.equations).conflict)
-      (value_at (table_of p.table.equations).gates (table_of p.table.equations).top)
+      (value_at (table_of gates.equations).gates (table_of gates.equations).conflict)
+      (value_at (table_of gates.equations).gates (table_of gates.equations).top)
   sound_agrees =
-      agrees (system_lawful p.system table.sound) (λ o h. observer_kind p.system table.sound o h)
+      agrees (system_lawful p table.sound) (λ o h. observer_kind p table.sound o h)
       (λ sys dropped kinds kind trees observer wanted t lawful static forest observed steps.
       table_meant sys dropped kinds kind trees observer wanted t lawful static.static forest observed steps)
 
   -- the table's conflict operand is true at each set that meets a conflict
   conflict_true : (set : List ℕ) → ConflictSet w.source.system w.dropped set
-      → IsConflictAt own_trees (table_of p.table.equations) set
+      → IsConflictAt own_trees (table_of gates.equations) set
   conflict_true set h =
       let met = met_is_conflicting flat w.dropped both.keyed both.static (numbered seen.0.value) table.wanted.value
-      (value_at (table_of p.table.equations).gates (table_of p.table.equations).conflict)
-      (value_at (table_of p.table.equations).gates (table_of p.table.equations).top) sound_agrees {set = set}
+      (value_at (table_of gates.equations).gates (table_of gates.equations).conflict)
+      (value_at (table_of gates.equations).gates (table_of gates.equations).top) sound_agrees {set = set}
       (meets_there (IsNumber things) w.source.system flat there w.dropped h.has) in
       record {
         is_firable = firable_in_trees flat w.dropped both.keyed both.static own_trees own_forest set met.values
@@ -298,35 +279,42 @@ module _ (job : Job) (w : Ready) (p : Prepared) (is : IsReady job w p) (e : list
 
   -- and at no firable set where no set meets one
   conflict_false : IsConflictFree w.source.system w.dropped → (set : List ℕ)
-      → IsConflictAt own_trees (table_of p.table.equations) set → ⊥
+      → IsConflictAt own_trees (table_of gates.equations) set → ⊥
   conflict_false free set t =
       let f = firable_in_system flat w.dropped both.keyed both.static own_trees own_forest set t.is_firable in
       let no = no_conflict flat w.dropped both.keyed both.static (numbered seen.0.value) table.wanted.value
-      (value_at (table_of p.table.equations).gates (table_of p.table.equations).conflict)
-      (value_at (table_of p.table.equations).gates (table_of p.table.equations).top) sound_agrees
+      (value_at (table_of gates.equations).gates (table_of gates.equations).conflict)
+      (value_at (table_of gates.equations).gates (table_of gates.equations).top) sound_agrees
       (λ s m. free s (meets_there (turned (IsNumber things)) flat w.source.system behind w.dropped m)) set f.0 f.1 in
-      let yes : value_at (table_of p.table.equations).gates (table_of p.table.equations).conflict set ≡ true =
+      let yes : value_at (table_of gates.equations).gates (table_of gates.equations).conflict set ≡ true =
       t.holds in
       cc
 
   -- more nodes may be needed
-  pub may_need : NodesByNumbers → NodesMay (trees_of (λ n. n) p.forest) (table_of p.table.equations) p.nodes
-      → Tells job w (nodes_line p.nodes) Nodes
-  may_need law h =
-      let may = law (λ n. n) (number_in p.system) p.forest (table_of p.table.equations) job.nodes
-      (subst (λ (z : ℕ). NodesMay (trees_of (λ n. n) p.forest) (table_of p.table.equations) z) is.nodes h) in
-      subst (λ (z : ℕ). Tells job w (nodes_line z) Nodes) (sym is.nodes)
-      (nodes e
-      (record {
+  pub may_need : NodesByNumbers → (n : ℕ) → NodesMay (trees_of (λ n. n) forest) (table_of gates.equations) n
+      → MayNeedMore w n
+  may_need law n h =
+      let may = law (λ n. n) (number_in p) forest (table_of gates.equations) n h in
+      record {
         wanted = table.wanted;
         are_wanted = table.are;
-        table = table_of p.table.equations;
+        table = table_of gates.equations;
         is_table = table.is_table;
         firable = may.all;
         are_firable = listed_as firable_there_in firable_back_in may.is_all;
         where_conflict = λ set c. may.where_some set (conflict_true set c);
         where_free = λ free. may.where_none (conflict_false free);
-      }))
+      }
+
+  -- verdicts over the observer and the value that are asked for are over those of the table
+  pub said_of_table : (asked : Wanted) → w.wanted ≡ Some asked → (chains : List Chain) (said : List Verdict)
+      → ((o : Observer) → Stands p.observers.items asked.observer o
+      → AreVerdicts p flat w.dropped (numbered o.value) asked.value chains said)
+      → AreVerdicts p flat w.dropped observed table.wanted.value chains said
+  said_of_table asked e chains said h =
+      let same : asked ≡ table.wanted = same_Some asked table.wanted (sym e ∙ table.are) in
+      subst (λ (z : Wanted). ((o : Observer) → Stands p.observers.items z.observer o
+      → AreVerdicts p flat w.dropped (numbered o.value) z.value chains said)) same h seen.0 seen.1
 
   -- the source's observer
   pub sourced : (o : Expr Thing) × Stands w.source.system.observers table.wanted.observer o
@@ -335,7 +323,7 @@ module _ (job : Job) (w : Ready) (p : Prepared) (is : IsReady job w p) (e : list
       along_back _ _ flat_is.observers table.wanted.observer (numbered seen.0.value)
       (subst (λ (z : List (Expr ℕ)). Stands z table.wanted.observer (numbered seen.0.value))
       (sym is.flat.views.observers)
-      (stands_map (λ (z : Observer). numbered z.value) p.system.observers.items table.wanted.observer seen.0 seen.1))
+      (stands_map (λ (z : Observer). numbered z.value) p.observers.items table.wanted.observer seen.0 seen.1))
 
   -- the cuts
   abbrev pub source_observer : Expr Thing
@@ -365,24 +353,21 @@ module _ (job : Job) (w : Ready) (p : Prepared) (is : IsReady job w p) (e : list
       renamed table.wanted.value s c)
       listed
 
-  few_of : (sets : Sets) → (IsMoreThan p.nodes (IsCounted sets) → ⊥) → IsMoreThan job.nodes (IsCounted sets) → ⊥
-  few_of sets few more = few (subst (λ (n : ℕ). IsMoreThan n (IsCounted sets)) (sym is.nodes) more)
-
   -- the events of a line of the source are those of its set
   line_events : (set : List ℕ) (ls : List Label) → IsLine w.source.system w.dropped set ls → AreEvents (reverse ls) set
   line_events set ls h =
       (line_is_legal flat w.dropped both.keyed both.static
       (line_there (IsNumber things) w.source.system flat there w.dropped h)).events
 
-  pub cuts_told : job.command ≡ Cuts → (sets : Sets) (text : List ℕ) → (free : IsConflictFree flat w.dropped)
+  pub cuts_told : (job : Job) → job.command ≡ Cuts → (sets : Sets) (text : List ℕ) → (free : IsConflictFree flat w.dropped)
       → AreListed (Cut flat w.dropped (numbered seen.0.value) table.wanted.value) sets
       → IsCutText (naming_of w.source.declarations) w.source.system w.dropped source_observer table.wanted.value text
       → ((sets : List (List ℕ)) → AreListed (Cut w.source.system w.dropped source_observer table.wanted.value) sets
       → (set : List ℕ) → l.IsOneOf sets set → (ls : List Label) → IsLine w.source.system w.dropped set ls
       → (t : List Value) × Reaches w.source.system w.dropped (reverse ls) t × Reaches w.source.system [] (reverse ls) t
       × Yields (HasValue w.source.system.net t) (out-Expr Thing source_observer) table.wanted.value)
-      → (IsMoreThan p.nodes (IsCounted sets) → ⊥) → Tells job w text Done
-  cuts_told i sets text free listed t replays few =
+      → (IsMoreThan job.nodes (IsCounted sets) → ⊥) → Tells job w text Done
+  cuts_told job i sets text free listed t replays few =
       let same : t.sets ≡ sets = listed_same t.sets sets
       (Cut w.source.system w.dropped source_observer table.wanted.value) t.are_listed
       (listed_of_source sets listed) in
@@ -390,7 +375,7 @@ module _ (job : Job) (w : Ready) (p : Prepared) (is : IsReady job w p) (e : list
       (record {
         has = has_cuts free;
         is_text = t;
-        few = λ more. few_of sets few (subst (λ (z : Sets). IsMoreThan job.nodes (IsCounted z)) same more);
+        few = λ more. few (subst (λ (z : Sets). IsMoreThan job.nodes (IsCounted z)) same more);
         replay = λ k set ls s h.
             let g = along_on _ _ t.are_lines k set s in
             let line = subst (λ (z : List Label). IsLine w.source.system w.dropped set z)
@@ -405,9 +390,9 @@ module _ (job : Job) (w : Ready) (p : Prepared) (is : IsReady job w p) (e : list
       → IsLine w.source.system w.dropped set ls
       → Replays w.source.system source_observer table.wanted.value set ls
   line_replays free set ls makes line =
-      let fails = value_at (table_of p.table.equations).gates (table_of p.table.equations).conflict in
-      let wins = value_at (table_of p.table.equations).gates (table_of p.table.equations).top in
-      let run = source_replays w.source p.system flat w.dropped p.forest (views_one p.system) forest_is source_observer
+      let fails = value_at (table_of gates.equations).gates (table_of gates.equations).conflict in
+      let wins = value_at (table_of gates.equations).gates (table_of gates.equations).top in
+      let run = source_replays w.source p flat w.dropped forest (views_one p) forest_is source_observer
       (numbered seen.0.value) renamed table.wanted.value
       (λ s ks m k. line_makes flat w.dropped both.keyed both.static (numbered seen.0.value) table.wanted.value fails
       wins sound_agrees
@@ -416,18 +401,18 @@ module _ (job : Job) (w : Ready) (p : Prepared) (is : IsReady job w p) (e : list
       record { events = line_events set ls line; values = run.0; reaches = run.2; shows = run.3 }
 
   -- what is to be said of the lines of a list
-  pub checks_told : job.command ≡ CheckCuts → (chains : List Chain) → chains ≡ p.request.chains.items
+  pub checks_told : (job : Job) → job.command ≡ CheckCuts → (chains : List Chain) → w.lines ≡ map (cut_of p) chains
       → (sets : Sets) (text : List ℕ) → IsConflictFree flat w.dropped
       → AreListed (Cut flat w.dropped (numbered seen.0.value) table.wanted.value) sets
       → IsCheckText (naming_of w.source.declarations) w.source.system w.dropped source_observer table.wanted.value
-      (map (cut_of p.system) chains) text
-      → (IsMoreThan p.nodes (IsCounted sets) → ⊥) → Tells job w text Done
-  checks_told i chains same sets text free listed t few =
+      (map (cut_of p) chains) text
+      → (IsMoreThan job.nodes (IsCounted sets) → ⊥) → Tells job w text Done
+  checks_told job i chains same sets text free listed t few =
       let given : IsCheckText (naming_of w.source.declarations) w.source.system w.dropped source_observer
       table.wanted.value w.lines text =
       subst (λ (z : List CutLine). IsCheckText (naming_of w.source.declarations) w.source.system w.dropped
       source_observer table.wanted.value z text)
-      (ap (λ (z : List Chain). map (cut_of p.system) z) same ∙ sym is.requested.lines.are) t in
+      (sym same) t in
       checks i
       (record {
         has = has_cuts free;
@@ -439,15 +424,15 @@ module _ (job : Job) (w : Ready) (p : Prepared) (is : IsReady job w p) (e : list
             line_replays free set ls (given.are_missing.sound k set s).is_cut.has line;
         sets = sets;
         are_listed = listed_of_source sets listed;
-        few = few_of sets few;
+        few = few;
       })
 
   -- the cuts in short
-  pub short_told : job.command ≡ Modules → (sets : Sets) (text : List ℕ) → IsConflictFree flat w.dropped
+  pub short_told : (job : Job) → job.command ≡ Modules → (sets : Sets) (text : List ℕ) → IsConflictFree flat w.dropped
       → AreListed (Cut flat w.dropped (numbered seen.0.value) table.wanted.value) sets
       → IsModuleText w.source w.dropped source_observer table.wanted.value text
-      → (IsMoreThan p.nodes (IsCounted sets) → ⊥) → Tells job w text Done
-  short_told i sets text free listed t few =
+      → (IsMoreThan job.nodes (IsCounted sets) → ⊥) → Tells job w text Done
+  short_told job i sets text free listed t few =
       let same : t.cuts ≡ sets = listed_same t.cuts sets
       (Cut w.source.system w.dropped source_observer table.wanted.value) t.are_listed
       (listed_of_source sets listed) in
@@ -455,54 +440,55 @@ module _ (job : Job) (w : Ready) (p : Prepared) (is : IsReady job w p) (e : list
       (record {
         has = has_cuts free;
         is_text = t;
-        few = λ more. few_of sets few (subst (λ (z : Sets). IsMoreThan job.nodes (IsCounted z)) same more);
+        few = λ more. few (subst (λ (z : Sets). IsMoreThan job.nodes (IsCounted z)) same more);
       })
 
   -- how many there are
-  pub make_told : job.command ≡ Make → (sets : Sets) (text : List ℕ) → IsConflictFree flat w.dropped
+  pub make_told : (job : Job) → job.command ≡ Make → (number : ℕ) → job.number ≡ number → (sets : Sets) (text : List ℕ)
+      → IsConflictFree flat w.dropped
       → AreListed (Cut flat w.dropped (numbered seen.0.value) table.wanted.value) sets
-      → text ≡ make_lines p.number (length p.system.units.items) (length p.system.events.items) (count sets)
+      → text ≡ make_lines number (length p.units.items) (length p.events.items) (count sets)
       (largest sets)
-      → (IsMoreThan p.nodes (IsCounted sets) → ⊥) → Tells job w text Done
-  make_told i sets text free listed t few =
+      → (IsMoreThan job.nodes (IsCounted sets) → ⊥) → Tells job w text Done
+  make_told job i number same sets text free listed t few =
       make i
       (record {
         has = has_cuts free;
         sets = sets;
         are_listed = listed_of_source sets listed;
-        is_text = t ∙ made_same is.number (many_units w.source p.system is.flat) (many_events w.source p.system is.flat)
+        is_text = t ∙ made_same (sym same) (many_units w.source p is.flat) (many_events w.source p is.flat)
             (count sets) (largest sets);
-        few = few_of sets few;
+        few = few;
       })
 
   -- the conflict
-  module _
+  module _ (job : Job) (e : lists_cuts job.command ≡ true)
       (meets : (set : List ℕ) (sets : List (List ℕ)) (events : List ℕ) (lists : List (List ℕ))
       → AreListed (ConflictSet flat w.dropped) (set ∷ sets)
-      → AreInFiringOrder (trees_of (λ n. n) p.forest) (set ∷ sets) (events ∷ lists)
+      → AreInFiringOrder (trees_of (λ n. n) forest) (set ∷ sets) (events ∷ lists)
       → (fault : FlowFault) × Conflicts flat w.dropped
-      (reverse (labels_in p.system (edges_of p.forest.trees.items) events)) fault)
+      (reverse (labels_in p (edges_of forest.trees.items) events)) fault)
       (is_text : (set : List ℕ) (sets : List (List ℕ)) (events : List ℕ) (lists : List (List ℕ)) (fault : FlowFault)
       → AreListed (ConflictSet flat w.dropped) (set ∷ sets)
-      → AreInFiringOrder (trees_of (λ n. n) p.forest) (set ∷ sets) (events ∷ lists)
-      → Conflicts flat w.dropped (reverse (labels_in p.system (edges_of p.forest.trees.items) events)) fault
+      → AreInFiringOrder (trees_of (λ n. n) forest) (set ∷ sets) (events ∷ lists)
+      → Conflicts flat w.dropped (reverse (labels_in p (edges_of forest.trees.items) events)) fault
       → IsConflictText (naming_of w.source.declarations) w.source.system w.dropped
-      (conflict_text p.system (edges_of p.forest.trees.items) events fault)) where
+      (conflict_text p (edges_of forest.trees.items) events fault)) where
     pub conflict_printed : (old new : SinkState) (r : Result (Unit {0}) PrintFault) (sets lists : List (List ℕ))
         → sets ≢ []
-        → AreListed (ConflictSet flat w.dropped) sets → AreInFiringOrder (trees_of (λ n. n) p.forest) sets lists
-        → ((system : System ℕ) → Views p.system system
+        → AreListed (ConflictSet flat w.dropped) sets → AreInFiringOrder (trees_of (λ n. n) forest) sets lists
+        → ((system : System ℕ) → Views p system
         → (dropped events : List ℕ) (later : List (List ℕ)) (fault : FlowFault)
         → lists ≡ events ∷ later
-        → Conflicts system dropped (reverse (labels_in p.system (edges_of p.forest.trees.items) events)) fault
-        → Prints old new (conflict_text p.system (edges_of p.forest.trees.items) events fault) r)
+        → Conflicts system dropped (reverse (labels_in p (edges_of forest.trees.items) events)) fault
+        → Prints old new (conflict_text p (edges_of forest.trees.items) events fault) r)
         → (text : List ℕ) × Tells job w text Fault × Prints old new text r
     conflict_printed old new r sets lists some listed l.none prints = absurd (some refl)
     conflict_printed old new r sets lists some listed (l.one_and {a = set} {b = events} {xs = xs} {ys = ys} h hs)
         prints =
         let g = l.one_and h hs in
         let f = meets set xs events ys listed g in (
-          conflict_text p.system (edges_of p.forest.trees.items) events f.0,
+          conflict_text p (edges_of forest.trees.items) events f.0,
           conflict e (is_text set xs events ys f.0 listed g f.1),
           prints flat is.flat.views w.dropped events ys f.0 refl f.1,
         )

@@ -1,23 +1,29 @@
 -- How a call ends, as the calls in it answer.
-use Rattle.std.proofs.Common.{◌≡◌, ℕ, List, Ok, sym, ap, subst}
+use Rattle.std.proofs.Common.{◌≡◌, ℕ, List, Result, Ok, Err, refl, sym, ◌∙◌, ap, subst}
 use Rattle.ar_io.specs.Outside.{Told}
 use Rattle.ar_io.specs.Writing.{SinkState, Appended, WroteFront}
 use Rattle.run_words.specs.declared.jobs.Job.{Job}
 use Rattle.run_words.specs.Jobs.{IsJob}
 use Rattle.altarica_run.specs.Answers.{IsUntouched}
 use Rattle.altarica_run.specs.Files.{files_of, Loads}
-use Rattle.altarica_run.specs.Passing.{RefusesWords, no_job, stage, not_read}
+use Rattle.altarica_run.specs.Doing.{AnswersFor, RefusesWords, no_job, stage, not_read, AnswersWords}
+use Rattle.altarica_run.specs.Jobs.{AnswersJob}
+use Rattle.altarica_run.specs.Loading.{RefusesFiles, AnswersTexts, AreTexts, texts_of}
+use Rattle.altarica_run.specs.Loading as loading
 use Rattle.altarica_run.specs.Refusals.{line_of, status_of}
 use Rattle.altarica_run.specs.Says.{Says, usage, refuses, tells, EndsSo}
 use Rattle.altarica_run.specs.Says as says
-use Rattle.altarica_run.specs.Stages.{Ready, Passes}
+use Rattle.altarica_run.specs.Stages.{Ready, Passes, not_loaded, loaded}
 use Rattle.altarica_run.specs.Telling.{IsWritten, whole, cut, nothing, IsWrittenFor, written, stopped}
 use Rattle.altarica_run.specs.Tells.{Tells}
+use Rattle.altarica_run.specs.declared.loading.Texts.{Texts}
 use Rattle.altarica_run.specs.declared.refusals.FileKind.{FileKind}
 use Rattle.altarica_run.specs.declared.refusals.Refusal.{Refusal}
 use Rattle.altarica_run.specs.declared.refusals.Refusal.TheVariants.{NotRead}
 use Rattle.altarica_run.specs.declared.status.Status.{Status}
 use Rattle.altarica_run.specs.declared.status.Status.TheVariants as status
+use Rattle.altarica_run.specs.declared.stops.Stop.{Stop}
+use Rattle.altarica_run.specs.declared.stops.Stop.TheVariants.{Refused, Memory}
 
 module _ (files : List ℕ → Told) (rose : List ℕ → Type 0) (words : List (List ℕ)) (old new : SinkState) where
   -- the texts that are written are among those that the words say
@@ -65,9 +71,53 @@ module _ (files : List ℕ → Told) (rose : List ℕ → Type 0) (words : List 
   refusal_told r (stage job is p) s k = line_told r (refuses job r is p) s k
   refusal_told r (not_read {kind} {name} job is l m) s k = not_read_told kind name job is l m s k
 
+  -- the same, where nothing was written before
+  pub refused_first : (mid : SinkState) → mid ≡ old → (r : Refusal) → RefusesWords files rose words r → (s : Status)
+      → IsWritten (λ text ends. (text ≡ line_of r) × (ends ≡ status_of r)) mid new s
+      → EndsSo files rose words old new s
+  refused_first mid e r h s k =
+      refusal_told r h s
+      (subst (λ (z : SinkState). IsWritten (λ text ends. (text ≡ line_of r) × (ends ≡ status_of r)) z new s) e k)
+
   -- memory was refused before anything was written
   pub memory_told : new ≡ old → EndsSo files rose words old new status.Memory
   memory_told e = says.no_memory e
+
+-- The words, the files, and the command over them
+
+module _ (files : List ℕ → Told) (rose : List ℕ → Type 0) (words : List (List ℕ)) (old : SinkState) where
+  at_stop : (r : Result Status Stop) (d e : Stop) → r ≡ Err d → d ≡ e → AnswersWords files rose words old old (Err e)
+      → AnswersWords files rose words old old r
+  at_stop r d e i j h =
+      subst (λ (z : Result Status Stop). AnswersWords files rose words old old z) (sym (i ∙ ap Err j)) h
+
+  pub words_stop : (r : Result Status Stop) (d e : Stop) → r ≡ Err d → d ≡ e → AnswersJob words (Err e)
+      → AnswersWords files rose words old old r
+  words_stop r d e i j h = at_stop r d e i j (go e h)
+    where
+      go : (e : Stop) → AnswersJob words (Err e) → AnswersWords files rose words old old (Err e)
+      go (Refused r) h = (subst (λ (z : Refusal). RefusesWords files rose words z) (sym h.0) (no_job h.1), refl)
+      go Memory h = refl
+
+  module _ (job : Job) (is : IsJob words job) where
+    pub files_stop : (r : Result Status Stop) (d e : Stop) → r ≡ Err d → d ≡ e
+        → AnswersTexts files rose job (Err e) → AnswersWords files rose words old old r
+    files_stop r d e i j h = at_stop r d e i j (go e h)
+      where
+        refused : (r : Refusal) → RefusesFiles files rose (files_of job) r → RefusesWords files rose words r
+        refused r (loading.limited l) = stage job is (not_loaded l)
+        refused r (loading.not_read l k) = not_read job is l k
+
+        go : (e : Stop) → AnswersTexts files rose job (Err e) → AnswersWords files rose words old old (Err e)
+        go (Refused r) h = (refused r h, refl)
+        go Memory h = refl
+
+    pub job_done : (new : SinkState) (t : Texts) → AreTexts files job t → (r : Result Status Stop)
+        → AnswersFor job t old new r → AnswersWords files rose words old new r
+    job_done new t l (Ok s) h =
+        job_told files rose words old new job h.0 is (loaded (texts_of job t) l.loaded l.is_text h.1) s h.2
+    job_done new t l (Err (Refused r)) h = (stage job is (loaded (texts_of job t) l.loaded l.is_text h.0), h.1)
+    job_done new t l (Err Memory) h = h
 
 -- The shelf
 

@@ -22,7 +22,7 @@ use Rattle.gts_core.specs.View.{Views, net_of, numbered}
 use Rattle.gts_core.specs.declared.system.GtsParts.{GtsParts}
 use Rattle.gts_core.specs.declared.system.Observer.{Observer}
 use Rattle.gts_core.specs.declared.system.Valuation.{Valuation}
-use Rattle.gts_flatten.specs.Flat.{naming_of, naming_of_parts}
+use Rattle.gts_flatten.specs.Flat.{IsFlat, naming_of, naming_of_parts}
 use Rattle.hierarchy.specs.Listing.{variables}
 use Rattle.hierarchy.specs.Units.{Thing}
 use Rattle.reason_text.specs.Answers.{Explains, observed, AreSameObserver, IsObserverIn}
@@ -34,11 +34,9 @@ use Rattle.replayer.specs.declared.replaying.ReplayFault.{ReplayFault}
 use Rattle.replayer.specs.declared.replaying.ReplayFault.TheVariants as fault
 use Rattle.run_words.specs.declared.jobs.Job.{Job}
 use Rattle.run_words.specs.declared.verbs.Verb.TheVariants.{Explain}
-use Rattle.altarica_run.specs.Passing.{IsReady}
 use Rattle.altarica_run.specs.Stages.{Ready}
 use Rattle.altarica_run.specs.Telling.{status_explained, IsWritten, whole, cut, nothing}
 use Rattle.altarica_run.specs.Tells.{Tells, explains, unsettled, IsObserverOf}
-use Rattle.altarica_run.specs.declared.stages.Prepared.{Prepared}
 use Rattle.altarica_run.specs.declared.status.Status.{Status}
 use Rattle.altarica_run.specs.declared.status.Status.TheVariants.{Done, Fault}
 
@@ -78,76 +76,75 @@ module _ {V : Type 0} (sys : System V)
 
 -- The text
 
-module _ (job : Job) (w : Ready) (p : Prepared) (is : IsReady job w p) (e : job.command ≡ Explain)
-    (given_commands : List Given)
-    (same_commands : given_commands ≡ p.request.commands.items) where
+module _ (job : Job) (w : Ready) (p : GtsParts) (is : IsFlat w.source p) (e : job.command ≡ Explain)
+    (given_commands : List Given) (same_commands : w.commands ≡ map (command_of p) given_commands) where
   abbrev flat : System ℕ
-  flat = is.flat.flat
+  flat = is.flat
 
   abbrev things : List Thing
   things = variables w.source.declarations.model w.source.declarations.units
 
   abbrev commands : List Command
-  commands = map (command_of p.system) given_commands
+  commands = map (command_of p) given_commands
 
   commands_are : commands ≡ w.commands
-  commands_are = ap (λ (z : List Given). map (command_of p.system) z) same_commands ∙ sym is.requested.commands.are
+  commands_are = sym same_commands
 
   -- the line of the fault
   module _
-      (there : (text : List ℕ) → IsFaultLine (naming_of_parts p.system) flat commands text
+      (there : (text : List ℕ) → IsFaultLine (naming_of_parts p) flat commands text
       → IsFaultLine (naming_of w.source.declarations) w.source.system commands text) where
-    fault_told : (text : List ℕ) → IsFaultLine (naming_of_parts p.system) flat commands text → Tells job w text Fault
+    fault_told : (text : List ℕ) → IsFaultLine (naming_of_parts p) flat commands text → Tells job w text Fault
     fault_told text h =
         unsettled e
         (subst (λ (z : List Command). IsFaultLine (naming_of w.source.declarations) w.source.system z text) commands_are
         (there text h))
 
     pub fault_told_whole : {old new : SinkState} (o : Option Valuation) → o ≡ None
-        → AnswersSettle (naming_of_parts p.system) flat commands old new (Ok o) → IsWritten (Tells job w) old new Fault
+        → AnswersSettle (naming_of_parts p) flat commands old new (Ok o) → IsWritten (Tells job w) old new Fault
     fault_told_whole {old} {new} o i h =
-        let k = subst (λ (z : Option Valuation). AnswersSettle (naming_of_parts p.system) flat commands old new (Ok z))
+        let k = subst (λ (z : Option Valuation). AnswersSettle (naming_of_parts p) flat commands old new (Ok z))
         i h in
         whole (fault_told k.0 k.1) k.2.whole k.2.kept
 
     -- the run is told of as it ended in its fault, or memory was refused
     pub settle_stops : {old new : SinkState} (f : ReplayFault)
-        → AnswersSettle (naming_of_parts p.system) flat commands old new (Err f)
+        → AnswersSettle (naming_of_parts p) flat commands old new (Err f)
         → (r : Result Status ReplayFault) (d : ReplayFault) → r ≡ Err d → d ≡ f
         → IsWritten (Tells job w) old new (status_explained r)
     settle_stops {old} {new} f h r d i j =
         subst (λ (z : Result Status ReplayFault). IsWritten (Tells job w) old new (status_explained z))
         (sym (i ∙ ap Err j)) (go f h)
       where
-        go : (f : ReplayFault) → AnswersSettle (naming_of_parts p.system) flat commands old new (Err f)
+        go : (f : ReplayFault) → AnswersSettle (naming_of_parts p) flat commands old new (Err f)
             → IsWritten (Tells job w) old new (status_explained (Err f))
         go fault.Write h = cut (fault_told h.0 h.1) h.2.front h.2.rose
         go fault.Memory h = nothing h
 
   -- the observer, where there is one
   module _ (given : Option ℕ) (same : w.shown ≡ given)
-      (known : (n : ℕ) → given ≡ Some n → n < length p.system.observers.items) where
+      (known : (n : ℕ) → given ≡ Some n → n < length p.observers.items) where
     flat_is : IsFlatOf things w.source.system flat
-    flat_is = is.flat.is_flat
+    flat_is = is.is_flat
 
     pub source_observer : (o : Option (Expr Thing)) × IsObserverOf w.source.system given o
-        × AreSameObserver things o (observed p.system given)
+        × AreSameObserver things o (observed p given)
     source_observer = go given (λ n i. known n i)
       where
-        go : (g : Option ℕ) → ((n : ℕ) → g ≡ Some n → n < length p.system.observers.items)
+        go : (g : Option ℕ) → ((n : ℕ) → g ≡ Some n → n < length p.observers.items)
             → (o : Option (Expr Thing)) × IsObserverOf w.source.system g o
-            × AreSameObserver things o (observed p.system g)
+            × AreSameObserver things o (observed p g)
         go None k = (None, refl, tt)
         go (Some n) k =
-            let seen = stands_some p.system.observers.items n (k n refl) in
+            let seen = stands_some p.observers.items n (k n refl) in
             let f = along_back _ _ flat_is.observers n (numbered seen.0.value)
-            (subst (λ (z : List (Expr ℕ)). Stands z n (numbered seen.0.value)) (sym is.flat.views.observers)
-            (stands_map (λ (z : Observer). numbered z.value) p.system.observers.items n seen.0 seen.1)) in
+            (subst (λ (z : List (Expr ℕ)). Stands z n (numbered seen.0.value)) (sym is.views.observers)
+            (stands_map (λ (z : Observer). numbered z.value) p.observers.items n seen.0 seen.1)) in
             (Some f.0, (f.0, refl, f.1), at_observer seen.0 seen.1 f.0 f.2)
           where
-            at_observer : (one : Observer) → Stands p.system.observers.items n one → (o : Expr Thing)
+            at_observer : (one : Observer) → Stands p.observers.items n one → (o : Expr Thing)
                 → Expr_renames (IsNumber things) o (numbered one.value)
-                → AreSameObserver things (Some o) (observed p.system (Some n))
+                → AreSameObserver things (Some o) (observed p (Some n))
             at_observer one s o r = rw s r
 
     -- the lines of the reasons
@@ -155,10 +152,10 @@ module _ (job : Job) (w : Ready) (p : Prepared) (is : IsReady job w p) (e : job.
         → Settles w.source.system commands values)
         (there : (observer : Option (Expr Thing)) (other : Option (Expr ℕ)) → AreSameObserver things observer other
         → (text : List ℕ)
-        → IsReasonText (naming_of_parts p.system) (net_of p.system) values other text
+        → IsReasonText (naming_of_parts p) (net_of p) values other text
         → IsReasonText (naming_of w.source.declarations) w.source.system.net values observer text) where
       explained_told : Settles flat commands values → (text : List ℕ)
-          → IsReasonText (naming_of_parts p.system) (net_of p.system) values (observed p.system given) text
+          → IsReasonText (naming_of_parts p) (net_of p) values (observed p given) text
           → Tells job w text Done
       explained_told settles text h =
           let o = source_observer in
@@ -169,22 +166,22 @@ module _ (job : Job) (w : Ready) (p : Prepared) (is : IsReady job w p) (e : job.
                 (source_settles settles);
             observer = o.0;
             is_observer = subst (λ (z : Option ℕ). IsObserverOf w.source.system z o.0) (sym same) o.1;
-            is_text = there o.0 (observed p.system given) o.2 text h;
+            is_text = there o.0 (observed p given) o.2 text h;
           })
 
       -- what the settling answered is that the run settles, and nothing is written yet
       module _ (old mid : SinkState) (o : Option Valuation) (t : Valuation) (is_t : t.values.items ≡ values)
           (i : o ≡ Some t)
-          (answers : AnswersSettle (naming_of_parts p.system) flat commands old mid (Ok o)) where
+          (answers : AnswersSettle (naming_of_parts p) flat commands old mid (Ok o)) where
         settled : Settles flat commands t.values.items × (mid ≡ old)
-        settled = subst (λ (z : Option Valuation). AnswersSettle (naming_of_parts p.system) flat commands old mid
+        settled = subst (λ (z : Option Valuation). AnswersSettle (naming_of_parts p) flat commands old mid
             (Ok z)) i answers
 
         run_settles : Settles flat commands values
         run_settles = subst (λ (z : List Value). Settles flat commands z) is_t settled.0
 
         abbrev Text : List ℕ → Type 0
-        Text = IsReasonText (naming_of_parts p.system) (net_of p.system) values (observed p.system given)
+        Text = IsReasonText (naming_of_parts p) (net_of p) values (observed p given)
 
         pub explained_whole : {new : SinkState} {u : Unit {0}} → Explains mid new Text (Ok u)
             → IsWritten (Tells job w) old new Done

@@ -1,5 +1,6 @@
 -- Files that are loaded one after the other.
 use Rattle.std.proofs.Common.{◌≡◌, ◌≤◌, ℕ, Bool, true, false, length, List, [], ◌∷◌, Option, Some, None, Result, Ok, Err, Vec, refl, sym, ◌∙◌, ap, subst, inl, inr}
+use Rattle.std.proofs.lemmas.Option.{same_Some}
 use Rattle.std.specs.Global.{Global}
 use Rattle.ar_base.specs.Counts.{limit_of}
 use Rattle.ar_io.specs.Outside.{Told, MayBeLonger, IsFile}
@@ -8,7 +9,6 @@ use Rattle.run_words.specs.declared.jobs.Job.{Job}
 use Rattle.altarica_run.specs.Files.{File, Loaded, none, long, later, whole, Loads, this, next, script_files, files_where, IsText, first, made}
 use Rattle.altarica_run.specs.Jobs.{makes_model}
 use Rattle.altarica_run.specs.Loading.{AnswersFile, RefusesFiles, limited, not_read, AnswersFiles, AnswersTexts, AreTexts, script_texts, texts_of, texts_where}
-use Rattle.altarica_run.specs.Passing.{IsShort}
 use Rattle.ar_base.specs.declared.counts.Count.TheVariants.{ModelBytes, ScriptBytes}
 use Rattle.altarica_run.specs.declared.loading.Texts.{Texts}
 use Rattle.altarica_run.specs.declared.refusals.FileKind.{FileKind}
@@ -109,18 +109,23 @@ some_texts told f fs h = elim h [ ]
 
 -- the script is there exactly where it is named, and it is short
 pub record IsLoadedScript (name : Option (List ℕ)) (script : Option (Vec ℕ Global)) : Type 0 where
-  pub short : IsShort script
+  pub short : (bytes : Vec ℕ Global) → script ≡ Some bytes → length bytes.items ≤ limit_of ScriptBytes
   pub none : name ≡ None → script ≡ None
   pub some : (n : List ℕ) → name ≡ Some n → (bytes : Vec ℕ Global) × (script ≡ Some bytes)
 
 pub loaded_script : (told : List ℕ → Told) (name : Option (List ℕ)) (script : Option (Vec ℕ Global))
     → Loaded told (script_files name) (Ok (script_texts script))
     → IsLoadedScript name script
-loaded_script told None None h = record { short = tt; none = λ e. refl; some = λ n e. cc }
+loaded_script told None None h = record { short = λ b e. cc; none = λ e. refl; some = λ n e. cc }
 loaded_script told None (Some bytes) h = absurd (no_texts told bytes.items [] h)
 loaded_script told (Some n) None h = absurd (some_texts told _ [] h)
 loaded_script told (Some n) (Some bytes) h =
-    record { short = (loaded_first told _ [] bytes.items [] h).0.short; none = λ e. cc; some = λ m e. (bytes, refl) }
+    record {
+      short = λ b e. subst (λ (z : Vec ℕ Global). length z.items ≤ limit_of ScriptBytes) (same_Some bytes b e)
+          (loaded_first told _ [] bytes.items [] h).0.short;
+      none = λ e. cc;
+      some = λ m e. (bytes, refl);
+    }
 
 -- the script's file, by the name that was looked up
 pub named : (name : Option (List ℕ)) (n word : List ℕ) → name ≡ Some n → word ≡ n

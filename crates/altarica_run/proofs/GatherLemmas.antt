@@ -6,8 +6,13 @@ use Rattle.ar_io.specs.declared.outside.SinkFailed.{SinkFailed}
 use Rattle.ar_io.proofs.Gathering.{put_whole, put_front, put_nothing, rose_failed}
 use Rattle.ar_io.specs.Gathering.{gathered_state}
 use Rattle.run_words.specs.declared.jobs.Job.{Job}
+use Rattle.altarica_run.specs.Doing.{AnswersFor}
 use Rattle.altarica_run.specs.Telling.{status_written, whole, cut, nothing, IsWrittenFor, written, stopped}
+use Rattle.altarica_run.specs.Tells.{Tells}
+use Rattle.altarica_run.specs.declared.loading.Texts.{Texts}
 use Rattle.altarica_run.specs.declared.status.Status.{Status}
+use Rattle.altarica_run.specs.declared.stops.Stop.{Stop}
+use Rattle.altarica_run.specs.declared.stops.Stop.TheVariants.{Refused, Memory}
 
 -- how the text of gathered output goes on to the sink in the end
 pub record IsHandedOn (start now : SinkState) (text : List ℕ) (failed : Bool) (r : Result (Unit {0}) SinkFailed)
@@ -51,11 +56,33 @@ module _ (job : Job) (told : List ℕ → Status → Type 0) {m n : ℕ} {s t : 
     handed_on (Err x) ends on (stopped {text = text} replay is h k) =
         written (cut is (front_on start.bytes now.bytes t text (put_front text none h).1 on.writes.front) on.writes.rose)
 
+-- where nothing was put to gathered output, the sink is as it was
+pub none_handed : {m n : ℕ} {s t : List ℕ} (a b : Bool) → s ≡ [] → {start now : SinkState}
+    (r : Result (Unit {0}) SinkFailed) → IsHandedOn start now t b r → gathered_state n t b ≡ gathered_state m s a
+    → (n ≡ m) × (now ≡ start)
+none_handed a b none r on e =
+    let put = put_nothing a b none e in
+    (put.0, (on.empty put.1).1)
+
+-- what a command answers over gathered output is what it answers over the sink behind
+module _ (job : Job) (texts : Texts) {m n : ℕ} {s t : List ℕ} (a b : Bool) (none : s ≡ []) (fresh : a ≡ false)
+    {start now : SinkState} (r : Result (Unit {0}) SinkFailed) (on : IsHandedOn start now t b r) where
+  pub gathered_done : (status : Status)
+      → AnswersFor job texts (gathered_state m s a) (gathered_state n t b) (Ok status)
+      → (n ≡ m) × AnswersFor job texts start now (Ok (status_written status r))
+  gathered_done status h = (
+    same_reference job (Tells job h.0) a b none status h.2,
+    (h.0, h.1, handed_on job (Tells job h.0) a b none fresh r status on h.2),
+  )
+
+  pub gathered_stops : (e : Stop) → AnswersFor job texts (gathered_state m s a) (gathered_state n t b) (Err e)
+      → (n ≡ m) × AnswersFor job texts start now (Err e)
+  gathered_stops (Refused f) h = let k = none_handed a b none r on h.1 in (k.0, (h.0, k.1))
+  gathered_stops Memory h = none_handed a b none r on h
+
 -- the same of the sink itself, where the reference to it is the one that was lent
-pub of_sink : {K : Type 0} (state : K → SinkState) {job : Job} {told : List ℕ → Status → Type 0} {m n : ℕ} {x y : K}
-    {start old : SinkState} {ends : Status}
-    → m ≡ n → (m ≡ n → x ≡ y) → start ≡ old → IsWrittenFor job told start (state y) ends
-    → IsWrittenFor job told old (state x) ends
-of_sink state {job} {told} {x = x} {y = y} {start = start} {ends = ends} same back begins h =
-    subst (λ (z : SinkState). IsWrittenFor job told z (state x) ends) begins
-    (subst (λ (z : SinkState). IsWrittenFor job told start z ends) (sym (ap state (back same))) h)
+pub of_sink : {K : Type 0} (state : K → SinkState) (P : SinkState → SinkState → Type 0) {m n : ℕ} {x y : K}
+    {start old : SinkState} → m ≡ n → (m ≡ n → x ≡ y) → start ≡ old → P start (state y) → P old (state x)
+of_sink state P {x = x} {y = y} {start = start} same back begins h =
+    subst (λ (z : SinkState). P z (state x)) begins
+    (subst (λ (z : SinkState). P start z) (sym (ap state (back same))) h)

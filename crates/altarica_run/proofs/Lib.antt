@@ -1,6 +1,6 @@
 pub mod LineLemmas
-pub mod JobLemmas
 pub mod FileLemmas
+pub mod JobLemmas
 pub mod ElaborateLemmas
 pub mod PassLemmas
 pub mod ForestLemmas
@@ -8,6 +8,7 @@ pub mod TableLemmas
 pub mod TellLemmas
 pub mod GatherLemmas
 pub mod CutLemmas
+pub mod CommandLemmas
 pub mod EndLemmas
 pub mod FollowLemmas
 pub mod LawLemmas

@@ -1,8 +1,7 @@
 -- The gate table of a job.
-use Rattle.std.proofs.Common.{◌≡◌, ◌<◌, ◌≤◌, ℕ, Bool, true, false, List, Option, Some, None, Result, Ok, Err, length, slice_get, refl, sym, ◌∙◌, ap, subst, arith}
+use Rattle.std.proofs.Common.{◌≡◌, ◌<◌, ◌≤◌, ℕ, List, Option, Some, Result, Ok, Err, length, slice_get, refl, sym, ◌∙◌, ap, subst, arith}
 use Rattle.std.proofs.lemmas.List.{length-map}
 use Rattle.ar_base.specs.Lists.{Stands}
-use Rattle.ar_base.specs.Stages.{Where}
 use Rattle.domains.specs.declared.Value.{Value}
 use Rattle.typed_expr.specs.declared.expr.Expr.{Expr}
 use Rattle.ar_meaning.specs.Systems.{System}
@@ -19,7 +18,6 @@ use Rattle.gts_flatten.specs.Elaborating.{Elaborated}
 use Rattle.gts_flatten.specs.Flat.{IsFlat, naming_of_parts}
 use Rattle.mode_trees.specs.Views.{trees_of, number_in}
 use Rattle.mode_trees.specs.declared.forests.Forest.{Forest}
-use Rattle.run_words.specs.declared.verbs.Verb.{Verb}
 use Rattle.table_steps.specs.Laws.{HasTable as SomeTableOf}
 use Rattle.table_steps.specs.Table.{IsTable}
 use Rattle.tree_equations.specs.Gives.{AtObserver, NeedsTooMany}
@@ -27,31 +25,11 @@ use Rattle.tree_equations.specs.Gives as gives
 use Rattle.tree_equations.specs.declared.fault.EqFault.{EqFault}
 use Rattle.tree_equations.specs.declared.fault.EqFault.TheVariants as table
 use Rattle.job_inputs.specs.declared.wanting.Wanted.{Wanted}
-use Rattle.altarica_run.specs.Passing.{stop_of_table, IsStageOf, IsThere, IsForestOf, HasTable}
-use Rattle.altarica_run.specs.Stages.{Ready, Tabled, fits, exceeds, has_table, IsTableOf}
+use Rattle.altarica_run.specs.Passing.{stop_of_table, IsStageOf, HasForest, IsGateTable}
+use Rattle.altarica_run.specs.Stages.{Ready, Tabled, fits, exceeds, IsTableOf}
 use Rattle.altarica_run.specs.declared.stops.Stop.{Stop}
 use Rattle.altarica_run.specs.declared.stops.Stop.TheVariants.{Memory}
 use Rattle.altarica_run.specs.declared.tabling.GateTable.{GateTable}
-
--- What is asked for
-
--- what is there is asked for, and what is not there is not
-pub is_there : {A : Type 0} (b : Bool) (given : Option A) (a : A) → IsThere b given → given ≡ Some a → b ≡ true
-is_there true given a there e = refl
-is_there false given a there e = let k : None ≡ Some a = sym there ∙ e in absurd cc
-
-pub not_there : {A : Type 0} (b : Bool) (given : Option A) → IsThere b given → given ≡ None → b ≡ false
-not_there true given there e = let k : None ≡ Some there.0 = sym e ∙ there.1 in absurd cc
-not_there false given there e = refl
-
--- no table where the command asks for none
-pub none_tabled : (v : Verb) (p : GtsParts) (f : Forest) (w : Ready) (made : GateTable) → has_table v ≡ false
-    → IsStageOf (HasTable v p f) (Where (has_table v) Tabled w) (Ok made)
-none_tabled v p f w made e = (
-  w,
-  subst (λ (b : Bool). Where b Tabled w (Ok w)) (sym e) refl,
-  record { own = λ s. let k : true ≡ false = sym s ∙ e in absurd cc },
-)
 
 -- The table
 
@@ -68,8 +46,8 @@ IsOfSource = (x : Elaborated) (p : GtsParts) (flat : System ℕ) → IsFlat x p 
     → IsTable (net_of p) (trees_of (number_in p) f) (numbered o.value) wanted t
     → IsTableOf x dropped (record { observer = n; value = wanted }) t
 
-module _ (v : Verb) (p : GtsParts) (w : Ready) (f : Forest) (wanted : Wanted) (of : IsFlat w.source p)
-    (are : w.wanted ≡ Some wanted) (trees : IsForestOf p w.dropped f)
+module _ (p : GtsParts) (w : Ready) (f : Forest) (wanted : Wanted) (of : IsFlat w.source p)
+    (are : w.wanted ≡ Some wanted) (trees : HasForest p w f)
     (at : (o : Observer) × Stands p.observers.items wanted.observer o) (source : IsOfSource) where
   of_source : (t : Table)
       → IsTable (net_of p) (trees_of (number_in p) f) (numbered at.0.value) wanted.value t
@@ -83,13 +61,13 @@ module _ (v : Verb) (p : GtsParts) (w : Ready) (f : Forest) (wanted : Wanted) (o
       → (r : Result GateTable Stop) (d : Stop) (e : EqFault) → r ≡ Err d → d ≡ stop_of_table e
       → ((let z : Result Equations EqFault = Err e in z ≡ Err table.Gates)
       → AtObserver (slice_get p.observers.items wanted.observer) (NeedsTooMany p f wanted.value))
-      → IsStageOf (HasTable v p f) (Tabled w) r
+      → IsStageOf (IsGateTable p f) (Tabled w) r
   table_refused some r d e i j h =
-      subst (λ (z : Result GateTable Stop). IsStageOf (HasTable v p f) (Tabled w) z) (sym (i ∙ ap Err j)) (go e h)
+      subst (λ (z : Result GateTable Stop). IsStageOf (IsGateTable p f) (Tabled w) z) (sym (i ∙ ap Err j)) (go e h)
     where
       go : (e : EqFault) → ((let z : Result Equations EqFault = Err e in z ≡ Err table.Gates)
           → AtObserver (slice_get p.observers.items wanted.observer) (NeedsTooMany p f wanted.value))
-          → IsStageOf {X = GateTable} (HasTable v p f) (Tabled w) (Err (stop_of_table e))
+          → IsStageOf {X = GateTable} (IsGateTable p f) (Tabled w) (Err (stop_of_table e))
       go table.Gates h =
           let t = some wanted.observer at.0 at.1 (trees_of (number_in p) f) wanted.value in
           let many = at_observer _ at.0 (NeedsTooMany p f wanted.value) at.1 (h refl) in
@@ -100,29 +78,26 @@ module _ (v : Verb) (p : GtsParts) (w : Ready) (f : Forest) (wanted : Wanted) (o
       → AtObserver (slice_get p.observers.items wanted.observer) (gives.IsTableOf p f wanted.value (table_of q))
       → length q.gates.items ≤ most_gates → (made : GateTable) → made.equations ≡ q
       → made.events.items ≡ (naming_of_parts p).events
-      → IsStageOf (HasTable v p f) (Tabled w) (Ok made)
+      → IsStageOf (IsGateTable p f) (Tabled w) (Ok made)
   table_given sound inside q h few made e names =
       let is = of_source (table_of q) (at_observer _ at.0 (gives.IsTableOf p f wanted.value (table_of q)) at.1 h) in
       let many = length-map q.gates.items gate_of in (
         w,
         fits are is (omega (arith, few, many)),
         record {
-          own = λ s. record {
-            sound = sound;
-            wanted = wanted;
-            are = are;
-            inside = inside;
-            is_table = subst (λ (z : Equations). IsTableOf w.source w.dropped wanted (table_of z)) (sym e) is;
-            by_trees = subst (λ (z : Equations). AtObserver (slice_get p.observers.items wanted.observer)
-                (gives.IsTableOf p f wanted.value (table_of z))) (sym e) h;
-            events = names;
-          };
+          sound = sound;
+          wanted = wanted;
+          are = are;
+          inside = inside;
+          is_table = subst (λ (z : Equations). IsTableOf w.source w.dropped wanted (table_of z)) (sym e) is;
+          by_trees = subst (λ (z : Equations). AtObserver (slice_get p.observers.items wanted.observer)
+              (gives.IsTableOf p f wanted.value (table_of z))) (sym e) h;
+          events = names;
         },
       )
 
 -- want of memory
-pub memory_refused : (v : Verb) (p : GtsParts) (f : Forest) (w : Ready) (r : Result GateTable Stop) (d : Stop)
-    → r ≡ Err d
-    → d ≡ Memory → IsStageOf (HasTable v p f) (Tabled w) r
-memory_refused v p f w r d i j =
-    subst (λ (z : Result GateTable Stop). IsStageOf (HasTable v p f) (Tabled w) z) (sym (i ∙ ap Err j)) tt
+pub memory_refused : (p : GtsParts) (f : Forest) (w : Ready) (r : Result GateTable Stop) (d : Stop) → r ≡ Err d
+    → d ≡ Memory → IsStageOf (IsGateTable p f) (Tabled w) r
+memory_refused p f w r d i j =
+    subst (λ (z : Result GateTable Stop). IsStageOf (IsGateTable p f) (Tabled w) z) (sym (i ∙ ap Err j)) tt

@@ -20,19 +20,21 @@ use Rattle.gts_flatten.specs.Flat.{IsFlat, naming_of, naming_of_parts}
 use Rattle.hierarchy.specs.Listing.{variables, events, observers}
 use Rattle.hierarchy.specs.Paths.{unit_path, thing_path}
 use Rattle.job_inputs.specs.Flat.{command_of}
+use Rattle.job_inputs.specs.declared.commands.Command.{Command as Given}
+use Rattle.mode_trees.specs.declared.forests.Forest.{Forest}
 use Rattle.replayer.specs.Replays.{IsReplay, AnswersReplay}
 use Rattle.replayer.specs.Replays as replays
 use Rattle.replayer.specs.declared.replaying.End.{End}
 use Rattle.replayer.specs.declared.replaying.ReplayFault.{ReplayFault}
 use Rattle.run_words.specs.declared.jobs.Job.{Job}
 use Rattle.run_words.specs.declared.verbs.Verb.TheVariants.{Check, Flat, Replay, Fragment, Equations}
-use Rattle.altarica_run.specs.Passing.{IsReady, IsGateTable}
+use Rattle.altarica_run.specs.Passing.{IsGateTable}
 use Rattle.altarica_run.specs.Stages.{Ready}
 use Rattle.altarica_run.specs.Telling.{status_written, status_replayed, IsWritten, whole, cut, IsWrittenFor, written, stopped}
 use Rattle.altarica_run.specs.Tells.{counts_line, check_text, status_at, Tells, check, flat, replay, fragment, equations}
-use Rattle.altarica_run.specs.declared.stages.Prepared.{Prepared}
 use Rattle.altarica_run.specs.declared.status.Status.{Status}
 use Rattle.altarica_run.specs.declared.status.Status.TheVariants.{Done}
+use Rattle.altarica_run.specs.declared.tabling.GateTable.{GateTable}
 
 -- a text that was written, or was cut
 pub text_written : {old new : SinkState} (told : List ℕ → Status → Type 0) (text : List ℕ) (ends s : Status)
@@ -72,66 +74,64 @@ module _ (x : Elaborated) (p : GtsParts) (is : IsFlat x p) where
 
 -- The commands
 
-module _ (job : Job) (w : Ready) (p : Prepared) (is : IsReady job w p) where
+module _ (job : Job) (w : Ready) (p : GtsParts) (is : IsFlat w.source p) where
   pub checked : {old new : SinkState} → job.command ≡ Check → (s : Status) (r : Result (Unit {0}) SinkFailed)
       → s ≡ status_written Done r
-      → Writes old new (counts_line (length p.system.units.items) (length p.system.variables.items)
-      (length p.system.events.items) (length p.system.observers.items)) r
+      → Writes old new (counts_line (length p.units.items) (length p.variables.items)
+      (length p.events.items) (length p.observers.items)) r
       → IsWritten (Tells job w) old new s
   checked e s r k h =
-      let i = counted w.source p.system is.flat in
+      let i = counted w.source p is in
       text_written (Tells job w) _ Done s r k (subst (λ (z : List ℕ). Tells job w z Done) (sym i) (check e)) h
 
-  pub flattened : {old new : SinkState} → job.command ≡ Flat → IsSound p.system
+  pub flattened : {old new : SinkState} → job.command ≡ Flat → IsSound p
       → (s : Status) (r : Result (Unit {0}) SinkFailed)
-      → s ≡ status_written Done r → Writes old new (flat_text p.system) r
+      → s ≡ status_written Done r → Writes old new (flat_text p) r
       → IsWritten (Tells job w) old new s
   flattened e sound s r k h =
-      text_written (Tells job w) (flat_text p.system) Done s r k
-      (flat e (record { parts = p.system; is_sound = sound; is_flat = is.flat; is_text = refl })) h
+      text_written (Tells job w) (flat_text p) Done s r k
+      (flat e (record { parts = p; is_sound = sound; is_flat = is; is_text = refl })) h
 
-  pub forest_told : {old new : SinkState} → job.command ≡ Fragment
-      → IsForestText (naming_of w.source.declarations) w.source.system w.dropped (forest_text p.system p.forest)
+  pub forest_told : {old new : SinkState} (forest : Forest) → job.command ≡ Fragment
+      → IsForestText (naming_of w.source.declarations) w.source.system w.dropped (forest_text p forest)
       → (s : Status) (r : Result (Unit {0}) SinkFailed) → s ≡ status_written Done r
-      → Writes old new (forest_text p.system p.forest) r → IsWritten (Tells job w) old new s
-  forest_told e t s r k h =
-      text_written (Tells job w) (forest_text p.system p.forest) Done s r k (fragment e t) h
+      → Writes old new (forest_text p forest) r → IsWritten (Tells job w) old new s
+  forest_told forest e t s r k h = text_written (Tells job w) (forest_text p forest) Done s r k (fragment e t) h
 
-  pub table_told : {old new : SinkState} → job.command ≡ Equations → IsGateTable p.system w p.forest p.table
-      → (events : List (List ℕ)) → events ≡ p.table.events.items → (s : Status) (r : Result (Unit {0}) SinkFailed)
-      → s ≡ status_written Done r → Writes old new (equations_text events (table_of p.table.equations)) r
+  pub table_told : {old new : SinkState} (forest : Forest) (table : GateTable) → job.command ≡ Equations
+      → IsGateTable p forest w table
+      → (events : List (List ℕ)) → events ≡ table.events.items → (s : Status) (r : Result (Unit {0}) SinkFailed)
+      → s ≡ status_written Done r → Writes old new (equations_text events (table_of table.equations)) r
       → IsWritten (Tells job w) old new s
-  table_told e own events same s r k h =
-      let names = same ∙ own.events ∙ ap (λ (n : Naming). n.events) is.flat.names in
+  table_told forest table e own events same s r k h =
+      let names = same ∙ own.events ∙ ap (λ (n : Naming). n.events) is.names in
       text_written (Tells job w) _ Done s r k
       (equations e own.are (record {
-        table = table_of p.table.equations;
+        table = table_of table.equations;
         is_table = own.is_table;
-        is_text = ap (λ (z : List (List ℕ)). equations_text z (table_of p.table.equations)) names;
+        is_text = ap (λ (z : List (List ℕ)). equations_text z (table_of table.equations)) names;
       })) h
 
-  module _
+  module _ (commands : List Given) (same : w.commands ≡ map (command_of p) commands)
       (there : (cs : List Command) (text : List ℕ) (end : End)
-      → IsReplay (naming_of_parts p.system) is.flat.flat cs text end
+      → IsReplay (naming_of_parts p) is.flat cs text end
       → IsReplay (naming_of w.source.declarations) w.source.system cs text end) (e : job.command ≡ Replay) where
     said : (text : List ℕ) (end : End)
-        → IsReplay (naming_of_parts p.system) is.flat.flat (map (command_of p.system) p.request.commands.items) text end
+        → IsReplay (naming_of_parts p) is.flat (map (command_of p) commands) text end
         → Tells job w text (status_at end)
     said text end h =
         replay e
         (subst (λ (z : List Command). IsReplay (naming_of w.source.declarations) w.source.system z text end)
-        (sym is.requested.commands.are)
-        (there (map (command_of p.system) p.request.commands.items) text end h))
+        (sym same)
+        (there (map (command_of p) commands) text end h))
 
     pub replayed : {old new : SinkState} (s : Status) (r : Result End ReplayFault) → s ≡ status_replayed r
-        → AnswersReplay (naming_of_parts p.system) is.flat.flat (map (command_of p.system) p.request.commands.items) old
-        new r
+        → AnswersReplay (naming_of_parts p) is.flat (map (command_of p) commands) old new r
         → IsWrittenFor job (Tells job w) old new s
     replayed {old} {new} s r i h = subst (λ (z : Status). IsWrittenFor job (Tells job w) old new z) (sym i) (go r h)
       where
         go : (r : Result End ReplayFault)
-            → AnswersReplay (naming_of_parts p.system) is.flat.flat (map (command_of p.system) p.request.commands.items)
-            old new r
+            → AnswersReplay (naming_of_parts p) is.flat (map (command_of p) commands) old new r
             → IsWrittenFor job (Tells job w) old new (status_replayed r)
         go r (replays.whole {text = text} {end = end} h a k) = written (whole (said text end h) a k)
         go r (replays.write {text = text} {end = end} h c k) = written (cut (said text end h) c k)

@@ -12,6 +12,7 @@ pub mod Listings
 pub mod Loading
 pub mod Passing
 pub mod Telling
+pub mod Doing
 pub mod Spots
 pub mod Nodes
 pub mod Findings

@@ -109,6 +109,7 @@ abbrev pub path_asked : Bool → Option (List ℕ) → Option (List ℕ)
 path_asked true given = Some (codes "lost")
 path_asked false given = given
 
+-- the same of a job: `lost` where its command makes the model, else what its words give as `--observer`
 abbrev pub observer_asked : Job → Option (List ℕ)
 observer_asked job = path_asked (makes_model job.command) job.observer
 

@@ -1,18 +1,18 @@
 //! The text of `explain`.
 
 ghost use Rattle.std.specs.Prelude.{◌≡◌};
-ghost use Rattle.job_inputs.specs.Flat.{AreFirable};
 ghost use Rattle.run_words.specs.declared.jobs.Job.{Job};
 ghost use Rattle.run_words.specs.declared.verbs.Verb.TheVariants.{Explain as ExplainAsked};
-ghost use Rattle.altarica_run.specs.Passing.{IsReady};
+ghost use Rattle.altarica_run.specs.Passing.{IsScripted};
 ghost use Rattle.altarica_run.specs.Stages.{Ready};
 ghost use Rattle.altarica_run.specs.Telling.{IsWritten, status_explained};
 ghost use Rattle.altarica_run.specs.Tells.{Tells};
 
-use crate::stages::Prepared;
 use crate::status::Status;
 use ar_io::Sink;
+use gts_core::Gts;
 use gts_core::laws::one_system;
+use job_inputs::Command;
 use reason_text::laws::reasons_of_the_source;
 use reason_text::print_reasons;
 use replayer::laws::settles_of_the_source;
@@ -20,16 +20,17 @@ use replayer::{ReplayFault, settle};
 use std::alloc::Global;
 
 /// Writes why the flows have their values where the run of the script ends, or the line of the fault in
-/// which it ends.
-pub(crate) fn explain<K: Sink>(
+/// which it ends. Where an observer is shown, the flows are those of its cone.
+pub(crate) fn write_reasons<K: Sink>(
     alloc: Global,
-    prepared: &Prepared,
+    system: &Gts,
+    commands: &[Command],
+    shown: Option<u32>,
     out: &mut K,
 ) -> Result<Status, ReplayFault>
-    requires commands { AreFirable prepared.now.system prepared.now.request.commands.items }
-    requires ready { (job : Job) × (w : Ready) × IsReady job w prepared.now
-        × (job.command ≡ ExplainAsked) }
-    ensures { (job : Job) (w : Ready) → IsReady job w prepared.now → job.command ≡ ExplainAsked
+    requires ready { (w : Ready) × IsScripted w system.now commands.now shown }
+    ensures { (job : Job) (w : Ready) → IsScripted w system.now commands.now shown
+        → job.command ≡ ExplainAsked
         → IsWritten (Tells job w) (K.state out.old) (K.state out.new) (status_explained result) }
 {
     // Where the runs of the flat system settle, and why its flows have their values, are those of its
@@ -37,11 +38,9 @@ pub(crate) fn explain<K: Sink>(
     one_system();
     settles_of_the_source();
     reasons_of_the_source();
-    let request = &prepared.request;
-    let system = &prepared.system;
-    match settle(alloc, system, &request.commands, out)? {
+    match settle(alloc, system, commands, out)? {
         Some(values) => {
-            print_reasons(alloc, system, &values, request.shown, out)?;
+            print_reasons(alloc, system, &values, shown, out)?;
             Ok(Status::Done)
         }
         None => Ok(Status::Fault),

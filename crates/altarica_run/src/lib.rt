@@ -1,13 +1,16 @@
 //! The program's one call: the job of the words, over a shelf of files and a sink for the text.
 //!
-//! The stages are joined here: the words, the files, the grammar, the table, the units, the bound
-//! forms, the flat system, the script or the list, the dropped events, the observer with its value, the
-//! static fragment and the gate table, and then the text of the command, for the cuts by way of diagrams.
+//! `program` does a job: the words, the files, and then the command. `commands` has the way of each
+//! command from there: the grammar, the table, the units, the bound forms and the flat system, then the
+//! script or the list, the dropped events, the observer with its value, the trees of modes, the gate
+//! table and the diagrams, and last its text.
 #![tactic(auto)]
 
 mod analysing;
 mod checking;
+mod commands;
 mod cutting;
+mod elaborating;
 mod explaining;
 pub mod findings;
 pub mod following;
@@ -22,7 +25,6 @@ mod refusals;
 mod requesting;
 mod shortening;
 mod spots;
-mod stages;
 mod status;
 mod stops;
 mod tabling;

@@ -1,44 +1,42 @@
 //! The text of `make`.
 
-ghost use Rattle.std.specs.Prelude.{◌≡◌, ◌≤◌, ◌++◌, decimal, length};
+ghost use Rattle.std.specs.Prelude.{◌≡◌, ◌++◌, decimal, length};
 ghost use Rattle.ar_base.specs.Texts.{line};
 ghost use Rattle.ar_io.specs.Writing.{Writes};
-ghost use Rattle.eq_core.specs.Views.{table_of};
-ghost use Rattle.gate_diagrams.specs.Answers.{IsAnswer};
-ghost use Rattle.mode_trees.specs.Views.{trees_of};
+ghost use Rattle.mode_trees.specs.declared.forests.Forest.{Forest};
 ghost use Rattle.run_words.specs.declared.jobs.Job.{Job};
 ghost use Rattle.run_words.specs.declared.verbs.Verb.TheVariants.{Make as MakeAsked};
-ghost use Rattle.altarica_run.specs.Passing.{IsReady};
+ghost use Rattle.altarica_run.specs.Passing.{IsDrawnFor};
 ghost use Rattle.altarica_run.specs.Stages.{Ready};
 ghost use Rattle.altarica_run.specs.Telling.{IsWritten, status_printed};
 ghost use Rattle.altarica_run.specs.Tells.{make_lines, Tells};
 
 use crate::pieces::{put, put_wide};
-use crate::stages::Prepared;
 use crate::status::Status;
 use ar_io::{Sink, SinkFailed};
 use cut_text::PrintFault;
 use gate_diagrams::{Drawn, Family};
-use gts_core::GtsParts;
 use gts_core::laws::lawful_systems;
+use gts_core::{Gts, GtsParts};
 use min_cuts::{Counted, counts};
 use std::alloc::Global;
 use table_laws::drawn_sets;
 use zdd_nodes::{room_for_families, stored_sections};
 
-/// Writes how large the made model is, how many cuts it has, and how large the largest is.
-pub(crate) fn made<K: Sink>(
+/// Writes how large the made model of so many components is, how many cuts it has, and how large the
+/// largest is.
+pub(crate) fn write_made<K: Sink>(
     alloc: Global,
-    prepared: &Prepared,
+    system: &Gts,
+    number: u32,
     family: &Family,
     out: &mut K,
 ) -> Result<Status, PrintFault>
-    requires ready { (job : Job) × (w : Ready) × IsReady job w prepared.now
-        × (job.command ≡ MakeAsked) }
-    requires answer { IsAnswer (trees_of (λ n. n) prepared.now.forest)
-        (table_of prepared.now.table.equations) (Drawn.Cuts family.now) }
-    requires within { length family.now.store.families ≤ prepared.now.nodes }
-    ensures { (job : Job) (w : Ready) → IsReady job w prepared.now → job.command ≡ MakeAsked
+    requires drawn { (job : Job) × (w : Ready) × (forest : Forest)
+        × IsDrawnFor job w system.now forest (Drawn.Cuts family.now) }
+    ensures { (job : Job) (w : Ready) (forest : Forest)
+        → IsDrawnFor job w system.now forest (Drawn.Cuts family.now)
+        → job.command ≡ MakeAsked → job.number ≡ number
         → IsWritten (Tells job w) (K.state out.old) (K.state out.new) (status_printed result) }
 {
     // What is drawn are the cuts, and what is stored has room for their sections.
@@ -46,10 +44,10 @@ pub(crate) fn made<K: Sink>(
     drawn_sets();
     stored_sections();
     room_for_families();
-    let parts = prepared.system.parts();
+    let parts = system.parts();
     let _sound_store = family.store.len();
     let counted = counts(alloc, family)?;
-    put_made(out, prepared.number, parts, counted)?;
+    put_made(out, number, parts, counted)?;
     Ok(Status::Done)
 }
 

@@ -1,14 +1,21 @@
-//! The one call of the program.
+//! The one call of the program, and how a job is done in it.
 
-ghost use Rattle.std.specs.Prelude.{map};
+ghost use Rattle.std.specs.Prelude.{◌≡◌, map};
 ghost use Rattle.std.specs.String.{string_bytes};
+ghost use Rattle.ar_base.specs.Texts.{bytes_of_all};
+ghost use Rattle.ar_io.specs.Outside.{Rose};
 ghost use Rattle.altarica_run.specs.Answers.{Answers};
+ghost use Rattle.altarica_run.specs.Doing.{AreGiven, AnswersFor, AnswersWords};
+ghost use Rattle.altarica_run.specs.Jobs.{LoadsNothing};
 
-use crate::stages::prepare;
+use crate::commands::run;
+use crate::jobs::job_of;
+use crate::loading::{Texts, job_texts};
 use crate::status::Status;
 use crate::stops::Stop;
-use crate::telling::{refuse, tell_gathered};
-use ar_io::{Shelf, Sink};
+use crate::telling::{refuse, written};
+use ar_io::{Beginning, Gathered, Shelf, Sink, room};
+use run_words::Job;
 use std::alloc::Global;
 use std::marker::Brand;
 
@@ -25,11 +32,48 @@ pub fn altarica<H: Shelf, K: Sink>(
         (K.state out.old).bytes (K.state out.new).bytes
         (K.state out.old).faults (K.state out.new).faults result }
 {
-    match prepare(alloc, words, shelf) {
-        Ok(prepared) => tell_gathered::<Brand, K>(alloc, &prepared, out),
+    match do_job(alloc, words, shelf, out) {
+        Ok(status) => status,
         Err(stop) => match stop {
             Stop::Refused(refusal) => refuse(&refusal, out),
             Stop::Memory => Status::Memory,
         },
     }
+}
+
+// Does the job of the words up to its text. Where they ask for no file, the shelf is as it was.
+fn do_job<H: Shelf, K: Sink>(
+    alloc: Global,
+    words: &[String],
+    shelf: &mut H,
+    out: &mut K,
+) -> Result<Status, Stop>
+    ensures untouched { LoadsNothing (bytes_of_all words.now) → shelf.new ≡ shelf.old }
+    ensures words { AnswersWords (H.holds shelf.old)
+        (λ name. Rose (H.faults shelf.old name) (H.faults shelf.new name))
+        (bytes_of_all words.now) (K.state out.old) (K.state out.new) result }
+{
+    let job = job_of(alloc, words)?;
+    let texts = job_texts(alloc, shelf, &job)?;
+    run_gathered::<Brand, K>(alloc, &job, texts, out)
+}
+
+// Does what the command asks, with its text gathered. The room for that is taken before the first byte
+// is written; where it is refused, nothing is.
+fn run_gathered<S: Beginning, K: Sink>(
+    alloc: Global,
+    job: &Job,
+    texts: Texts,
+    out: &mut K,
+) -> Result<Status, Stop>
+    requires begins { S.start ≡ K.state out.old }
+    requires given { AreGiven job.now texts }
+    ensures { AnswersFor job.now texts (K.state out.old) (K.state out.new) result }
+{
+    let mut room = room(alloc)?;
+    let mut gathered: Gathered<'_, S, K> = Gathered::new(&mut room, out);
+    let answer = run(alloc, job, texts, &mut gathered);
+    let handed = gathered.finish();
+    let status = answer?;
+    Ok(written(status, handed))
 }

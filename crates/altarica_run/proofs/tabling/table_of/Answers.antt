@@ -1,20 +1,33 @@
-use Rattle.std.proofs.Common.{Bool, ◌∙◌, sym, subst}
-use Rattle.ar_base.specs.Stages.{Where}
-use Rattle.altarica_run.specs.Passing.{IsStageOf, HasObserver, HasTable}
-use Rattle.altarica_run.specs.Stages.{Tabled, has_table}
-use Rattle.altarica_run.proofs.TableLemmas.{is_there, not_there, none_tabled}
+use Rattle.std.proofs.Common.{◌∙◌, refl, ap, arith}
+use Rattle.std.proofs.lemmas.Result.{err_from_is_err_and}
+use Rattle.ar_base.proofs.Standing.{stands_some}
+use Rattle.gts_core.specs.declared.system.GtsParts.{GtsParts}
+use Rattle.gts_flatten.specs.Flat.{naming_of_parts}
+use Rattle.altarica_run.proofs.ForestLemmas.{edges_of_one}
+use Rattle.altarica_run.proofs.TableLemmas.{table_refused, memory_refused, table_given}
 use Rattle.altarica_run.proofs.tabling.table_of.Goals as goal
 
-pub tabled-requires-clause-observer : goal.tabled-requires-clause-observer
-tabled-requires-clause-observer c = subst (HasObserver c.args.system.now) c.in-Some.is c.requires.observer
+pub equations-requires-clause-few : goal.equations-requires-clause-few
+equations-requires-clause-few c = λ tree o.
+    let all = c.requires.forest.few in
+    let one = edges_of_one c.args.forest.now.trees.items tree o in omega (arith, all, one)
 
-pub returns-in-Some : goal.returns-in-Some
-returns-in-Some c = λ command w of e there trees.
-    let b = is_there (has_table command) _ _ there c.in-Some.is in
-    subst (λ (z : Bool). IsStageOf (HasTable command c.args.system.now c.args.forest.now) (Where z Tabled w)
-    c.tabled.result) (sym b)
-    (c.tabled.ensures command w of (e ∙ c.in-Some.is) (trees b))
+pub returns-in_err-equations : goal.returns-in_err-equations
+returns-in_err-equations c = λ w of e trees.
+    let r = err_from_is_err_and c.from_residual.result c.from_residual.ensures.1 in
+    table_refused c.args.system.now w c.args.forest.now c.args.wanted of e trees (stands_some _ _ c.requires.observer)
+    (c.tables_of_the_source.ensures.table)
+    (c.tables_of_the_source.ensures.some c.args.system.now c.parts-parts.ensures.sound)
+    _ _ _ r.1 r.2 c.in_err-equations.ensures.gates
 
-pub returns-in-None : goal.returns-in-None
-returns-in-None c = λ command w of e there trees.
-    none_tabled command c.args.system.now c.args.forest.now w _ (not_there (has_table command) _ there c.in-None.is)
+pub returns-in_err-events : goal.returns-in_err-events
+returns-in_err-events c = λ w of e trees.
+    let r = err_from_is_err_and c.from_residual-in_err-events.result c.from_residual-in_err-events.ensures.1 in
+    memory_refused c.args.system.now c.args.forest.now w _ _ r.1 r.2
+
+pub returns : goal.returns
+returns c = λ w of e trees.
+    table_given c.args.system.now w c.args.forest.now c.args.wanted of e trees (stands_some _ _ c.requires.observer)
+    (c.tables_of_the_source.ensures.table) c.parts-parts.ensures.sound c.requires.observer _ c.in_ok-equations.ensures.table c.in_ok-equations.ensures.few _
+    refl
+    (c.in_ok-events.ensures ∙ ap (λ (z : GtsParts). (naming_of_parts z).events) c.parts-parts.ensures.parts)

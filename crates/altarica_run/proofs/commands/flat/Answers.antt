@@ -1,0 +1,30 @@
+use Rattle.std.proofs.Common.{ap}
+use Rattle.std.proofs.lemmas.Result.{err_from_is_err_and}
+use Rattle.run_words.specs.Commands.{shape_of}
+use Rattle.run_words.specs.declared.shapes.Shape.{Shape}
+use Rattle.altarica_run.specs.Stages.{bare}
+use Rattle.altarica_run.specs.Telling.{written}
+use Rattle.altarica_run.proofs.CommandLemmas.{elaborate_stops, done, plain_ready}
+use Rattle.altarica_run.proofs.TellLemmas.{flattened}
+use Rattle.altarica_run.proofs.commands.flat.Goals as goal
+
+pub elaborate-requires : goal.elaborate-requires
+elaborate-requires g c = c.requires.given.model
+
+pub returns-in_err-model : goal.returns-in_err-model
+returns-in_err-model g c =
+    let r = err_from_is_err_and c.from_residual.result c.from_residual.ensures.1 in
+    elaborate_stops c.args.job.now c.args.texts _ _ _ _ r.1 r.2 c.in_err-model.ensures
+
+pub returns : goal.returns
+returns g c =
+    let job = c.args.job.now in
+    let t = c.args.texts in
+    let e = c.requires.command in
+    let row = ap shape_of e in
+    let none = c.requires.given.dropped (ap (λ (s : Shape). s.dropped) row) in
+    let f = c.in_ok-model.ensures in
+    let w = bare f.0 in
+    done job t f.0 f.1 w _ (plain_ready job t f.0 f.1 row none)
+    (written (flattened job w c.in_ok-model.model.system f.2.flat e c.parts.ensures.sound _ _ c.written.ensures
+    c.print.ensures))

@@ -1,0 +1,62 @@
+use Rattle.std.proofs.Common.{ap}
+use Rattle.std.proofs.lemmas.Result.{err_from_is_err_and}
+use Rattle.run_words.specs.Commands.{shape_of, is_script, is_list, is_made, is_second}
+use Rattle.run_words.specs.declared.verbs.Verb.{Verb}
+use Rattle.altarica_run.specs.Stages.{bare, is_static, has_table}
+use Rattle.altarica_run.proofs.CommandLemmas.{elaborate_stops, done, script_stops, script_ready}
+use Rattle.altarica_run.proofs.TellLemmas.{replayed}
+use Rattle.altarica_run.proofs.commands.replay.Goals as goal
+
+pub elaborate-requires : goal.elaborate-requires
+elaborate-requires g c = c.requires.given.model
+
+pub returns-in_err-model : goal.returns-in_err-model
+returns-in_err-model g c =
+    let r = err_from_is_err_and c.from_residual.result c.from_residual.ensures.1 in
+    elaborate_stops c.args.job.now c.args.texts _ _ _ _ r.1 r.2 c.in_err-model.ensures
+
+pub commands_of-requires-clause-source : goal.commands_of-requires-clause-source
+commands_of-requires-clause-source g c = let f = c.in_ok-model.ensures in (f.0, f.2)
+
+pub commands_of-requires-clause-there : goal.commands_of-requires-clause-there
+commands_of-requires-clause-there g c =
+    c.requires.given.second (ap (λ (v : Verb). is_second (shape_of v).files) c.requires.command)
+
+pub returns-in_err-commands : goal.returns-in_err-commands
+returns-in_err-commands g c =
+    let r = err_from_is_err_and c.from_residual-in_err-commands.result c.from_residual-in_err-commands.ensures.1 in
+    let job = c.args.job.now in
+    let t = c.args.texts in
+    let e = c.requires.command in
+    let script = ap (λ (v : Verb). is_script (shape_of v).files) e in
+    let list = ap (λ (v : Verb). is_list (shape_of v).files) e in
+    let made = ap (λ (v : Verb). is_made (shape_of v).files) e in
+    let f = c.in_ok-model.ensures in
+    script_stops job t f.0 f.1 script list made _ _ _ _ r.1 r.2 (c.in_err-commands.ensures f.0 f.2)
+
+pub replay-requires : goal.replay-requires
+replay-requires g c =
+    let f = c.in_ok-model.ensures in
+    rw c.deref.ensures.value (c.in_ok-commands.ensures f.0 f.2).2.firable
+
+pub returns : goal.returns
+returns g c =
+    let job = c.args.job.now in
+    let t = c.args.texts in
+    let e = c.requires.command in
+    let script = ap (λ (v : Verb). is_script (shape_of v).files) e in
+    let list = ap (λ (v : Verb). is_list (shape_of v).files) e in
+    let made = ap (λ (v : Verb). is_made (shape_of v).files) e in
+    let f = c.in_ok-model.ensures in
+    let none = c.requires.given.dropped (ap (λ (v : Verb). (shape_of v).dropped) e) in
+    let static = ap is_static e in
+    let table = ap has_table e in
+    let explains = ap (λ (v : Verb). (shape_of v).explains) e in
+    let k = c.in_ok-commands.ensures f.0 f.2 in
+    let p = c.in_ok-model.model.system in
+    let w = record (bare f.0) { commands = k.0 } in
+    let is = f.2.flat in
+    done job t f.0 f.1 w _ (script_ready job t f.0 f.1 script list made k.0 k.1 none static table explains)
+    (replayed job w p is c.in_ok-commands.commands.items k.2.are
+    (λ cs text end. (c.replays_of_the_source.ensures f.0 is.flat p is is.views cs text end).0) e _ _
+    c.replayed.ensures (rw c.deref.ensures.value at c.replay.ensures is.flat is.views))

@@ -1,0 +1,51 @@
+use Rattle.std.proofs.Common.{ℕ, List}
+use Rattle.std.proofs.lemmas.Result.{err_from_is_err_and}
+use Rattle.ar_base.specs.Texts.{bytes_of_all}
+use Rattle.ar_io.specs.Outside.{Rose}
+use Rattle.altarica_run.proofs.EndLemmas.{words_stop, files_stop, job_done}
+use Rattle.altarica_run.proofs.FileLemmas.{loaded_script, script_loaded}
+use Rattle.altarica_run.proofs.JobLemmas.{gives}
+use Rattle.altarica_run.proofs.program.do_job.Goals as goal
+
+pub returns-in_err-job-clause-words : goal.returns-in_err-job-clause-words
+returns-in_err-job-clause-words g c =
+    let r = err_from_is_err_and c.from_residual.result c.from_residual.ensures.1 in
+    let files = g.H.Shelf.holds c.args.shelf.now in
+    let rose : List ℕ → Type 0 = λ name. Rose (g.H.Shelf.faults c.args.shelf.now name)
+    (g.H.Shelf.faults c.args.shelf.now name) in
+    words_stop files rose (bytes_of_all c.args.words.now) _ _ _ _ r.1 r.2 c.in_err-job.ensures
+
+pub returns-in_err-texts-clause-words : goal.returns-in_err-texts-clause-words
+returns-in_err-texts-clause-words g c =
+    let r = err_from_is_err_and c.from_residual-in_err-texts.result c.from_residual-in_err-texts.ensures.1 in
+    let files = g.H.Shelf.holds c.args.shelf.now in
+    let rose : List ℕ → Type 0 = λ name. Rose (g.H.Shelf.faults c.args.shelf.now name)
+    (g.H.Shelf.faults c.job_texts.new.shelf name) in
+    files_stop files rose
+    (bytes_of_all c.args.words.now) _ c.in_ok-job.job c.in_ok-job.ensures _ _ _ r.1 r.2 c.in_err-texts.ensures.texts
+
+pub run_gathered-requires-clause-given : goal.run_gathered-requires-clause-given
+run_gathered-requires-clause-given g c =
+    let files = g.H.Shelf.holds c.args.shelf.now in
+    let rose : List ℕ → Type 0 = λ name. Rose (g.H.Shelf.faults c.args.shelf.now name)
+    (g.H.Shelf.faults c.job_texts.new.shelf name) in
+    let job = c.in_ok-job.job in
+    let texts = c.in_ok-texts.texts in
+    let script = script_loaded files rose job texts c.in_ok-texts.ensures.texts in
+    gives (bytes_of_all c.args.words.now) job c.in_ok-job.ensures texts c.in_ok-texts.ensures.texts.short
+    (loaded_script files job.script texts.script script)
+
+pub returns-clause-words : goal.returns-clause-words
+returns-clause-words g c =
+    let files = g.H.Shelf.holds c.args.shelf.now in
+    let rose : List ℕ → Type 0 = λ name. Rose (g.H.Shelf.faults c.args.shelf.now name)
+    (g.H.Shelf.faults c.job_texts.new.shelf name) in
+    job_done files rose (bytes_of_all c.args.words.now) _ c.in_ok-job.job c.in_ok-job.ensures _ c.in_ok-texts.texts
+    c.in_ok-texts.ensures.texts _ c.run_gathered.ensures
+
+pub returns-in_err-texts-clause-untouched : goal.returns-in_err-texts-clause-untouched
+returns-in_err-texts-clause-untouched g c = λ none.
+    c.in_err-texts.ensures.made (none c.in_ok-job.job c.in_ok-job.ensures)
+
+pub returns-clause-untouched : goal.returns-clause-untouched
+returns-clause-untouched g c = λ none. c.in_ok-texts.ensures.made (none c.in_ok-job.job c.in_ok-job.ensures)

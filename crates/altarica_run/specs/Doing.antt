@@ -1,0 +1,62 @@
+-- What the calls that do a job answer.
+use Rattle.std.specs.Prelude.{◌≡◌, ◌≤◌, ℕ, true, false, List, Some, None, Result, Ok, Err, length}
+use Rattle.ar_base.specs.Counts.{limit_of}
+use Rattle.ar_base.specs.declared.counts.Count.TheVariants.{ModelBytes}
+use Rattle.ar_io.specs.Outside.{Told}
+use Rattle.ar_io.specs.Writing.{SinkState}
+use Rattle.run_words.specs.Commands.{shape_of, is_second}
+use Rattle.run_words.specs.Jobs.{IsJob}
+use Rattle.run_words.specs.declared.jobs.Job.{Job}
+use Rattle.altarica_run.specs.Files.{files_of, Loads}
+use Rattle.altarica_run.specs.Jobs.{IsNoJob}
+use Rattle.altarica_run.specs.Loading.{texts_of}
+use Rattle.altarica_run.specs.Passing.{IsThere}
+use Rattle.altarica_run.specs.Says.{EndsSo}
+use Rattle.altarica_run.specs.Stages.{Ready, Passes, Stages, has_table, observer_asked}
+use Rattle.altarica_run.specs.Telling.{IsWrittenFor}
+use Rattle.altarica_run.specs.Tells.{Tells}
+use Rattle.altarica_run.specs.declared.loading.Texts.{Texts}
+use Rattle.altarica_run.specs.declared.refusals.FileKind.{FileKind}
+use Rattle.altarica_run.specs.declared.refusals.Refusal.{Refusal}
+use Rattle.altarica_run.specs.declared.refusals.Refusal.TheVariants.{Usage, NotRead}
+use Rattle.altarica_run.specs.declared.status.Status.{Status}
+use Rattle.altarica_run.specs.declared.stops.Stop.{Stop}
+use Rattle.altarica_run.specs.declared.stops.Stop.TheVariants.{Refused, Memory}
+
+-- Commands
+
+-- what a command of the words is given: a model within its limit, a second file where it reads one, an observer where it
+-- asks for the value of one, a list of dropped events only where it takes one, and a limit of nodes
+pub record AreGiven (job : Job) (texts : Texts) : Type 0 where
+  pub model : length texts.model.items ≤ limit_of ModelBytes
+  pub second : is_second (shape_of job.command).files ≡ true → IsThere texts.script
+  pub observer : has_table job.command ≡ true → (path : List ℕ) × (observer_asked job ≡ Some path)
+  pub dropped : (shape_of job.command).dropped ≡ false → job.dropped ≡ None
+  pub nodes : job.nodes ≤ 16777216
+
+-- the job's text is written once all its stages are passed; or a stage refuses, or memory is refused, and the sink is as
+-- it was
+abbrev pub AnswersFor : Job → Texts → SinkState → SinkState → Result Status Stop → Type 0
+AnswersFor job texts old new (Ok status) =
+    (w : Ready) × Stages job (texts_of job texts) texts.model.items (Ok w)
+    × IsWrittenFor job (Tells job w) old new status
+AnswersFor job texts old new (Err (Refused r)) =
+    Stages job (texts_of job texts) texts.model.items (Err r) × (new ≡ old)
+AnswersFor job texts old new (Err Memory) = new ≡ old
+
+-- Words
+
+-- the words are refused: they are no job, or a stage of the job refuses, or a file was not read
+pub data RefusesWords (files : List ℕ → Told) (rose : List ℕ → Type 0) (words : List (List ℕ)) : Refusal → Type 0 where
+  no_job : IsNoJob words → RefusesWords files rose words Usage
+  stage : {r : Refusal} (job : Job) → IsJob words job → Passes files job (Err r) → RefusesWords files rose words r
+  not_read : {kind : FileKind} {name : List ℕ} (job : Job) → IsJob words job → Loads files (files_of job) kind name
+      → rose name
+      → RefusesWords files rose words (NotRead kind)
+
+-- the words were answered; or they are refused, or memory is refused, and the sink is as it was
+abbrev pub AnswersWords : (List ℕ → Told) → (List ℕ → Type 0) → List (List ℕ) → SinkState → SinkState
+    → Result Status Stop → Type 0
+AnswersWords files rose words old new (Ok status) = EndsSo files rose words old new status
+AnswersWords files rose words old new (Err (Refused r)) = RefusesWords files rose words r × (new ≡ old)
+AnswersWords files rose words old new (Err Memory) = new ≡ old

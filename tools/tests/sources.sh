@@ -18,7 +18,7 @@ at_most() {
 }
 
 point "no further place answers want of memory by itself" at_most 2 tools/memory_places
-point "no further body of a function is in two files" at_most 20 tools/twins
+point "no further body of a function is in two files" at_most 21 tools/twins
 # Memory that is refused call by call, and in a small room; every 97th call here, and by hand each.
 if command -v cc >/dev/null; then
   point "where memory is refused a run ends soon, with its answer or with status 9" tools/short_memory "$ALTARICA" 97

@@ -53,6 +53,17 @@ class Bodies:
             else:
                 yield member
 
+    def bases(self, unit):
+        """The classes that a body extends, and those that they extend."""
+        found, todo = [], [unit]
+        while todo:
+            for member in todo.pop().members:
+                base = self.classes.get(member.name.text) if member.kind == "extends" else None
+                if base is not None and not any(it is base for it in found):
+                    found.append(base)
+                    todo.append(base)
+        return found
+
     def names(self, unit):
         """Each name of a body with its member and kind, in order."""
         for member in self.members(unit):

@@ -205,9 +205,18 @@ def copy_path(text):
         try:
             text.bodies.unit(scope, member.parts[0])
         except Missing as missing:
-            return missing_cause(text, missing, "unit")
+            return missing_cause(text, missing, "unit") + unit_above(text, missing, member.parts[0])
         return None
     return text.first(cause)
+
+
+def unit_above(text, missing, path):
+    """What to write where a block lacks a unit that the unit above has."""
+    where = missing.where
+    if path.start or missing.found or missing.number or where.unit.kind != "block" or where.owner is None:
+        return ""
+    kind, _ = text.bodies.find(where.owner, missing.name) or (None, None)
+    return "; the unit above has one: write `owner.%s`" % written(path) if kind == "unit" else ""
 
 
 def missing_cause(text, missing, wanted):

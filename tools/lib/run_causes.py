@@ -306,7 +306,7 @@ def flow_fault(asked, text, fault, state=None):
         return Note(asked.model, line, column, text, not_held(asked.flat, number, state))
     path = re.fullmatch(r"flow (\S+) (?:has two values|is outside its domain)", fault).group(1)
     if fault.endswith("two values"):
-        return asked.note(path, text, two_values(asked.flat, path, state))
+        return asked.note(path, text, two_values(asked, path, state))
     at = " or ".join(places(asked.flat).get(path, []))
     return asked.note(path, text, "its domain is %s, and an assignment at %s gives it another value" % (
         asked.flat.variables[path].domain, at))
@@ -331,11 +331,13 @@ def places(flat):
     return found
 
 
-def two_values(flat, path, state):
+def two_values(asked, path, state):
+    flat = asked.flat
     found = settle.facts(flat, state) if state is not None else {}
     if len(found.get(path, ())) > 1:
         first, second = (given_by(found, path, value) for value in list(found[path])[:2])
-        return "in this state %s, and %s%s" % (first, second, misspelt_target(flat, path))
+        ones = [settle.source(found, path, value)[0] for value in list(found[path])[:2]]
+        return "in this state %s, and %s%s" % (first, second, written_again(asked, *ones) or misspelt_target(flat, path))
     at = places(flat)
     before = sorted(p for p in before_all(flat, [a.set for a in flat.asserts if a.set.target == path]) - {path}
                     if len(at.get(p, ())) > 1)
@@ -344,6 +346,23 @@ def two_values(flat, path, state):
             " and ".join(at[path]), "which give" if len(at[path]) == 2 else "and two of them give")
     said = ["`%s` at %s" % (p, " and ".join(at[p])) for p in [path] + before[:3]]
     return "it, or a flow on which it depends, is set to two values: the assignments are those of %s" % ", of ".join(said)
+
+
+def written_again(asked, one, other):
+    """Words for where one of two assignments is in a class that the body of the other one extends."""
+    bodies = asked.tree.bodies
+    first, second = (body_with(bodies, (it.line, it.column)) for it in (one, other))
+    for base, body in ((first, second), (second, first)):
+        if base is not None and body is not None and any(it is base for it in bodies.bases(body)):
+            return (". `%s` extends `%s` and has its assertions too: one that is written again does not replace the first. Keep one of "
+                    "the two" % (body.name.text, base.name.text))
+    return ""
+
+
+def body_with(bodies, place):
+    """The class or block of the text whose assertion has this place."""
+    return next((unit for unit in bodies.units.values() for it in unit.members if it.kind == "assertion" and
+                 (it.first.line, it.first.column) <= place <= (it.last.line, it.last.column)), None)
 
 
 def misspelt_target(flat, path):
@@ -503,7 +522,8 @@ def reads_dead(waiting):
         return ("%s: give both one reset, and so on to the last flow that reads them: `false` for what is supplied; `true` for a loop that "
                 "keeps itself running, and for all that reads it" % said)
     if any(target in settle.names_of(a.set) for a in waiting.flat.asserts):
-        return "%s: let the assertions that read `%s` do without it, or without `not` and comparisons" % (said, target)
+        spare = ". If it is the demand of a spare, the spare needs none: `%s := true;`" % target if "(not " in waiting.one.value else ""
+        return "%s: let the assertions that read `%s` do without it, or without `not` and comparisons%s" % (said, target, spare)
     return "%s: read %s with `not` in an observer alone, or give `%s` the reset that it then has" % (
         said, "it" if len(dead) == 1 else "them", target)
 

@@ -19,6 +19,8 @@ equal "lint says which inputs have one source, which flows get their reset alone
 equal "lint with an observer says after which cut set a further event takes the value away" \
   'tests/lint/comes_back.alt:9:20: lint: observer dark is true after {bus.fail}, and no longer after a further event, grid.fail status 1' \
   "$(tools/lint tests/lint/comes_back.alt --observer dark 2>&1) status $?"
+equal "lint with an observer: a mode that only a class that extends this one enters is no slip" ' status 0' \
+  "$(tools/lint tests/trial/feed.alt --observer loss 2>/dev/null) status $?"
 equal "lint of a text with several blocks says which it has not looked at" \
   'lint: nothing to say of the main block `Summer`; not looked at: --main Winter' "$(tools/lint tests/lint/two_blocks.alt 2>&1)"
 equal "lint with two observers lists the failures that are in no cut set of either" ' status 0' \

@@ -257,6 +257,9 @@ demand|A spare that starts on demand
 common cause|Common cause
 repair|Repairs
 vote|Voting
+changeover|A changeover switch
+monitor|A unit that gives no value or a false one
+short|A failure that spreads
 control loop|A control loop
 out of service|A part that is out of service
 observer|script: a script, a list or a word names nothing

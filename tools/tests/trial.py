@@ -1,4 +1,4 @@
-"""What a new user meets: nine models, and a dozen and more typical mistakes in each.
+"""What a new user meets: twelve models, and typical mistakes in each.
 
 Tried is that the models have the cuts that were found by hand, that each mistake gets the line that is written here, and
 that the section which `./altarica --explain` prints for this line has the words that mend the mistake. Where a mend is
@@ -36,7 +36,8 @@ Mistake = namedtuple("Mistake", "what changes words line mend mended lint why", 
 answer, its last line for a script and else its first; mend: words of the section; mended: changes of the right model, as
 the section has them; lint: words of lint on the model with the mistake; why: words of `why` on it."""
 
-FILES = {"pumps": "tests/models/howto/start_or_run.alt", "protection": "tests/models/howto/protection.alt"}
+FILES = {"monitor": "tests/models/howto/monitor.alt", "monitor,": "tests/models/howto/monitor.alt",
+         "spread": "tests/models/howto/spread.alt", "pumps": "tests/models/howto/start_or_run.alt", "protection": "tests/models/howto/protection.alt"}
 
 
 def fail(parts):
@@ -81,6 +82,30 @@ CUTS |= {
                            "s2.go_silent, s3.go_silent", "a.stick, b.stick"]),
     "channel without demand": (CALM, ["s1.go_high, s2.go_high", "s1.go_high, s3.go_high", "s2.go_high, s3.go_high", "voter.fire_itself"]),
 }
+
+LOSS = ("cuts", "--observer", "loss")
+RUNS = ("a.booster.fail_to_run", "a.feed.fail_to_run", "a.valve.stick_shut", "a.supply.burn")
+STARTS = tuple(f"b.{pump}.{event}" for pump in ("booster", "feed") for event in ("fail_to_start", "fail_to_run")) + (
+    "b.valve.stick_shut", "b.supply.burn")
+ERRONEOUS = ("cuts", "--observer", "erroneous")
+SHORTS = ("cuts", "--observer", "dark")
+CUTS |= {
+    "feed": (LOSS, ["strainer.clog", "bus_1.lose, bus_2.lose", *(f"{x}, {y}" for x in RUNS for y in STARTS),
+                    *(f"{x}, bus_2.lose, b.supply.stick" for x in RUNS), *(f"bus_1.lose, a.supply.stick, {y}" for y in STARTS)]),
+    "monitor": (ERRONEOUS, ["monitor.fail, software.fail", *(
+        f"monitor.fail, {x}.go_wrong, {y}.go_wrong" for x, y in (("l1", "l2"), ("l1", "l3"), ("l2", "l3")))]),
+    "monitor, no value": (LOSS, ["supply.fail", "software.fail", *(
+        f"{x}.{p}, {y}.{q}" for x, y in (("l1", "l2"), ("l1", "l3"), ("l2", "l3")) for p in ("fall_silent", "go_wrong")
+        for q in ("fall_silent", "go_wrong"))]),
+    "spread": (SHORTS, ["source.fail", "b1.short", "b4.short", *(f"q41.open, {x}" for x in (
+        "q12.open", "q23.open", "q34.open", "b2.short", "b3.short")), "q12.stick, b2.short", "q34.stick, b3.short",
+                        "q12.stick, q23.stick, b3.short", "q23.stick, q34.stick, b2.short"]),
+}
+POWER = "power := mode != BURNT and (normal or (mode == MOVES and other));"
+LIVE = "  Boolean live (init = true);\n"
+TIED = [(LIVE, "  Boolean ok (init = true);\n  Boolean tie, live (reset = false);\n"), ("lose: live -> live := false;\n",
+        "lose: ok -> ok := false;\n  assertion\n    live := ok or tie;\n"), ("    a.demand := true;\n", "    a.demand := true;\n"
+        "    if bus_2.live then bus_1.tie := true;\n    if bus_1.live then bus_2.tie := true;\n")]
 
 PUMP = """  Component valve, check;
   block pump
@@ -404,6 +429,40 @@ MISTAKES |= {
                 "`assertion if mode == OK then power :=: flow;`", [("to_b := mode == OK and from_a;", "if mode == OK then to_b :=: from_a;")]),
         Mistake("a segment passes on in one way", [("    to_a := mode == OK and from_b;\n", "")], C2_DRY, "{return_main.fail}", "an input is open",
                 None, "flow s12.to_a is set by no assertion"),
+    ],
+    "feed": [
+        Mistake("an assertion of a class that is extended is written again", [(
+            "  StandbyPump booster, feed;\n", "  StandbyPump booster, feed;\n  assertion delivers := feed.outflow and valve.mode == OPENS and supply.mode != STUCK;\n")],
+                LOSS, "fault: {bus_1.lose, a.supply.stick, b.supply.stick}: flow b.delivers has two values", "writes its assertion again",
+                why="`StandbyTrain` extends `Train` and has its assertions too"),
+        Mistake("a switch that sticks is treated as dead", [(POWER, "power := mode == MOVES and (normal or other);")], LOSS,
+                "{bus_1.lose, bus_2.lose}", "`mode == OK and (normal or other)`",
+                [(POWER, "power := (mode == MOVES and (normal or other)) or (mode == STUCK and normal);")]),
+        Mistake("a demand reads a flow before the last part", [("b.demand := not a.delivers", "b.demand := not a.feed.outflow")], LOSS,
+                "{bus_1.lose, bus_2.lose}", "ask what the train delivers", None, "and no longer after a further event, a.booster.fail_to_run"),
+        Mistake("a spare is a clone of the train that runs", [("  StandbyTrain b;\n", "  clones a as b;\n")], LOSS, "{bus_1.lose, bus_2.lose}",
+                "the failures to start are missing", None, "b.feed.mode never has the value FAILED_START"),
+        Mistake("both buses of a train are one", [("b.supply.other := bus_1.live", "b.supply.other := bus_2.live")], LOSS,
+                "{bus_1.lose, bus_2.lose}", "two trains with the same second bus"),
+        Mistake("a demand behind a tie", TIED, LOSS, "fault: {bus_1.lose, bus_2.lose}: assignment 6 at 87:5 does not hold",
+                "`spare.demand := true;`", why="the spare needs none: `b.demand := true;`"),
+    ],
+    "monitor": [
+        Mistake("a shock leaves the good value", [(" and not upset;", ";")], LOSS, "{supply.fail}", "lacks `and not upset`", None,
+                "event software.fail is in no minimal cut set of loss"),
+        Mistake("a monitor takes the power of what it watches", [("wrong := power and", "wrong := power and not (wrong and watched) and")],
+                ERRONEOUS, "fault: {software.fail}: assignment 11 at 12:5 does not hold", "let it act on a flow behind"),
+        Mistake("a condition is turned round", [("not watched", "watched")], ERRONEOUS, "{software.fail}", "a `not` too many or missing", None,
+                "event monitor.fail is in no minimal cut set of erroneous"),
+    ],
+    "spread": [
+        Mistake("a spread ends after one step", [("l3 and r3", "l1 and r1")], SHORTS, "{source.fail}", "a spread ends after one step"),
+        Mistake("a spread is a loop with another reset", [("sound and l3 and r3",
+            "sound and (q_left.mode != STUCK or left.clear) and (q_right.mode != STUCK or right.clear)"),
+            ("live, clear, l1", "live, l1"), ("  event short;\n", "  Boolean clear (reset = true);\n  event short;\n")], SHORTS,
+                "fault: {q12.stick}: assignment 12 at 24:5 does not hold", "a failure that spreads"),
+        Mistake("a neighbour is named without owner", [("embeds owner.b3 as left", "embeds b3 as left")], ("check",), "rule: L6 at 35:32",
+                "`owner.left` for a neighbour", why="write `owner.b3`"),
     ],
     "channel": [
         Mistake("a comma is between two transitions", [("mode := SILENT;", "mode := SILENT,")], ("check",), "syntax: 12:46",

@@ -46,6 +46,10 @@ pub enum Cap {
     Parameters,
     /// Observers of all units: 4,294,967,295.
     Observers,
+    /// Settings of one declaration: 4,294,967,295.
+    Settings,
+    /// Symbols of a model: 4,294,967,295.
+    Symbols,
     /// Results of one step of a sum, a product or another fold over sets of values, each value so
     /// far with each value of the next operand: 8,388,608.
     Results,

@@ -8,7 +8,7 @@ use Rattle.domains.specs.Domains.{Holds, values_of}
 use Rattle.domains.specs.declared.Value.{Value}
 use Rattle.domains.specs.declared.Value.TheVariants.{Truth}
 use Rattle.gts_core.specs.Readings.{value_at}
-use Rattle.gts_core.specs.Copies.{IsSameDomain}
+use Rattle.domains.specs.Same.{IsSameDomain}
 use Rattle.gts_core.specs.declared.system.Variable.{Variable}
 use Rattle.gts_core.proofs.SameDomains.{domain_there, value_there, value_back, same_values}
 use Rattle.class_table.specs.Members.{NamedMember, MemberKind}

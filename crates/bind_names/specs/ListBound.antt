@@ -8,7 +8,7 @@ use Rattle.typed_expr.specs.declared.expr.Expr.{Expr}
 use Rattle.ar_meaning.specs.Systems as s
 use Rattle.ar_meaning.specs.Image.{Expr_renames, Assign_renames}
 use Rattle.gts_core.specs.Bound.{assigns_of_act, places_of_act}
-use Rattle.gts_core.specs.Copies.{IsSameDomain}
+use Rattle.domains.specs.Same.{IsSameDomain}
 use Rattle.gts_core.specs.View.{numbered}
 use Rattle.gts_core.specs.declared.bound.Act.{Act, out-Act}
 use Rattle.gts_core.specs.declared.system.Observer.{Observer}

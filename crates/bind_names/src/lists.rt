@@ -10,7 +10,7 @@ ghost use Rattle.bind_names.specs.Whole.{IsBoundOf};
 use crate::{
     assertions, event_paths, events, observers, prefixes, symbol_texts, unit_paths, variables,
 };
-use ar_base::Memory;
+use ar_base::{Cap, Memory};
 use bind_scopes::Scopes;
 use bind_values::Values;
 use source_meaning::Bound;
@@ -26,7 +26,7 @@ pub(crate) fn bound_of(alloc: Global, scopes: &Scopes<'_>, values: &Values) -> R
     let tree = scopes.tree;
     let symbols = symbol_texts(alloc, tree)?;
     if symbols.len() > u32::MAX as usize {
-        return Err(Memory {});
+        return Err(Memory::from(Cap::Symbols));
     }
     let prefixes = prefixes(alloc, tree)?;
     let units = unit_paths(alloc, tree, &prefixes)?;

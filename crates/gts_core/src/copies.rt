@@ -1,7 +1,8 @@
 //! Copies of expressions and domains.
 
 ghost use Rattle.std.specs.Prelude.{IfOk};
-ghost use Rattle.gts_core.specs.Copies.{IsCopy, IsSameDomain, AreCopies, AreTermCopies, AreCaseCopies};
+ghost use Rattle.domains.specs.Same.{IsSameDomain};
+ghost use Rattle.gts_core.specs.Copies.{IsCopy, AreCopies, AreTermCopies, AreCaseCopies};
 
 use ar_base::{Memory, VarId};
 use domains::Domain;

@@ -6,7 +6,8 @@ use Rattle.ar_base.specs.Lists.{Stands, Along}
 use Rattle.ar_base.specs.Numbers.{VarId, WayId}
 use Rattle.typed_expr.specs.declared.expr.Expr.{Expr}
 use Rattle.gts_core.specs.Bound.{assigns_of_act, places_of_act, places_in, AreAssigns}
-use Rattle.gts_core.specs.Copies.{IsCopy, IsSameDomain}
+use Rattle.domains.specs.Same.{IsSameDomain}
+use Rattle.gts_core.specs.Copies.{IsCopy}
 use Rattle.gts_core.specs.declared.bound.Act.{Act}
 use Rattle.gts_core.specs.declared.bound.DeclaredEvent.{DeclaredEvent}
 use Rattle.gts_core.specs.declared.bound.DeclaredWay.{DeclaredWay}

@@ -14,7 +14,7 @@ ghost use Rattle.instantiate.specs.SettingPlaces.{TellsSettings};
 ghost use Rattle.instantiate.specs.Values.{AreAttribute};
 
 use crate::setting_places::SettingPlaces;
-use ar_base::{Memory, UnitId};
+use ar_base::{Cap, Memory, UnitId};
 use ar_syntax::Word;
 use hierarchy::{Attribute, MemNode, Outline, Source};
 use std::alloc::Global;
@@ -38,7 +38,7 @@ fn set_here(
     match settings.find(alloc, site, target)? {
         None => Ok(None),
         Some(place) => match u32::try_from(place) {
-            Err(_) => Err(Memory {}),
+            Err(_) => Err(Memory::from(Cap::Settings)),
             Ok(setting) => Ok(Some(Attribute {
                 from: owner,
                 source: Source {

@@ -50,6 +50,9 @@ pub enum Cap {
     Settings,
     /// Symbols of a model: 4,294,967,295.
     Symbols,
+    /// Bytes of the paths of all units, variables, events and observers, those that stand before the
+    /// names in units again: 536,870,912.
+    PathBytes,
     /// Results of one step of a sum, a product or another fold over sets of values, each value so
     /// far with each value of the next operand: 8,388,608.
     Results,

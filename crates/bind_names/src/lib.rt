@@ -12,6 +12,7 @@ mod listing;
 mod lists;
 mod members;
 mod observer_list;
+mod path_bytes;
 mod paths;
 mod rules;
 mod symbols;

@@ -7,6 +7,7 @@ ghost use Rattle.bind_scopes.specs.Scopes.{HasScopes};
 ghost use Rattle.bind_values.specs.Settled.{AreSettled};
 ghost use Rattle.bind_names.specs.Whole.{IsBoundOf};
 
+use crate::path_bytes::path_bytes;
 use crate::{
     assertions, event_paths, events, observers, prefixes, symbol_texts, unit_paths, variables,
 };
@@ -15,6 +16,9 @@ use bind_scopes::Scopes;
 use bind_values::Values;
 use source_meaning::Bound;
 use std::alloc::Global;
+
+// The most bytes that the paths of a model may have together.
+const MOST_PATH_BYTES: usize = 536_870_912;
 
 /// The bound forms of a tree that keeps the rules of names, kinds, values and targets, where these
 /// are its values. The error is want of memory.
@@ -27,6 +31,9 @@ pub(crate) fn bound_of(alloc: Global, scopes: &Scopes<'_>, values: &Values) -> R
     let symbols = symbol_texts(alloc, tree)?;
     if symbols.len() > u32::MAX as usize {
         return Err(Memory::from(Cap::Symbols));
+    }
+    if path_bytes(alloc, tree)? > MOST_PATH_BYTES {
+        return Err(Memory::from(Cap::PathBytes));
     }
     let prefixes = prefixes(alloc, tree)?;
     let units = unit_paths(alloc, tree, &prefixes)?;

@@ -4,6 +4,7 @@
 
 mod counts;
 mod faults;
+mod marks;
 mod numbers;
 mod places;
 mod table;
@@ -11,6 +12,7 @@ mod texts;
 
 pub use counts::{Count, MOST_NODES, USUAL_NODES};
 pub use faults::{Cap, Memory, RuleFault, keep};
+pub use marks::mark;
 pub use numbers::{
     AssignId, AssignKind, BodyId, BodyKind, EventId, EventKind, GateId, GateKind, Id, NameId,
     NameKind, UnitId, UnitKind, VarId, VarKind, WayId, WayKind, numbers_below, numbers_of,

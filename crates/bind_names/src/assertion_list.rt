@@ -19,11 +19,10 @@ use ar_base::{BodyId, Memory, UnitId};
 use ar_syntax::{Instr, Member};
 use bind_scopes::{Scopes, members_of};
 use bind_values::{Values, assertion};
-use class_table::{Body, Owned};
+use class_table::{Body, Owned, owned_at};
 use gts_core::Act;
 use hierarchy::UnitNode;
 use std::alloc::Global;
-use unit_rules::owned_at;
 
 // The instruction of an assertion.
 fn asserted(owned: &Owned) -> Option<&Instr>

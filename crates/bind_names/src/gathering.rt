@@ -21,10 +21,9 @@ use ar_base::{BodyId, Cap, EventId, Memory, UnitId};
 use ar_syntax::{Member, PathStart};
 use bind_scopes::Scopes;
 use bind_values::Values;
-use class_table::Owned;
+use class_table::{Owned, owned_at};
 use gts_core::{DeclaredEvent, DeclaredWay};
 use std::alloc::Global;
-use unit_rules::owned_at;
 
 // Puts a way behind those of the event, where there is the event. For more ways than there are numbers
 // the event's unit would have more members than all bodies may have together.

@@ -16,12 +16,11 @@ ghost use Rattle.bind_scopes.specs.Scopes.{HasScopes};
 ghost use Rattle.bind_names.specs.Hiding.{HidesIn, Marks, AreHidden};
 
 use crate::members::sites_of;
-use ar_base::{BodyId, EventId, Memory, UnitId};
+use ar_base::{BodyId, EventId, Memory, UnitId, mark};
 use ar_syntax::{Member, Path};
 use bind_scopes::Scopes;
-use class_table::Owned;
+use class_table::{Owned, owned_at};
 use std::alloc::Global;
-use unit_rules::owned_at;
 
 // As many marks, none of them set.
 fn unset(alloc: Global, count: usize) -> Result<Vec<bool>, Memory>
@@ -34,16 +33,6 @@ fn unset(alloc: Global, count: usize) -> Result<Vec<bool>, Memory>
     Ok(marks)
 }
 
-// Marks an event.
-fn mark(marks: &mut Vec<bool>, event: EventId)
-    ensures { marks.new.items ≡ slice_set marks.old.items event.n true }
-{
-    let n = event.n as usize;
-    if n < marks.len() {
-        marks[n] = true;
-    }
-}
-
 // Marks the event that a path names.
 fn hide(marks: &mut Vec<bool>, scopes: &Scopes<'_>, unit: UnitId, path: &Path)
     requires scopes { HasScopes scopes.now }
@@ -53,7 +42,7 @@ fn hide(marks: &mut Vec<bool>, scopes: &Scopes<'_>, unit: UnitId, path: &Path)
         → Marks (events_of m units) (Finds m is_event u path.now) marks.old.items marks.new.items }
 {
     match scopes.event_at(unit, path.start, &path.names) {
-        Some(event) => mark(marks, event),
+        Some(event) => mark(marks, event.n),
         None => {}
     }
 }

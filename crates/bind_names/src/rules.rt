@@ -1,27 +1,16 @@
 //! The rules of names, kinds, values and targets, over a whole tree.
 
-ghost use Rattle.std.specs.Prelude.{◌≡◌, List};
-ghost use Rattle.ar_base.specs.Stages.{kept_rule};
+ghost use Rattle.std.specs.Prelude.{List};
 ghost use Rattle.hierarchy.specs.Models.{RootedModel};
 ghost use Rattle.hierarchy.specs.Units.{UnitPath};
 ghost use Rattle.bind_scopes.specs.Scopes.{AreScopes, HasScopes};
 ghost use Rattle.bind_names.specs.Whole.{AnswersRules};
 
-use ar_base::{Place, RuleFault};
+use ar_base::{RuleFault, keep};
 use bind_rules::{first_misnamed_in, first_misplaced_in, first_mistyped_in};
 use bind_scopes::Scopes;
 use bind_values::{Values, valued};
 use std::alloc::Global;
-
-// The rule is refused where it is broken somewhere.
-fn keep(rule: u8, broken: Option<Place>) -> Result<(), RuleFault>
-    ensures { result ≡ kept_rule rule broken }
-{
-    match broken {
-        Some(place) => Err(RuleFault::Rule(rule, place)),
-        None => Ok(()),
-    }
-}
 
 /// The values of a tree that keeps the rules L10 to L13. The least of them that is broken is told,
 /// at the earliest place where it is. Want of memory may be told in place of any answer, and no

@@ -2,7 +2,6 @@
 
 ghost use Rattle.std.specs.Prelude.{◌≡◌, List, map, IfOk};
 ghost use Rattle.domains.specs.Domains.{Holds};
-ghost use Rattle.gts_core.specs.Readings.{value_at};
 ghost use Rattle.hierarchy.specs.Models.{RootedModel};
 ghost use Rattle.hierarchy.specs.Paths.{prefix};
 ghost use Rattle.hierarchy.specs.Tie.{IsTreeOf, IsVariableNode};
@@ -14,7 +13,7 @@ use crate::thing_path;
 use ar_base::{Memory, Text};
 use bind_values::Values;
 use domains::Value;
-use gts_core::{Variable, copy_domain};
+use gts_core::{Variable, copy_domain, value_at};
 use hierarchy::{Tree, VarNode};
 use std::alloc::Global;
 
@@ -45,16 +44,6 @@ fn variable_of(
     })
 }
 
-// The value at a place of a list, false past its end.
-fn value_there(values: &[Value], place: usize) -> Value
-    ensures { result ≡ value_at values.now place }
-{
-    match values.get(place) {
-        Some(value) => *value,
-        None => Value::Truth(false),
-    }
-}
-
 /// The variables of a tree, in its order, with these values, where this is what stands before names
 /// in its units: each with its path, unit, domain and sort. The error is want of memory.
 pub fn variables(
@@ -69,7 +58,7 @@ pub fn variables(
 {
     let mut variables = Vec::new(alloc);
     for (place, node) in tree.variables.iter().enumerate() {
-        let value = value_there(&values.variables, place);
+        let value = value_at(&values.variables, place);
         let variable = variable_of(alloc, tree, prefixes, node, value)?;
         variables.push(variable)?;
     }

@@ -20,10 +20,9 @@ use crate::rules::Rule;
 use ar_base::{BodyId, Place, UnitId};
 use ar_syntax::Member;
 use bind_scopes::{Scope, Scopes};
-use class_table::Owned;
+use class_table::{Owned, owned_at};
 use hierarchy::UnitNode;
 use typed_expr::ValueKind;
-use unit_rules::owned_at;
 use written_forms::earlier;
 
 // The earliest place at which the member breaks the rule.

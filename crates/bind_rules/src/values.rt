@@ -25,10 +25,9 @@ use crate::rules::Rule;
 use ar_base::Place;
 use ar_syntax::{Member, RawExpr, TypeForm};
 use bind_scopes::{Scope, Scopes, is_same_kind, is_same_value, kind_of_domain, written};
-use class_table::{Classes, Owned};
+use class_table::{Classes, Owned, owned_at};
 use hierarchy::{Attribute, MemNode, ParNode, Source, VarNode};
 use typed_expr::ValueKind;
-use unit_rules::owned_at;
 use written_forms::earlier;
 
 // The scope of a value by the setting in which it stands, where the first is that of a value that

@@ -14,7 +14,7 @@ ghost use Rattle.bind_scopes.specs.Indexed.{same_pair, TellsNodes, IsIndexOf};
 
 use ar_base::{EventId, Memory, NameId, UnitId, VarId};
 use ar_syntax::PathStart;
-use hierarchy::{MemNode, ParNode, Tree, VarNode, unit_at};
+use hierarchy::{MemNode, ParNode, Tree, VarNode, owner_and_name};
 use std::alloc::Global;
 use std::collections::HashMap;
 
@@ -80,23 +80,6 @@ fn place_of(places: &Places, unit: UnitId, name: NameId) -> Option<u32>
     ensures { result ≡ get same_pair places.now (unit.n, name.n) }
 {
     places.get(&(unit.n, name.n)).copied()
-}
-
-// The unit to which all names but the last lead, and the last.
-fn owner_and_name(
-    tree: &Tree,
-    from: UnitId,
-    first: PathStart,
-    names: &[NameId],
-) -> Option<(UnitId, NameId)>
-    requires tree { IsSomeTree tree.now }
-    requires in_range { from.n < length tree.now.units.items }
-    ensures { (m : RootedModel) (units : List UnitPath) (u : UnitPath) → IsTreeOf m units tree.now
-        → Stands units from.n u → FindsOwner m units u first (numbers names.now) result }
-{
-    let (name, front) = names.split_last()?;
-    let unit = unit_at(tree, from, first, front)?;
-    Some((unit, *name))
 }
 
 impl Index {

@@ -15,11 +15,11 @@ ghost use Rattle.bind_scopes.specs.Members.{AddsNames, HasFirst};
 use crate::sites::members_of;
 use ar_base::{BodyId, Memory, NameId, Place};
 use ar_syntax::{Member, TypeForm};
-use class_table::{Classes, Owned, TypeBody};
+use class_table::{Classes, Owned, TypeBody, owned_at};
 use hierarchy::{Tree, UnitNode};
 use std::alloc::Global;
 use std::collections::HashSet;
-use unit_rules::{TypePlaces, owned_at};
+use unit_rules::TypePlaces;
 
 /// Names by the numbers of bodies.
 pub(crate) type Names = HashSet<(u32, u32)>;

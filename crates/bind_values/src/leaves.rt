@@ -1,13 +1,13 @@
 //! What paths stand for, where the values of parameters are known.
 
 ghost use Rattle.std.specs.Prelude.{◌≡◌};
-ghost use Rattle.gts_core.specs.Readings.{value_at};
 ghost use Rattle.bind_values.specs.Leaves.{leaf_of, leaf_in, IsInTree};
 
 use ar_base::UnitId;
 use ar_syntax::Path;
 use bind_scopes::{Named, Scopes};
 use domains::Value;
+use gts_core::value_at;
 use written_forms::{Leaf, Leaves};
 
 /// What paths stand for in the expressions of a unit: variables by their numbers, and the values of
@@ -22,16 +22,6 @@ pub struct UnitLeaves<'a, 't> {
     pub parameters: &'a [Value],
 }
 
-/// The value at this place, or false where there is none.
-pub(crate) fn known(values: &[Value], place: usize) -> Value
-    ensures { result ≡ value_at values.now place }
-{
-    match values.get(place) {
-        Some(value) => *value,
-        None => Value::Truth(false),
-    }
-}
-
 // What stands for what was named.
 fn standing(parameters: &[Value], named: Option<Named>) -> Leaf
     ensures { result ≡ leaf_of parameters.now named }
@@ -39,7 +29,7 @@ fn standing(parameters: &[Value], named: Option<Named>) -> Leaf
     match named {
         None => Leaf::Constant(Value::Truth(false)),
         Some(Named::Variable(variable)) => Leaf::Variable(variable),
-        Some(Named::Parameter(place)) => Leaf::Constant(known(parameters, place as usize)),
+        Some(Named::Parameter(place)) => Leaf::Constant(value_at(parameters, place as usize)),
         Some(Named::Symbol(symbol)) => Leaf::Constant(Value::Symbol(symbol)),
     }
 }

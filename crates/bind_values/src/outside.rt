@@ -12,10 +12,10 @@ ghost use Rattle.source_meaning.specs.Tested.{IsReadable};
 ghost use Rattle.bind_scopes.specs.Scopes.{AreScopes};
 ghost use Rattle.bind_values.specs.Values.{IsValue, IsParameterValue, IsDomainAt, BreaksAs, BreaksOne};
 
-use crate::leaves::known;
 use ar_base::Place;
 use bind_scopes::{Scopes, written};
 use domains::{Domain, Value};
+use gts_core::value_at;
 use hierarchy::{Attribute, ParNode, VarNode};
 use written_forms::earlier;
 
@@ -80,7 +80,7 @@ pub(crate) fn outside_variables(scopes: &Scopes<'_>, values: &[Value]) -> Option
 {
     let mut found = None;
     for (place, node) in scopes.tree.variables.iter().enumerate() {
-        found = earlier(found, outside_variable(scopes, node, known(values, place)));
+        found = earlier(found, outside_variable(scopes, node, value_at(values, place)));
     }
     found
 }
@@ -93,7 +93,7 @@ pub(crate) fn outside_parameters(scopes: &Scopes<'_>, values: &[Value]) -> Optio
 {
     let mut found = None;
     for (place, node) in scopes.tree.parameters.iter().enumerate() {
-        found = earlier(found, outside_parameter(scopes, node, known(values, place)));
+        found = earlier(found, outside_parameter(scopes, node, value_at(values, place)));
     }
     found
 }

@@ -13,9 +13,10 @@ ghost use Rattle.cut_check.specs.Rows.{HaveBits};
 ghost use Rattle.cut_check.specs.Verdicts.{IsListed};
 ghost use Rattle.cut_check.specs.declared.rows.Row.{Row as TheRow};
 
-use crate::rows::{Row, empty_row, has, is_within, open_events, rows_of, set};
+use crate::rows::{Row, empty_row, is_within, open_events, rows_of};
 use ar_base::{EventId, Memory};
 use gts_core::{Chain, Gts};
+use lane_rows::{has, set};
 use std::alloc::Global;
 
 /// The events of each line as a row of bits, and room for the row of a set that is looked up.

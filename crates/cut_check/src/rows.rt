@@ -12,11 +12,8 @@ ghost use Rattle.cut_check.specs.Rows.{AreOpenEvents, AreVisible, IsFreshEvent, 
 
 use ar_base::{EventId, Memory, WayId};
 use gts_core::{Chain, GtsParts};
-use lane_rows::covers;
+use lane_rows::{WORD_BITS, covers, has, set};
 use std::alloc::Global;
-
-/// The bits of a word.
-const WORD_BITS: usize = 64;
 
 /// The events of a line as a row of bits, and whether the line may be fired: each of its events stands
 /// in it once, and is visible and not dropped.
@@ -138,25 +135,6 @@ fn is_fresh(row: &[u64], allowed: &[bool], event: u32) -> bool
     } else {
         allowed[event as usize]
     }
-}
-
-/// Whether a bit is set. Those past the row's end are not.
-pub(crate) fn has(row: &[u64], number: u32) -> bool
-    ensures { IsTrue result ↔ IsSet row.now number }
-{
-    match row.get(number as usize / WORD_BITS) {
-        Some(word) => (*word >> (number as usize % WORD_BITS)) & 1 == 1,
-        None => false,
-    }
-}
-
-/// Sets a bit.
-pub(crate) fn set(row: &mut [u64], number: u32)
-    requires { number / 64 < length row.old }
-    ensures { (n : ℕ) → IsSet row.new n ↔ (IsSet row.old n ⊎ (n ≡ number)) }
-{
-    let place = number as usize / WORD_BITS;
-    row[place] |= 1 << (number as usize % WORD_BITS);
 }
 
 /// Whether each bit that is set in the first row is set in the second.

@@ -16,7 +16,7 @@ use ar_base::{Memory, VarId};
 use domains::Value;
 use gts_core::Assign;
 use std::alloc::Global;
-use typed_expr::{Env, Expr, ValueKind, ValueSet, eval_set};
+use typed_expr::{Env, Expr, ValueKind, ValueSet, eval_set, first_of, kind_of};
 
 /// The values of the variables, and which of them are known.
 #[derive(Drop)]
@@ -35,10 +35,7 @@ impl Env<VarId> for Known<'_> {
     ghost kind_at = { λ e x. kind_of (first_of (known_at e.values.now e.known.now x.n)) };
 
     fn value(&self, v: &VarId) -> Value {
-        match self.facts(v).first() {
-            Some(value) => *value,
-            None => Value::Truth(false),
-        }
+        first_of(self.facts(v))
     }
 
     fn facts(&self, v: &VarId) -> &[Value] {
@@ -53,11 +50,7 @@ impl Env<VarId> for Known<'_> {
     }
 
     fn kind(&self, v: &VarId) -> ValueKind {
-        match self.value(v) {
-            Value::Truth(_) => ValueKind::Truth,
-            Value::Whole(_) => ValueKind::Whole,
-            Value::Symbol(_) => ValueKind::Symbol,
-        }
+        kind_of(self.value(v))
     }
 }
 

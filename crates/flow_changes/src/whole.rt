@@ -1,7 +1,6 @@
 //! What the new state determines, found anew.
 
-ghost use Rattle.std.specs.Prelude.{◌≡◌, ◌<◌, ◌^◌, ℕ, List, length, IfOk, IfErr, OnErr};
-ghost use Rattle.ar_base.specs.Lists.{Stands};
+ghost use Rattle.std.specs.Prelude.{◌≡◌, ◌<◌, ℕ, List, length, IfOk, IfErr, OnErr};
 ghost use Rattle.flow_propagate.specs.Determined.{IsDetermined};
 ghost use Rattle.flow_propagate.specs.NewValues.{AreNewValues, written};
 ghost use Rattle.flow_propagate.specs.Plan.{IsPlan};
@@ -10,7 +9,7 @@ ghost use Rattle.value_changes.specs.Picking.{AreWithin};
 ghost use Rattle.flow_changes.specs.Present.{IsFaultOf, Propagates};
 
 use crate::starting::write_new;
-use ar_base::{Memory, VarId};
+use ar_base::{Memory, VarId, numbers_below};
 use domains::Value;
 use flow_propagate::{Determined, Plan, PropagateFault, determine};
 use gts_core::{Gts, Valuation};
@@ -63,17 +62,4 @@ fn renewed(alloc: Global, values: &[Value], new: &[(VarId, Value)]) -> Result<Va
     let mut values = Vec::from_slice(alloc, values)?;
     write_new(new, &mut values);
     Ok(Valuation { values })
-}
-
-// The numbers below a count, in order.
-fn numbers_below(alloc: Global, count: usize) -> Result<Vec<u32>, Memory>
-    requires { count < 2 ^ 32 }
-    ensures long { IfOk result (λ v. length v.items ≡ count) }
-    ensures each { IfOk result (λ v. (k n : ℕ) → Stands v.items k n → n ≡ k) }
-{
-    let mut numbers = Vec::with_capacity(alloc, count)?;
-    for number in 0..count as u32 {
-        numbers.push(number)?;
-    }
-    Ok(numbers)
 }

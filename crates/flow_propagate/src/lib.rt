@@ -23,3 +23,4 @@ pub use naming::add_named_pairs;
 pub use pairs::{Runs, pairs_of};
 pub use plan::{Plan, make_plan};
 pub use propagation::{FlowFault, PropagateFault};
+pub use searches::some_outside;

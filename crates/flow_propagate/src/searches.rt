@@ -56,8 +56,8 @@ fn has_other(values: &[Value], v: Value) -> bool
     false
 }
 
-// Whether one of the values is outside the domain.
-pub(crate) fn some_outside(domain: &Domain, values: &[Value]) -> bool
+/// Whether one of the values is outside the domain. Takes no memory.
+pub fn some_outside(domain: &Domain, values: &[Value]) -> bool
     requires { IsDomain domain.now }
     ensures { IsAnswer result ((v : Value) × Contains values.now v
         × (DomainHolds domain.now v → ⊥)) }

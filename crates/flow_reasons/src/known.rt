@@ -12,9 +12,9 @@ ghost use Rattle.flow_reasons.specs.Bringing.{Brings};
 
 use ar_base::{AssignId, Memory, VarId};
 use domains::Value;
-use gts_core::Assign;
+use gts_core::{Assign, value_at};
 use std::alloc::Global;
-use typed_expr::{Env, Expr, ValueKind, eval_set};
+use typed_expr::{Env, Expr, ValueKind, eval_set, kind_of};
 
 /// What is known of the fact of a variable.
 #[derive(Clone, Copy)]
@@ -44,10 +44,7 @@ impl Env<VarId> for Known<'_> {
     ghost kind_at = { λ e x. kind_of (value_at e.values.now x.n) };
 
     fn value(&self, v: &VarId) -> Value {
-        match self.values.get(v.n as usize) {
-            Some(value) => *value,
-            None => Value::Truth(false),
-        }
+        value_at(self.values, v.n as usize)
     }
 
     fn facts(&self, v: &VarId) -> &[Value] {
@@ -63,11 +60,7 @@ impl Env<VarId> for Known<'_> {
     }
 
     fn kind(&self, v: &VarId) -> ValueKind {
-        match self.value(v) {
-            Value::Truth(_) => ValueKind::Truth,
-            Value::Whole(_) => ValueKind::Whole,
-            Value::Symbol(_) => ValueKind::Symbol,
-        }
+        kind_of(self.value(v))
     }
 }
 

@@ -20,6 +20,6 @@ pub use bound::{Act, Chain, DeclaredEvent, DeclaredWay};
 pub use copies::{copy_domain, copy_expression};
 pub use gts::Gts;
 pub use names::{add_named, add_tests};
-pub use readings::{Assigned, are_met, is_met, value_in};
+pub use readings::{Assigned, are_met, is_met, value_at, value_in};
 pub use rows::{Domains, domains_of};
 pub use system::{Assign, Event, GtsParts, Observer, Valuation, Variable, Way, WayBody};

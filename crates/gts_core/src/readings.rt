@@ -7,7 +7,17 @@ ghost use Rattle.gts_core.specs.Readings.{value_at, values_at, value_in, is_trut
 
 use ar_base::VarId;
 use domains::Value;
-use typed_expr::{Env, Expr, ValueKind, eval_total};
+use typed_expr::{Env, Expr, ValueKind, eval_total, kind_of};
+
+/// The value at a place of a list; false past its end. Takes no memory.
+pub fn value_at(values: &[Value], place: usize) -> Value
+    ensures { result ≡ value_at values.now place }
+{
+    match values.get(place) {
+        Some(value) => *value,
+        None => Value::Truth(false),
+    }
+}
 
 /// A total valuation, which gives each variable its one value.
 #[derive(Drop)]
@@ -24,10 +34,7 @@ impl Env<VarId> for Assigned<'_> {
     ghost kind_at = { λ e x. kind_of (value_at e.values.now x.n) };
 
     fn value(&self, v: &VarId) -> Value {
-        match self.values.get(v.n as usize) {
-            Some(value) => *value,
-            None => Value::Truth(false),
-        }
+        value_at(self.values, v.n as usize)
     }
 
     fn facts(&self, v: &VarId) -> &[Value] {
@@ -40,11 +47,7 @@ impl Env<VarId> for Assigned<'_> {
     }
 
     fn kind(&self, v: &VarId) -> ValueKind {
-        match self.value(v) {
-            Value::Truth(_) => ValueKind::Truth,
-            Value::Whole(_) => ValueKind::Whole,
-            Value::Symbol(_) => ValueKind::Symbol,
-        }
+        kind_of(self.value(v))
     }
 }
 

@@ -11,7 +11,7 @@ use crate::GtsParts;
 use ar_base::{Memory, VarId};
 use domains::{Domain, Value};
 use std::alloc::Global;
-use typed_expr::{Env, ValueKind};
+use typed_expr::{Env, ValueKind, first_of, kind_of, row_at};
 
 /// The values of the domain of each variable, by number. As facts, each variable has all values of its domain.
 #[derive(Drop)]
@@ -31,25 +31,15 @@ impl Env<VarId> for Domains {
     ghost kind_at = { λ t x. kind_of (first_of (row_at t.rows.items x.n)) };
 
     fn value(&self, v: &VarId) -> Value {
-        match self.facts(v).first() {
-            Some(value) => *value,
-            None => Value::Truth(false),
-        }
+        first_of(self.facts(v))
     }
 
     fn facts(&self, v: &VarId) -> &[Value] {
-        match self.rows.get(v.n as usize) {
-            Some(row) => row,
-            None => &[],
-        }
+        row_at(&self.rows, v.n)
     }
 
     fn kind(&self, v: &VarId) -> ValueKind {
-        match self.value(v) {
-            Value::Truth(_) => ValueKind::Truth,
-            Value::Whole(_) => ValueKind::Whole,
-            Value::Symbol(_) => ValueKind::Symbol,
-        }
+        kind_of(self.value(v))
     }
 }
 

@@ -110,8 +110,9 @@ pub fn unit_at(tree: &Tree, from: UnitId, first: PathStart, names: &[NameId]) ->
     Some(at)
 }
 
-// The unit to which all names but the last lead, and the last.
-fn owner_and_name(
+/// The number of the unit to which all names but the last lead, read in the unit `from`, and the last name. None where
+/// they lead to no unit, or there is no name. Takes no memory.
+pub fn owner_and_name(
     tree: &Tree,
     from: UnitId,
     first: PathStart,

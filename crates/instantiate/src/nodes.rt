@@ -16,10 +16,10 @@ ghost use Rattle.instantiate.specs.Nodes.{test_of, declares_so, single_of, node_
 
 use ar_base::{BodyId, Memory, NameId, Place, UnitId};
 use ar_syntax::{Member, TypeForm};
-use class_table::{Classes, Owned};
+use class_table::{Classes, Owned, owned_at};
 use hierarchy::{MemNode, Outline, Source};
 use std::alloc::Global;
-use unit_rules::{TypePlaces, owned_at};
+use unit_rules::TypePlaces;
 
 /// Which things are listed.
 #[derive(Clone, Copy)]

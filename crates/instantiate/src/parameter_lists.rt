@@ -21,10 +21,10 @@ use crate::setting_places::SettingPlaces;
 use crate::values::value_of;
 use ar_base::Memory;
 use ar_syntax::{Member, TypeForm, Word};
-use class_table::{Classes, Owned};
+use class_table::{Classes, Owned, owned_at};
 use hierarchy::{Attribute, MemNode, Outline, ParNode};
 use std::alloc::Global;
-use unit_rules::{TypePlaces, owned_at};
+use unit_rules::TypePlaces;
 
 // The type of a member that is a parameter; a parameter Real has none.
 fn type_of(owned: &Owned) -> Option<Option<TypeForm>>

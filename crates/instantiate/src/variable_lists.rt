@@ -21,10 +21,10 @@ use crate::types_of::type_of;
 use crate::values::value_of;
 use ar_base::Memory;
 use ar_syntax::Word;
-use class_table::Classes;
+use class_table::{Classes, owned_at};
 use hierarchy::{MemNode, Outline, VarNode};
 use std::alloc::Global;
-use unit_rules::{TypePlaces, is_state, owned_at, settings_of};
+use unit_rules::{TypePlaces, is_state, settings_of};
 
 // The last word of the target of a state variable or a flow.
 fn last_word(is_state: bool) -> Word

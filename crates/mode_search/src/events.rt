@@ -1,11 +1,11 @@
 //! Dropped events, synchronised ways, and units that have transitions.
 
-ghost use Rattle.std.specs.Prelude.{◌≡◌, ◌<◌, ◌^◌, true, length, slice_set, IfOk};
+ghost use Rattle.std.specs.Prelude.{◌≡◌, ◌<◌, ◌^◌, length, IfOk};
 ghost use Rattle.gts_core.specs.Sound.{IsSound};
 ghost use Rattle.ar_meaning.specs.Found.{IsAnswer};
 ghost use Rattle.mode_search.specs.Events.{IsLeast, AreMarks, numbers_of, AreMoving, IsSync, IsJoint, HasJoint, IsJointAt, IsStateless, StillMoves};
 
-use ar_base::{EventId, Memory, VarId, WayId};
+use ar_base::{EventId, Memory, VarId, WayId, mark};
 use gts_core::{GtsParts, WayBody};
 use std::alloc::Global;
 
@@ -18,16 +18,6 @@ pub fn marked(alloc: Global, count: usize, dropped: &[EventId]) -> Result<Vec<bo
         mark(&mut marks, event.n);
     }
     Ok(marks)
-}
-
-// Sets a mark, where there is one of this number.
-fn mark(marks: &mut Vec<bool>, n: u32)
-    ensures { marks.new.items ≡ slice_set marks.old.items n true }
-{
-    let place = n as usize;
-    if place < marks.len() {
-        marks[place] = true;
-    }
 }
 
 /// The first event that has a synchronised way. Takes no memory.

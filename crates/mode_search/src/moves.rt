@@ -17,7 +17,7 @@ use ar_base::{Memory, VarId};
 use domains::{Domain, Value};
 use gts_core::Assign;
 use std::alloc::Global;
-use typed_expr::{Env, Expr, ValueKind, ValueSet, eval_set};
+use typed_expr::{Env, Expr, ValueKind, ValueSet, eval_set, first_of, kind_of};
 
 /// Where a transition leads from a mode of its mode variable.
 #[derive(Clone, Copy)]
@@ -51,10 +51,7 @@ impl Env<VarId> for AtMode<'_> {
     ghost kind_at = { λ e x. kind_of (first_of (values_at e.variable.n e.values.now x)) };
 
     fn value(&self, v: &VarId) -> Value {
-        match self.facts(v).first() {
-            Some(value) => *value,
-            None => Value::Truth(false),
-        }
+        first_of(self.facts(v))
     }
 
     fn facts(&self, v: &VarId) -> &[Value] {
@@ -66,11 +63,7 @@ impl Env<VarId> for AtMode<'_> {
     }
 
     fn kind(&self, v: &VarId) -> ValueKind {
-        match self.value(v) {
-            Value::Truth(_) => ValueKind::Truth,
-            Value::Whole(_) => ValueKind::Whole,
-            Value::Symbol(_) => ValueKind::Symbol,
-        }
+        kind_of(self.value(v))
     }
 }
 

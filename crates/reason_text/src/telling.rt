@@ -1,10 +1,10 @@
 //! Which flows are told.
 
-ghost use Rattle.std.specs.Prelude.{◌≡◌, ◌<◌, true, length, slice_set, Some, IfOk};
+ghost use Rattle.std.specs.Prelude.{◌≡◌, ◌<◌, length, Some, IfOk};
 ghost use Rattle.flow_reasons.specs.Answers.{numbers_of, reasons_of, AreOfState};
 ghost use Rattle.reason_text.specs.Answers.{IsObserverIn, observed, AreTold, AreAll, AreNone, AreMarked};
 
-use ar_base::{Memory, VarId};
+use ar_base::{Memory, VarId, mark};
 use flow_reasons::{Reason, cone};
 use gts_core::Gts;
 use std::alloc::Global;
@@ -60,7 +60,7 @@ fn marks_of(alloc: Global, variables: &[VarId], count: usize) -> Result<Vec<bool
 {
     let mut marks = none(alloc, count)?;
     for variable in variables {
-        set(&mut marks, variable.n);
+        mark(&mut marks, variable.n);
     }
     Ok(marks)
 }
@@ -72,14 +72,4 @@ fn none(alloc: Global, count: usize) -> Result<Vec<bool>, Memory>
 {
     let marks = vec![in alloc; false; count]?;
     Ok(marks)
-}
-
-// Sets the mark of this number, if there is one.
-fn set(marks: &mut Vec<bool>, n: u32)
-    ensures { marks.new.items ≡ slice_set marks.old.items n true }
-{
-    let place = n as usize;
-    if place < marks.len() {
-        marks[place] = true;
-    }
 }

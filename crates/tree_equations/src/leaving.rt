@@ -1,10 +1,8 @@
 //! The assignments that may give a value outside their targets' domains.
 
-ghost use Rattle.std.specs.Prelude.{◌≡◌, ◌<◌, ℕ, List, Contains, IfOk, OnOk, length, map};
+ghost use Rattle.std.specs.Prelude.{◌≡◌, ◌<◌, ℕ, List, IfOk, OnOk, length, map};
 ghost use Rattle.ar_base.specs.Lists.{Stands};
-ghost use Rattle.domains.specs.Domains.{IsDomain, Holds as DomainHolds};
-ghost use Rattle.domains.specs.declared.Value.{Value as FlatValue};
-ghost use Rattle.ar_meaning.specs.Found.{IsAnswer};
+ghost use Rattle.domains.specs.Domains.{IsDomain};
 ghost use Rattle.gts_core.specs.Sound.{IsSound};
 ghost use Rattle.gts_core.specs.View.{variable_of, assign_of};
 ghost use Rattle.gts_core.specs.declared.system.Variable.{Variable as FlatVariable};
@@ -14,7 +12,7 @@ ghost use Rattle.tree_equations.specs.Leaving.{MayGiveOutside};
 
 use crate::index::Index;
 use ar_base::Memory;
-use domains::{Domain, Value};
+use flow_propagate::some_outside;
 use gts_core::{Assign, Domains, GtsParts, Variable, domains_of};
 use std::alloc::Global;
 use typed_expr::eval_set;
@@ -77,18 +75,4 @@ fn may_leave(
 {
     let set = eval_set(alloc, &assign.value, domains)?;
     Ok(some_outside(&variable.domain, set.values()))
-}
-
-// Whether one of the values is outside the domain.
-fn some_outside(domain: &Domain, values: &[Value]) -> bool
-    requires { IsDomain domain.now }
-    ensures { IsAnswer result ((v : FlatValue) × Contains values.now v
-        × (DomainHolds domain.now v → ⊥)) }
-{
-    for v in values {
-        if !domain.holds(*v) {
-            return true;
-        }
-    }
-    false
 }

@@ -97,8 +97,8 @@ fn each_case<V, E: Env<V>>(cases: &[(Expr<V>, Expr<V>)], env: &E, kind: ValueKin
     true
 }
 
-// The kind of a value.
-fn kind_of(v: Value) -> ValueKind
+/// The kind of a value. Takes no memory.
+pub fn kind_of(v: Value) -> ValueKind
     ensures { result ≡ kind_of_value v }
 {
     match v {

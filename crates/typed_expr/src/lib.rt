@@ -9,14 +9,16 @@ mod kinds;
 mod laws;
 mod possible;
 mod relations;
+mod rows;
 mod sets;
 mod total;
 mod value_set;
 
 pub use env::Env;
 pub use expr::{Expr, Relation, ValueKind};
-pub use kinds::typed;
+pub use kinds::{kind_of, typed};
 pub use laws::{count_law, expression_laws, finite_laws, kind_law, renaming_laws};
 pub use possible::{eval_set, possible_values};
+pub use rows::{first_of, row_at};
 pub use total::eval_total;
 pub use value_set::ValueSet;

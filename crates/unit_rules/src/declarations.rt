@@ -17,11 +17,10 @@ ghost use Rattle.unit_rules.specs.Rules.{BreaksDeclaration};
 ghost use Rattle.unit_rules.specs.Searched.{BreaksOne, forms_of, IsFirstIn};
 
 use crate::TypePlaces;
-use crate::sites::owned_at;
 use ar_base::{BodyId, Memory, Place};
 use ar_syntax::{Member, Setting, Word};
 use class_table::earliest::earliest;
-use class_table::{Classes, Owned};
+use class_table::{Classes, Owned, owned_at};
 use hierarchy::Outline;
 use std::alloc::Global;
 

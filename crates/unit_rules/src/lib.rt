@@ -24,7 +24,7 @@ pub use declarations::{first_wrong_declaration, is_flow, is_state};
 pub use limits::fit;
 pub use naming::name_units;
 pub use repeats::word_code;
-pub use sites::{owned_at, settings_of};
+pub use sites::settings_of;
 pub use statements::{first_looping, first_lost};
 pub use types::TypePlaces;
 pub use wrong::first_wrong_setting;

@@ -14,10 +14,9 @@ ghost use Rattle.hierarchy.specs.Tie.{AreOutlines, IsOutline, IsUnitNode};
 ghost use Rattle.unit_walks.specs.Settling.{AreOutcomes};
 ghost use Rattle.unit_rules.specs.Naming.{Entry, AddsName, AddsNames, instance_names, inner_names, alias_names, names_if, names_at_sites};
 
-use crate::sites::owned_at;
 use ar_base::{BodyId, Memory, NameId, Place, UnitId};
 use ar_syntax::{Member, TypeForm};
-use class_table::{Body, Classes, Owned};
+use class_table::{Body, Classes, Owned, owned_at};
 use hierarchy::{Outline, UnitNode};
 use std::alloc::Global;
 use unit_walks::{Led, Walks};

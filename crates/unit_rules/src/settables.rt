@@ -14,10 +14,10 @@ ghost use Rattle.hierarchy.specs.Tie.{AreOutlines};
 ghost use Rattle.unit_rules.specs.Typing.{KnowsPlaces};
 ghost use Rattle.unit_rules.specs.Settables.{settable_of, variable_of, one_entry, entries_of, kept_at, Adds, AreSettables};
 
-use crate::{TypePlaces, is_flow, is_state, owned_at};
+use crate::{TypePlaces, is_flow, is_state};
 use ar_base::{BodyId, Memory, NameId, Place};
 use ar_syntax::{Member, Setting, TypeForm};
-use class_table::{Classes, Owned, TypeBody};
+use class_table::{Classes, Owned, TypeBody, owned_at};
 use hierarchy::Outline;
 use std::alloc::Global;
 use std::collections::HashMap;

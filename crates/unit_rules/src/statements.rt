@@ -13,11 +13,10 @@ ghost use Rattle.unit_walks.specs.Settling.{AreOutcomes};
 ghost use Rattle.unit_rules.specs.Statements.{WalkEnds, EndsIn};
 ghost use Rattle.unit_rules.specs.Naming.{statement_of, statement_found, EndsSo, SiteEndsSo, SitesEndSo, broken_so};
 
-use crate::sites::owned_at;
 use ar_base::{BodyId, NameId, Place, UnitId};
 use ar_syntax::{Member, Path};
 use class_table::earliest::earliest;
-use class_table::{Body, Classes, Owned};
+use class_table::{Body, Classes, Owned, owned_at};
 use hierarchy::Outline;
 use unit_walks::{Led, Walks};
 

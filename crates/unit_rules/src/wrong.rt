@@ -15,11 +15,11 @@ ghost use Rattle.unit_rules.specs.Wrong.{IsSetBefore, BreaksAt, BreaksIn, Breaks
 
 use crate::repeats::Targets;
 use crate::settables::Settables;
-use crate::sites::{owned_at, settings_of};
+use crate::sites::settings_of;
 use crate::targets::is_target;
 use ar_base::{Memory, Place, UnitId};
 use ar_syntax::Setting;
-use class_table::Classes;
+use class_table::{Classes, owned_at};
 use class_table::earliest::earliest;
 use hierarchy::Outline;
 use std::alloc::Global;

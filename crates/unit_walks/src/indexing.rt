@@ -6,7 +6,7 @@ ghost use Rattle.ar_base.specs.Lists.{Along, Stands};
 ghost use Rattle.ar_base.specs.Numbers.{NameId as Name};
 ghost use Rattle.ar_syntax.specs.declared.members.Member.{out-Member};
 ghost use Rattle.class_table.specs.Declaring.{Declared};
-ghost use Rattle.class_table.specs.Members.{names_of, names_of_form, named_at, owned_at};
+ghost use Rattle.class_table.specs.Members.{names_of, names_of_form, named_at, owned_at as declared_at};
 ghost use Rattle.class_table.specs.Tables.{IsBodyOf, IsNamedType, site_of};
 ghost use Rattle.class_table.specs.declared.tables.TypeBody.{TypeBody as Kind};
 ghost use Rattle.hierarchy.specs.Models.{RootedModel, IsKeptTable, sites_kept};
@@ -17,7 +17,7 @@ ghost use Rattle.unit_walks.specs.declared.forms.UnitName.{UnitName as Named};
 use crate::forms::{Forms, UnitForm, UnitName};
 use ar_base::{BodyId, Cap, Memory, NameId, Place};
 use ar_syntax::{Member, TypeForm};
-use class_table::{Body, Classes, Owned, TypeBody};
+use class_table::{Body, Classes, Owned, TypeBody, owned_at};
 use std::alloc::Global;
 use std::collections::HashMap;
 
@@ -76,17 +76,6 @@ fn instance_body(classes: &ClassBodies, form: TypeForm) -> Option<BodyId>
             None => None,
             Some(body) => *body,
         },
-    }
-}
-
-// The member at a place of a body.
-fn member_at(bodies: &[Body], site: (BodyId, u32)) -> Option<&Owned>
-    ensures { (d : Declared) → Along IsBodyOf bodies.now d.bodies
-        → option_copied result ≡ owned_at d (site_of site) }
-{
-    match bodies.get(site.0.n as usize) {
-        Some(body) => body.own.get(site.1 as usize),
-        None => None,
     }
 }
 
@@ -181,10 +170,10 @@ fn add_site<'a>(
 ) -> Result<(), Memory>
     ensures { (d : Declared) → AreClasses d classes.now → Along IsBodyOf bodies.now d.bodies
         → OnOk result (AddsNames (only_units
-        (names_of d (site_of site) (owned_at d (site_of site))))
+        (names_of d (site_of site) (declared_at d (site_of site))))
         list.old.items list.new.items) }
 {
-    match member_at(bodies, site) {
+    match owned_at(bodies, site) {
         None => Ok(()),
         Some(owned) => add_member(list, classes, owned, site),
     }

@@ -17,7 +17,7 @@ loop-place-preserved c = λ m units are rows.
     let s = item_stands nodes c.loop-place.place c.node-item.result l i in
     let a = along_back (parameters m units) nodes are.is_tree.parameters_are c.loop-place.place c.node-item.result s in
     let v = known_value (IsParameterValue m) (parameters m units) c.args.values.now rows c.loop-place.place a.0
-    c.known.result a.1 c.known.ensures in
+    c.value_at.result a.1 c.value_at.ensures in
     let one = one_here (parameters m units) c.loop-place.place a.0 a.1 in
     loop_next _ _ _ _ _ _ _ s (c.loop-place.invariant m units are rows)
     (thing_now m units (parameters m units) c.loop-place.place a.0 c.outside_parameter.result a.1

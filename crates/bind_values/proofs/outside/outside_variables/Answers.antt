@@ -16,8 +16,8 @@ loop-place-preserved c = λ m units are rows.
     let i = rw c.deref-node-items.ensures.value at c.node-item.is in
     let s = item_stands nodes c.loop-place.place c.node-item.result l i in
     let a = along_back (variables m units) nodes are.is_tree.variables_are c.loop-place.place c.node-item.result s in
-    let v = known_value (IsValue m) (variables m units) c.args.values.now rows c.loop-place.place a.0 c.known.result a.1
-    c.known.ensures in
+    let v = known_value (IsValue m) (variables m units) c.args.values.now rows c.loop-place.place a.0 c.value_at.result a.1
+    c.value_at.ensures in
     let one = one_here (variables m units) c.loop-place.place a.0 a.1 in
     loop_next _ _ _ _ _ _ _ s (c.loop-place.invariant m units are rows)
     (thing_now m units (variables m units) c.loop-place.place a.0 c.outside_variable.result a.1

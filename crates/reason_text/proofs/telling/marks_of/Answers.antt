@@ -8,8 +8,8 @@ loop-variable-init c = none_so_far c.args.count c.in_ok-marks.marks.items c.in_o
 pub loop-variable-preserved : goal.loop-variable-preserved
 loop-variable-preserved c =
     one_more c.args.count c.args.variables.now c.loop-variable.variable-index (record { n = 0; of = record {} })
-    c.loop-variable.marks.items c.set.new.marks.items c.loop-variable-test.true
-    c.loop-variable.invariant c.set.ensures
+    c.loop-variable.marks.items c.mark.new.marks.items c.loop-variable-test.true
+    c.loop-variable.invariant c.mark.ensures
 
 pub returns : goal.returns
 returns c = all_so_far c.args.count c.args.variables.now c.loop-variable.variable-index c.loop-variable.marks.items

@@ -10,10 +10,9 @@ ghost use Rattle.altarica_run.specs.Stages.{Ready, lists_cuts};
 ghost use Rattle.altarica_run.specs.Telling.{IsWritten, status_printed};
 ghost use Rattle.altarica_run.specs.Tells.{MayNeedMore, nodes_line, Tells};
 
-use crate::pieces::{put, put_number};
 use crate::status::Status;
 use crate::tabling::GateTable;
-use ar_io::{Sink, SinkFailed};
+use ar_io::{Sink, SinkFailed, write_number, write_text};
 use cut_text::laws::{
     conflicts_of_the_source, cuts_of_the_source, edges_of_forests, lines_of_the_source_replay,
 };
@@ -132,7 +131,7 @@ pub(crate) fn write_nodes<K: Sink>(
 fn put_nodes<K: Sink>(out: &mut K, nodes: u32) -> Result<(), SinkFailed>
     ensures { Writes (K.state out.old) (K.state out.new) (nodes_line nodes) result }
 {
-    put(out, "nodes: ")?;
-    put_number(out, nodes)?;
-    put(out, "\n")
+    write_text(out, "nodes: ")?;
+    write_number(out, nodes)?;
+    write_text(out, "\n")
 }

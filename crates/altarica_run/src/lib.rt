@@ -19,7 +19,6 @@ pub mod laws;
 mod loading;
 mod making;
 pub mod nodes;
-mod pieces;
 mod program;
 mod refusals;
 mod requesting;

@@ -11,9 +11,8 @@ ghost use Rattle.altarica_run.specs.Stages.{Ready};
 ghost use Rattle.altarica_run.specs.Telling.{IsWritten, status_printed};
 ghost use Rattle.altarica_run.specs.Tells.{make_lines, Tells};
 
-use crate::pieces::{put, put_wide};
 use crate::status::Status;
-use ar_io::{Sink, SinkFailed};
+use ar_io::{Sink, SinkFailed, write_text, write_wide};
 use cut_text::PrintFault;
 use gate_diagrams::{Drawn, Family};
 use gts_core::laws::lawful_systems;
@@ -74,7 +73,7 @@ fn put_line<K: Sink>(out: &mut K, named: &str, number: u128) -> Result<(), SinkF
     ensures { Writes (K.state out.old) (K.state out.new) (line (named.now ++ decimal number))
         result }
 {
-    put(out, named)?;
-    put_wide(out, number)?;
-    put(out, "\n")
+    write_text(out, named)?;
+    write_wide(out, number)?;
+    write_text(out, "\n")
 }

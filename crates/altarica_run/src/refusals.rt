@@ -5,10 +5,9 @@ ghost use Rattle.ar_base.specs.Texts.{line};
 ghost use Rattle.ar_io.specs.Writing.{Writes};
 ghost use Rattle.altarica_run.specs.Refusals.{count_text, place_text, line_of, status_of};
 
-use crate::pieces::{put, put_number};
 use crate::status::Status;
 use ar_base::{Count, Place, Text};
-use ar_io::{Sink, SinkFailed};
+use ar_io::{Sink, SinkFailed, write_number, write_text};
 
 /// A file of a job.
 #[derive(Clone, Copy)]
@@ -77,8 +76,8 @@ impl Refusal {
         ensures { Writes (K.state out.old) (K.state out.new) (line_of self.now) result }
     {
         match self {
-            Refusal::Usage => put(out, USAGE),
-            Refusal::NotRead(kind) => put(out, not_read_line(*kind)),
+            Refusal::Usage => write_text(out, USAGE),
+            Refusal::NotRead(kind) => write_text(out, not_read_line(*kind)),
             Refusal::Size(count) => put_size(out, *count),
             Refusal::Syntax(place) => put_syntax(out, *place),
             Refusal::Rule(rule, place) => put_rule(out, *rule, *place),
@@ -86,9 +85,9 @@ impl Refusal {
             Refusal::NoCut(number) => put_script_line(out, *number, " is no cut"),
             Refusal::NeedsWay(number) => put_script_line(out, *number, " needs a way"),
             Refusal::NoEvent(number) => put_script_line(out, *number, " names no event"),
-            Refusal::NoDropped => put(out, "script: no event\n"),
-            Refusal::NoObserver => put(out, "script: no observer\n"),
-            Refusal::NoValue => put(out, "script: no value\n"),
+            Refusal::NoDropped => write_text(out, "script: no event\n"),
+            Refusal::NoObserver => write_text(out, "script: no observer\n"),
+            Refusal::NoValue => write_text(out, "script: no value\n"),
             Refusal::Outside(rule, path) => put_outside(out, *rule, path.as_str()),
         }
     }
@@ -108,10 +107,10 @@ fn not_read_line(kind: FileKind) -> &'static str
 fn put_place<K: Sink>(out: &mut K, place: Place) -> Result<(), SinkFailed>
     ensures { Writes (K.state out.old) (K.state out.new) (line (place_text place)) result }
 {
-    put_number(out, place.line)?;
-    put(out, ":")?;
-    put_number(out, place.column)?;
-    put(out, "\n")
+    write_number(out, place.line)?;
+    write_text(out, ":")?;
+    write_number(out, place.column)?;
+    write_text(out, "\n")
 }
 
 // What is counted, as a line names it.
@@ -139,18 +138,18 @@ fn count_text(count: Count) -> &'static str
 fn put_size<K: Sink>(out: &mut K, count: Count) -> Result<(), SinkFailed>
     ensures { Writes (K.state out.old) (K.state out.new) (line_of (Refusal.Size count)) result }
 {
-    put(out, "size: ")?;
-    put(out, count_text(count))?;
-    put(out, " ")?;
-    put_number(out, count.limit())?;
-    put(out, "\n")
+    write_text(out, "size: ")?;
+    write_text(out, count_text(count))?;
+    write_text(out, " ")?;
+    write_number(out, count.limit())?;
+    write_text(out, "\n")
 }
 
 // Writes where the model has no reading.
 fn put_syntax<K: Sink>(out: &mut K, place: Place) -> Result<(), SinkFailed>
     ensures { Writes (K.state out.old) (K.state out.new) (line_of (Refusal.Syntax place)) result }
 {
-    put(out, "syntax: ")?;
+    write_text(out, "syntax: ")?;
     put_place(out, place)
 }
 
@@ -159,9 +158,9 @@ fn put_rule<K: Sink>(out: &mut K, rule: u8, place: Place) -> Result<(), SinkFail
     ensures { Writes (K.state out.old) (K.state out.new)
         (line_of (Refusal.Rule rule place)) result }
 {
-    put(out, "rule: L")?;
-    put_number(out, u32::from(rule))?;
-    put(out, " at ")?;
+    write_text(out, "rule: L")?;
+    write_number(out, u32::from(rule))?;
+    write_text(out, " at ")?;
     put_place(out, place)
 }
 
@@ -170,11 +169,11 @@ fn put_outside<K: Sink>(out: &mut K, rule: u8, path: &str) -> Result<(), SinkFai
     ensures { Writes (K.state out.old) (K.state out.new)
         (line_of (Refusal.Outside rule path.now)) result }
 {
-    put(out, "outside: S")?;
-    put_number(out, u32::from(rule))?;
-    put(out, " at ")?;
-    put(out, path)?;
-    put(out, "\n")
+    write_text(out, "outside: S")?;
+    write_number(out, u32::from(rule))?;
+    write_text(out, " at ")?;
+    write_text(out, path)?;
+    write_text(out, "\n")
 }
 
 // Writes what is wrong with a line of the script.
@@ -182,8 +181,8 @@ fn put_script_line<K: Sink>(out: &mut K, number: u32, wrong: &str) -> Result<(),
     ensures { Writes (K.state out.old) (K.state out.new)
         (line (codes "script: line " ++ (decimal number ++ wrong.now))) result }
 {
-    put(out, "script: line ")?;
-    put_number(out, number)?;
-    put(out, wrong)?;
-    put(out, "\n")
+    write_text(out, "script: line ")?;
+    write_number(out, number)?;
+    write_text(out, wrong)?;
+    write_text(out, "\n")
 }

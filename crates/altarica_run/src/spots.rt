@@ -10,7 +10,7 @@ use ar_base::{Memory, Text};
 use gts_core::GtsParts;
 use static_fragment::Spot;
 use std::alloc::Global;
-use text_pieces::pieces::{event_path, variable_path};
+use text_pieces::pieces::{event_path, observer_path, variable_path};
 
 /// The canonical path of what a broken rule is shown with; `main` for the whole model.
 pub fn path_of(alloc: Global, parts: &GtsParts, spot: Spot) -> Result<Text, Memory>
@@ -39,16 +39,6 @@ fn unit_path(parts: &GtsParts, n: u32) -> &str
 {
     match parts.units.get(n as usize) {
         Some(path) => path.as_str(),
-        None => "",
-    }
-}
-
-// The path of the observer of this number; empty where there is none.
-fn observer_path(parts: &GtsParts, n: u32) -> &str
-    ensures { result.now ≡ text_at (naming_of_parts parts.now).observers n }
-{
-    match parts.observers.get(n as usize) {
-        Some(observer) => observer.path.as_str(),
         None => "",
     }
 }

@@ -6,10 +6,9 @@ ghost use Rattle.altarica_run.specs.Refusals.{line_of, status_of};
 ghost use Rattle.altarica_run.specs.Telling.{IsWritten, status_written, status_replayed, status_printed, status_explained};
 ghost use Rattle.altarica_run.specs.Tells.{counts_line};
 
-use crate::pieces::{put, put_count};
 use crate::refusals::Refusal;
 use crate::status::Status;
-use ar_io::{Sink, SinkFailed};
+use ar_io::{Sink, SinkFailed, write_count, write_text};
 use cut_text::PrintFault;
 use gts_core::Gts;
 use replayer::{End, ReplayFault};
@@ -34,15 +33,15 @@ pub fn write_counts<K: Sink>(system: &Gts, out: &mut K) -> Result<(), SinkFailed
     put_many(out, " variables ", parts.variables.len())?;
     put_many(out, " events ", parts.events.len())?;
     put_many(out, " observers ", parts.observers.len())?;
-    put(out, "\n")
+    write_text(out, "\n")
 }
 
 // Writes how many there are of what is named.
 fn put_many<K: Sink>(out: &mut K, named: &str, count: usize) -> Result<(), SinkFailed>
     ensures { Writes (K.state out.old) (K.state out.new) (named.now ++ decimal count) result }
 {
-    put(out, named)?;
-    put_count(out, count)
+    write_text(out, named)?;
+    write_count(out, count)
 }
 
 /// The status of a text that was written, or was not.

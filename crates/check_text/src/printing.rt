@@ -16,14 +16,13 @@ ghost use Rattle.check_text.specs.Printed.{listed_in, all_listed, missing_one, m
 ghost use Rattle.check_text.specs.Texts.{last_line};
 
 use ar_base::{EventId, WayId};
-use ar_io::{Sink, SinkFailed};
+use ar_io::{Sink, SinkFailed, write_number, write_text};
 use cut_check::{LineSets, Verdict, line_sets};
 use cut_text::{PrintFault, event_ways, write_set};
 use gts_core::{Chain, Gts};
 use min_cuts::Lister;
 use mode_trees::Forest;
 use std::alloc::Global;
-use text_pieces::pieces::{number, put};
 
 /// Writes the text of a check of a list of cuts: for each line of the list its verdict; then
 /// `missing ` and the labels of each cut of the lister that no line has, in its order; and last `yes`
@@ -83,9 +82,9 @@ fn answer<K: Sink>(out: &mut K, right: bool) -> Result<(), SinkFailed>
     ensures { Writes (K.state out.old) (K.state out.new) (last_line right) result }
 {
     if right {
-        put(out, "yes\n")
+        write_text(out, "yes\n")
     } else {
-        put(out, "no\n")
+        write_text(out, "no\n")
     }
 }
 
@@ -109,11 +108,11 @@ fn verdict_lines<K: Sink>(
 fn verdict_line<K: Sink>(out: &mut K, line: u32, verdict: Verdict) -> Result<(), SinkFailed>
     ensures { Writes (K.state out.old) (K.state out.new) (verdict_line line verdict) result }
 {
-    put(out, "line ")?;
-    number(out, line)?;
-    put(out, " ")?;
+    write_text(out, "line ")?;
+    write_number(out, line)?;
+    write_text(out, " ")?;
     said(out, verdict)?;
-    put(out, "\n")
+    write_text(out, "\n")
 }
 
 // What is said of a line.
@@ -121,8 +120,8 @@ fn said<K: Sink>(out: &mut K, verdict: Verdict) -> Result<(), SinkFailed>
     ensures { Writes (K.state out.old) (K.state out.new) (verdict_text verdict) result }
 {
     match verdict {
-        Verdict::Good => put(out, "good"),
-        Verdict::Fails => put(out, "fails"),
+        Verdict::Good => write_text(out, "good"),
+        Verdict::Fails => write_text(out, "fails"),
         Verdict::Holds(line) => held(out, line),
     }
 }
@@ -132,8 +131,8 @@ fn held<K: Sink>(out: &mut K, line: u32) -> Result<(), SinkFailed>
     ensures { Writes (K.state out.old) (K.state out.new) (verdict_text (Verdict.Holds line))
         result }
 {
-    put(out, "holds line ")?;
-    number(out, line)
+    write_text(out, "holds line ")?;
+    write_number(out, line)
 }
 
 // The lines of those of the sets that are left that are not listed; whether there is none of them.
@@ -181,10 +180,10 @@ fn missing_line<K: Sink>(
         → OnOk result (whole.new ≡ (whole.old && listed_in lines (numbers events.now))) }
 {
     if sets.has(events) {
-        return put(out, "");
+        return write_text(out, "");
     }
     *whole = false;
-    put(out, "missing ")?;
+    write_text(out, "missing ")?;
     write_set(out, gts, ways, events)?;
-    put(out, "\n")
+    write_text(out, "\n")
 }

@@ -6,10 +6,10 @@ ghost use Rattle.mode_trees.specs.Ways.{HasOwnWay, HaveOwnWays, OwnTheirWays};
 ghost use Rattle.cut_text.specs.ForestTexts.{events_line};
 ghost use Rattle.cut_text.specs.ForestPrinted.{edge_line, edge_lines, tree_line, trees_text, edge_count, forest_text};
 
-use ar_io::{Sink, SinkFailed};
-use gts_core::{Gts, GtsParts};
+use ar_io::{Sink, SinkFailed, write_count, write_text};
+use gts_core::{Gts, GtsParts, write_value};
 use mode_trees::{Edge, Forest, ModeTree};
-use text_pieces::pieces::{count, put, value, variable_path};
+use text_pieces::pieces::variable_path;
 use text_pieces::print_label;
 
 /// Writes the text of a forest of the system: for each tree `tree PATH at VALUE` with its variable and its initial mode, then
@@ -40,9 +40,9 @@ fn edges_in(trees: &[ModeTree]) -> usize
 fn events<K: Sink>(out: &mut K, n: usize) -> Result<(), SinkFailed>
     ensures { Writes (K.state out.old) (K.state out.new) (events_line n) result }
 {
-    put(out, "events ")?;
-    count(out, n)?;
-    put(out, "\n")
+    write_text(out, "events ")?;
+    write_count(out, n)?;
+    write_text(out, "\n")
 }
 
 // The lines of these trees.
@@ -70,11 +70,11 @@ fn tree<K: Sink>(out: &mut K, gts: &Gts, tree: &ModeTree) -> Result<(), SinkFail
 fn root<K: Sink>(out: &mut K, parts: &GtsParts, tree: &ModeTree) -> Result<(), SinkFailed>
     ensures { Writes (K.state out.old) (K.state out.new) (tree_line parts.now tree.now) result }
 {
-    put(out, "tree ")?;
-    put(out, variable_path(parts, tree.variable.n))?;
-    put(out, " at ")?;
-    value(out, parts, tree.first)?;
-    put(out, "\n")
+    write_text(out, "tree ")?;
+    write_text(out, variable_path(parts, tree.variable.n))?;
+    write_text(out, " at ")?;
+    write_value(out, parts, tree.first)?;
+    write_text(out, "\n")
 }
 
 // The lines of these edges.
@@ -94,11 +94,11 @@ fn edge_line<K: Sink>(out: &mut K, gts: &Gts, edge: Edge) -> Result<(), SinkFail
     ensures { Writes (K.state out.old) (K.state out.new) (edge_line gts.now edge) result }
 {
     let parts = gts.parts();
-    put(out, "  ")?;
-    value(out, parts, edge.from)?;
-    put(out, " ")?;
+    write_text(out, "  ")?;
+    write_value(out, parts, edge.from)?;
+    write_text(out, " ")?;
     print_label(gts, edge.way, out)?;
-    put(out, " ")?;
-    value(out, parts, edge.to)?;
-    put(out, "\n")
+    write_text(out, " ")?;
+    write_value(out, parts, edge.to)?;
+    write_text(out, "\n")
 }

@@ -24,14 +24,12 @@ use crate::conflicts::fault_met;
 use crate::faults::PrintFault;
 use crate::tables::event_ways;
 use ar_base::{EventId, WayId};
-use ar_io::{Sink, SinkFailed};
+use ar_io::{Sink, SinkFailed, write_text, write_wide};
 use flow_propagate::FlowFault;
 use gts_core::Gts;
-use itoa::Buffer;
 use min_cuts::Lister;
 use mode_trees::Forest;
 use std::alloc::Global;
-use text_pieces::pieces::put;
 use text_pieces::{print_flow_fault, print_label};
 
 /// Writes the text of a listing of cuts: for each set of the lister, in its order, a line `{a, b}`
@@ -119,7 +117,7 @@ fn set_line<K: Sink>(
         (line (braced (texts_at gts.now ways.now (numbers events.now)))) result }
 {
     write_set(out, gts, ways, events)?;
-    put(out, "\n")
+    write_text(out, "\n")
 }
 
 // The line of a conflict.
@@ -136,28 +134,20 @@ fn fault_line<K: Sink>(
         (fault_line (braced (texts_at gts.now ways.now (numbers events.now)))
         (flow_fault_text (naming_of_parts gts.now) (fault_of fault))) result }
 {
-    put(out, "fault: ")?;
+    write_text(out, "fault: ")?;
     write_set(out, gts, ways, events)?;
-    put(out, ": ")?;
+    write_text(out, ": ")?;
     print_flow_fault(gts, fault, out)?;
-    put(out, "\n")
+    write_text(out, "\n")
 }
 
 // How many sets there are.
 fn print_count<K: Sink>(out: &mut K, count: u128) -> Result<(), SinkFailed>
     ensures { Writes (K.state out.old) (K.state out.new) (count_line count) result }
 {
-    put(out, "count ")?;
-    number(out, count)?;
-    put(out, "\n")
-}
-
-// A number.
-fn number<K: Sink>(out: &mut K, n: u128) -> Result<(), SinkFailed>
-    ensures { Writes (K.state out.old) (K.state out.new) (decimal n) result }
-{
-    let mut buffer = Buffer::new();
-    put(out, buffer.format(n))
+    write_text(out, "count ")?;
+    write_wide(out, count)?;
+    write_text(out, "\n")
 }
 
 /// Writes the labels of a set in braces, as they stand in it: `{a, b}`.
@@ -171,9 +161,9 @@ pub fn write_set<K: Sink>(
     ensures { Writes (K.state out.old) (K.state out.new)
         (braced (texts_at gts.now ways.now (numbers events.now))) result }
 {
-    put(out, "{")?;
+    write_text(out, "{")?;
     labels(out, gts, ways, events)?;
-    put(out, "}")
+    write_text(out, "}")
 }
 
 // The labels of these events, with commas between them.
@@ -222,7 +212,7 @@ fn next_label<K: Sink>(
     ensures { Writes (K.state out.old) (K.state out.new)
         (codes ", " ++ way_label gts.now (way_at ways.now event.n)) result }
 {
-    put(out, ", ")?;
+    write_text(out, ", ")?;
     label(out, gts, ways, event)
 }
 

@@ -6,10 +6,10 @@ ghost use Rattle.std.specs.List.{concat};
 ghost use Rattle.ar_base.specs.Texts.{separated};
 ghost use Rattle.gts_core.specs.Printed.{expr_text, summed, case_form, cases_form};
 
-use crate::pieces::{either, path_at, put, relation_text, sign, value};
+use crate::pieces::{either, relation_text, sign, variable_path, write_value};
 use crate::system::GtsParts;
 use ar_base::VarId;
-use ar_io::{Sink, SinkFailed};
+use ar_io::{Sink, SinkFailed, write_number, write_text};
 use typed_expr::Expr;
 
 // An expression.
@@ -22,28 +22,28 @@ pub(crate) fn expression<K: Sink>(
     ensures { Writes (K.state out.old) (K.state out.new) (expr_text parts.now expr.now) result }
 {
     match expr {
-        Expr::Constant(v) => value(out, parts, *v),
-        Expr::Variable(x) => put(out, path_at(parts, x.n)),
+        Expr::Constant(v) => write_value(out, parts, *v),
+        Expr::Variable(x) => write_text(out, variable_path(parts, x.n)),
         Expr::Not(a) => opposite(out, parts, a),
         Expr::All(es) => listed(out, parts, "(", es, " and "),
         Expr::Any(es) => listed(out, parts, "(", es, " or "),
         Expr::Compare(relation, a, b) => {
-            put(out, "(")?;
+            write_text(out, "(")?;
             expression(out, parts, a)?;
-            put(out, relation_text(*relation))?;
+            write_text(out, relation_text(*relation))?;
             expression(out, parts, b)?;
-            put(out, ")")
+            write_text(out, ")")
         }
         Expr::Sum(terms) => sum(out, parts, terms),
         Expr::Product(es) => listed(out, parts, "(", es, " * "),
         Expr::Least(es) => listed(out, parts, "min(", es, ", "),
         Expr::Greatest(es) => listed(out, parts, "max(", es, ", "),
-        Expr::Count(es) => listed(out, parts, "count(", es, ", "),
+        Expr::Count(es) => listed(out, parts, "write_number(", es, ", "),
         Expr::Choose(choices, other) => {
             let one = choices.len() == 1;
             chosen(out, parts, one, choices)?;
             expression(out, parts, other)?;
-            put(out, either(one, ")", "}"))
+            write_text(out, either(one, ")", "}"))
         }
     }
 }
@@ -54,9 +54,9 @@ fn opposite<K: Sink>(out: &mut K, parts: &GtsParts, a: &Expr<VarId>) -> Result<(
     ensures { Writes (K.state out.old) (K.state out.new)
         (codes "(not " ++ expr_text parts.now a.now ++ codes ")") result }
 {
-    put(out, "(not ")?;
+    write_text(out, "(not ")?;
     expression(out, parts, a)?;
-    put(out, ")")
+    write_text(out, ")")
 }
 
 // The cases of a choice between what stands round them, in the form for one or for another number
@@ -72,9 +72,9 @@ fn chosen<K: Sink>(
         (cases_form one (map (λ c. (expr_text parts.now c.0, expr_text parts.now c.1)) choices.now))
         result }
 {
-    put(out, either(one, "", "switch {"))?;
+    write_text(out, either(one, "", "switch {"))?;
     cases(out, parts, one, choices)?;
-    put(out, either(one, "", "default: "))
+    write_text(out, either(one, "", "default: "))
 }
 
 // Expressions in brackets, with the separator between each two of them.
@@ -90,9 +90,9 @@ fn listed<K: Sink>(
         (opening.now ++ separated true separator.now (map (expr_text parts.now) es.now)
         ++ codes ")") result }
 {
-    put(out, opening)?;
+    write_text(out, opening)?;
     operands(out, parts, es, separator)?;
-    put(out, ")")
+    write_text(out, ")")
 }
 
 // Expressions with the separator between each two of them.
@@ -108,7 +108,7 @@ fn operands<K: Sink>(
 {
     let mut first = true;
     for e in es {
-        put(out, either(first, "", separator))?;
+        write_text(out, either(first, "", separator))?;
         expression(out, parts, e)?;
         first = false;
     }
@@ -126,9 +126,9 @@ fn sum<K: Sink>(
         (codes "(" ++ summed true (map (λ p. (p.0, expr_text parts.now p.1)) all.now) ++ codes ")")
         result }
 {
-    put(out, "(")?;
+    write_text(out, "(")?;
     terms(out, parts, all)?;
-    put(out, ")")
+    write_text(out, ")")
 }
 
 // The terms of a sum, each with what stands before it.
@@ -143,7 +143,7 @@ fn terms<K: Sink>(
 {
     let mut first = true;
     for (plus, e) in all {
-        put(out, sign(first, *plus))?;
+        write_text(out, sign(first, *plus))?;
         expression(out, parts, e)?;
         first = false;
     }
@@ -163,11 +163,11 @@ fn cases<K: Sink>(
         choices.now))) result }
 {
     for (test, value) in choices {
-        put(out, either(one, "(if ", "case "))?;
+        write_text(out, either(one, "(if ", "case "))?;
         expression(out, parts, test)?;
-        put(out, either(one, " then ", ": "))?;
+        write_text(out, either(one, " then ", ": "))?;
         expression(out, parts, value)?;
-        put(out, either(one, " else ", " "))?;
+        write_text(out, either(one, " else ", " "))?;
     }
     Ok(())
 }

@@ -20,6 +20,7 @@ pub use bound::{Act, Chain, DeclaredEvent, DeclaredWay};
 pub use copies::{copy_domain, copy_expression};
 pub use gts::Gts;
 pub use names::{add_named, add_tests};
+pub use pieces::{event_path, variable_path, write_value};
 pub use readings::{Assigned, are_met, is_met, value_at, value_in};
 pub use rows::{Domains, domains_of};
 pub use system::{Assign, Event, GtsParts, Observer, Valuation, Variable, Way, WayBody};

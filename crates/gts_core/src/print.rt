@@ -9,10 +9,10 @@ ghost use Rattle.ar_base.specs.Texts.{text_at, separated};
 ghost use Rattle.gts_core.specs.Printed.{expr_text, domain_text, flat_variable_line, condition_text, set_text, action_text, event_path, label_of, label_found, part_text, body_text, way_line, line_found, event_lines, assert_line, assert_lines, flat_observer_line, flat_text};
 
 use crate::expressions::expression;
-use crate::pieces::{count, either, path_at, put, text_at, value, whole};
+use crate::pieces::{either, event_path, variable_path, write_value};
 use crate::system::{Assign, Event, GtsParts, Observer, Variable, Way, WayBody};
 use ar_base::{VarId, WayId};
-use ar_io::{Sink, SinkFailed};
+use ar_io::{Sink, SinkFailed, text_at, write_number, write_signed, write_text};
 use domains::Domain;
 use typed_expr::Expr;
 
@@ -42,13 +42,13 @@ fn variables<K: Sink>(out: &mut K, parts: &GtsParts, all: &[Variable]) -> Result
 fn variable<K: Sink>(out: &mut K, parts: &GtsParts, x: &Variable) -> Result<(), SinkFailed>
     ensures { Writes (K.state out.old) (K.state out.new) (flat_variable_line parts.now x.now) result }
 {
-    put(out, either(x.is_state, "state ", "flow "))?;
-    put(out, x.path.as_str())?;
-    put(out, " ")?;
+    write_text(out, either(x.is_state, "state ", "flow "))?;
+    write_text(out, x.path.as_str())?;
+    write_text(out, " ")?;
     domain(out, parts, &x.domain)?;
-    put(out, " = ")?;
-    value(out, parts, x.value)?;
-    put(out, "\n")
+    write_text(out, " = ")?;
+    write_value(out, parts, x.value)?;
+    write_text(out, "\n")
 }
 
 // A domain.
@@ -56,7 +56,7 @@ fn domain<K: Sink>(out: &mut K, parts: &GtsParts, range: &Domain) -> Result<(), 
     ensures { Writes (K.state out.old) (K.state out.new) (domain_text parts.now range.now) result }
 {
     match range {
-        Domain::Boolean => put(out, "Boolean"),
+        Domain::Boolean => write_text(out, "Boolean"),
         Domain::Symbols(symbols) => symbol_set(out, parts, symbols),
         Domain::Range(low, high) => interval(out, *low, *high),
     }
@@ -68,9 +68,9 @@ fn symbol_set<K: Sink>(out: &mut K, parts: &GtsParts, symbols: &[u32]) -> Result
         (codes "{" ++ separated true (codes ", ")
         (map (text_at parts.now.symbols.items) symbols.now) ++ codes "}") result }
 {
-    put(out, "{")?;
+    write_text(out, "{")?;
     symbol_names(out, parts, symbols)?;
-    put(out, "}")
+    write_text(out, "}")
 }
 
 // A range of whole numbers.
@@ -78,11 +78,11 @@ fn interval<K: Sink>(out: &mut K, low: i64, high: i64) -> Result<(), SinkFailed>
     ensures { Writes (K.state out.old) (K.state out.new)
         (codes "[" ++ signed_decimal low ++ codes ", " ++ signed_decimal high ++ codes "]") result }
 {
-    put(out, "[")?;
-    whole(out, low)?;
-    put(out, ", ")?;
-    whole(out, high)?;
-    put(out, "]")
+    write_text(out, "[")?;
+    write_signed(out, low)?;
+    write_text(out, ", ")?;
+    write_signed(out, high)?;
+    write_text(out, "]")
 }
 
 // The names of symbols.
@@ -92,8 +92,8 @@ fn symbol_names<K: Sink>(out: &mut K, parts: &GtsParts, symbols: &[u32]) -> Resu
 {
     let mut first = true;
     for symbol in symbols {
-        put(out, either(first, "", ", "))?;
-        put(out, text_at(&parts.symbols, *symbol))?;
+        write_text(out, either(first, "", ", "))?;
+        write_text(out, text_at(&parts.symbols, *symbol))?;
         first = false;
     }
     Ok(())
@@ -134,7 +134,7 @@ fn way_at<K: Sink>(out: &mut K, parts: &GtsParts, hidden: bool, n: u32) -> Resul
 {
     match parts.ways.get(n as usize) {
         Some(way) => way_line(out, parts, hidden, way),
-        None => put(out, ""),
+        None => write_text(out, ""),
     }
 }
 
@@ -148,31 +148,21 @@ fn way_line<K: Sink>(
     ensures { Writes (K.state out.old) (K.state out.new) (way_line parts.now hidden way.now)
         result }
 {
-    put(out, either(hidden, "hidden ", ""))?;
-    put(out, "way ")?;
+    write_text(out, either(hidden, "hidden ", ""))?;
+    write_text(out, "way ")?;
     label(out, parts, way)?;
-    put(out, ": ")?;
+    write_text(out, ": ")?;
     body(out, parts, &way.body)?;
-    put(out, "\n")
+    write_text(out, "\n")
 }
 
 // The label of a way.
 fn label<K: Sink>(out: &mut K, parts: &GtsParts, way: &Way) -> Result<(), SinkFailed>
     ensures { Writes (K.state out.old) (K.state out.new) (label_of parts.now way.now) result }
 {
-    put(out, event_path(parts, way.event.n))?;
-    put(out, "#")?;
-    count(out, way.number)
-}
-
-// The path of the event of this number.
-fn event_path(parts: &GtsParts, n: u32) -> &str
-    ensures { result.now ≡ event_path (slice_get parts.now.events.items n) }
-{
-    match parts.events.get(n as usize) {
-        Some(event) => event.path.as_str(),
-        None => "",
-    }
+    write_text(out, event_path(parts, way.event.n))?;
+    write_text(out, "#")?;
+    write_number(out, way.number)
 }
 
 // What a way does.
@@ -197,7 +187,7 @@ fn transition<K: Sink>(
         result }
 {
     expression(out, parts, guard)?;
-    put(out, " -> ")?;
+    write_text(out, " -> ")?;
     action(out, parts, assigns)
 }
 
@@ -212,7 +202,7 @@ fn way_parts<K: Sink>(
 {
     let mut first = true;
     for part in all {
-        put(out, either(first, "", " & "))?;
+        write_text(out, either(first, "", " & "))?;
         way_part(out, parts, part)?;
         first = false;
     }
@@ -223,7 +213,7 @@ fn way_parts<K: Sink>(
 fn way_part<K: Sink>(out: &mut K, parts: &GtsParts, part: &(bool, WayId)) -> Result<(), SinkFailed>
     ensures { Writes (K.state out.old) (K.state out.new) (part_text parts.now part.now) result }
 {
-    put(out, either(part.0, "!", "?"))?;
+    write_text(out, either(part.0, "!", "?"))?;
     label_at(out, parts, part.1.n)
 }
 
@@ -234,7 +224,7 @@ fn label_at<K: Sink>(out: &mut K, parts: &GtsParts, n: u32) -> Result<(), SinkFa
 {
     match parts.ways.get(n as usize) {
         Some(way) => label(out, parts, way),
-        None => put(out, ""),
+        None => write_text(out, ""),
     }
 }
 
@@ -244,7 +234,7 @@ fn action<K: Sink>(out: &mut K, parts: &GtsParts, assigns: &[Assign]) -> Result<
         result }
 {
     if assigns.is_empty() {
-        put(out, "skip")
+        write_text(out, "skip")
     } else {
         sets(out, parts, assigns)
     }
@@ -257,7 +247,7 @@ fn sets<K: Sink>(out: &mut K, parts: &GtsParts, assigns: &[Assign]) -> Result<()
 {
     let mut first = true;
     for assign in assigns {
-        put(out, either(first, "", ", "))?;
+        write_text(out, either(first, "", ", "))?;
         set(out, parts, assign)?;
         first = false;
     }
@@ -268,8 +258,8 @@ fn sets<K: Sink>(out: &mut K, parts: &GtsParts, assigns: &[Assign]) -> Result<()
 fn set<K: Sink>(out: &mut K, parts: &GtsParts, assign: &Assign) -> Result<(), SinkFailed>
     ensures { Writes (K.state out.old) (K.state out.new) (set_text parts.now assign.now) result }
 {
-    put(out, path_at(parts, assign.target.n))?;
-    put(out, " := ")?;
+    write_text(out, variable_path(parts, assign.target.n))?;
+    write_text(out, " := ")?;
     expression(out, parts, &assign.value)?;
     conditions(out, parts, &assign.when)
 }
@@ -298,7 +288,7 @@ fn when<K: Sink>(
     ensures { Writes (K.state out.old) (K.state out.new) (condition_text parts.now condition.now)
         result }
 {
-    put(out, either(condition.1, " when ", " unless "))?;
+    write_text(out, either(condition.1, " when ", " unless "))?;
     expression(out, parts, &condition.0)
 }
 
@@ -325,15 +315,15 @@ fn assert_line<K: Sink>(
     ensures { Writes (K.state out.old) (K.state out.new) (assert_line parts.now n assign.now)
         result }
 {
-    put(out, "assert ")?;
-    count(out, n)?;
-    put(out, " at ")?;
-    count(out, assign.at.line)?;
-    put(out, ":")?;
-    count(out, assign.at.column)?;
-    put(out, " ")?;
+    write_text(out, "assert ")?;
+    write_number(out, n)?;
+    write_text(out, " at ")?;
+    write_number(out, assign.at.line)?;
+    write_text(out, ":")?;
+    write_number(out, assign.at.column)?;
+    write_text(out, " ")?;
     set(out, parts, assign)?;
-    put(out, "\n")
+    write_text(out, "\n")
 }
 
 // The lines for the observers.
@@ -351,9 +341,9 @@ fn observers<K: Sink>(out: &mut K, parts: &GtsParts, all: &[Observer]) -> Result
 fn observer<K: Sink>(out: &mut K, parts: &GtsParts, o: &Observer) -> Result<(), SinkFailed>
     ensures { Writes (K.state out.old) (K.state out.new) (flat_observer_line parts.now o.now) result }
 {
-    put(out, "observer ")?;
-    put(out, o.path.as_str())?;
-    put(out, " = ")?;
+    write_text(out, "observer ")?;
+    write_text(out, o.path.as_str())?;
+    write_text(out, " = ")?;
     expression(out, parts, &o.value)?;
-    put(out, "\n")
+    write_text(out, "\n")
 }

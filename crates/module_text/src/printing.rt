@@ -16,13 +16,12 @@ ghost use Rattle.module_text.specs.Texts.{module_line, part_line, unit_mark, lin
 use crate::arranging::{Group, Line, Piece, groups_of, lines_of_forms};
 use crate::places::edge_places;
 use ar_base::UnitId;
-use ar_io::{Sink, SinkFailed};
+use ar_io::{Sink, SinkFailed, write_count, write_text};
 use cut_text::PrintFault;
 use gate_modules::Short;
 use gts_core::{Gts, GtsParts};
 use mode_trees::Forest;
 use std::alloc::Global;
-use text_pieces::pieces::{count, put};
 use text_pieces::print_label;
 
 /// Writes the text of cuts in short: for each module `module PATH` and then each of its sets on a line of two spaces and
@@ -74,9 +73,9 @@ fn head<K: Sink>(out: &mut K, parts: &GtsParts, unit: UnitId) -> Result<(), Sink
     ensures { Writes (K.state out.old) (K.state out.new)
         (module_line (text_at parts.now.units.items unit.n)) result }
 {
-    put(out, "module ")?;
-    put(out, unit_path(parts, unit))?;
-    put(out, "\n")
+    write_text(out, "module ")?;
+    write_text(out, unit_path(parts, unit))?;
+    write_text(out, "\n")
 }
 
 // The lines of a module's sets.
@@ -96,9 +95,9 @@ fn part<K: Sink>(out: &mut K, gts: &Gts, line: &Line) -> Result<(), SinkFailed>
     ensures { Writes (K.state out.old) (K.state out.new) (part_line (line_text gts.now line.now))
         result }
 {
-    put(out, "  ")?;
+    write_text(out, "  ")?;
     between_braces(out, gts, line)?;
-    put(out, "\n")
+    write_text(out, "\n")
 }
 
 // The lines of short forms.
@@ -119,16 +118,16 @@ fn form<K: Sink>(out: &mut K, gts: &Gts, form: &Line) -> Result<(), SinkFailed>
         result }
 {
     between_braces(out, gts, form)?;
-    put(out, "\n")
+    write_text(out, "\n")
 }
 
 // How many short forms there are.
 fn last<K: Sink>(out: &mut K, n: usize) -> Result<(), SinkFailed>
     ensures { Writes (K.state out.old) (K.state out.new) (lines_line n) result }
 {
-    put(out, "lines ")?;
-    count(out, n)?;
-    put(out, "\n")
+    write_text(out, "lines ")?;
+    write_count(out, n)?;
+    write_text(out, "\n")
 }
 
 // What stands in a line, in braces.
@@ -136,9 +135,9 @@ fn between_braces<K: Sink>(out: &mut K, gts: &Gts, line: &Line) -> Result<(), Si
     requires { AreInside gts.now line.now.pieces.items }
     ensures { Writes (K.state out.old) (K.state out.new) (line_text gts.now line.now) result }
 {
-    put(out, "{")?;
+    write_text(out, "{")?;
     pieces(out, gts, &line.pieces)?;
-    put(out, "}")
+    write_text(out, "}")
 }
 
 // Pieces, with commas between them.
@@ -172,7 +171,7 @@ fn next_piece<K: Sink>(out: &mut K, gts: &Gts, next: Piece) -> Result<(), SinkFa
     ensures { Writes (K.state out.old) (K.state out.new) (codes ", " ++ piece_text gts.now next)
         result }
 {
-    put(out, ", ")?;
+    write_text(out, ", ")?;
     piece(out, gts, next)
 }
 
@@ -192,9 +191,9 @@ fn mark<K: Sink>(out: &mut K, parts: &GtsParts, unit: UnitId) -> Result<(), Sink
     ensures { Writes (K.state out.old) (K.state out.new)
         (unit_mark (text_at parts.now.units.items unit.n)) result }
 {
-    put(out, "[")?;
-    put(out, unit_path(parts, unit))?;
-    put(out, "]")
+    write_text(out, "[")?;
+    write_text(out, unit_path(parts, unit))?;
+    write_text(out, "]")
 }
 
 // The path of the unit; empty where there is none of this number.

@@ -9,10 +9,10 @@ ghost use Rattle.reason_text.specs.Answers.{told_at, told_lines, told_line, Have
 ghost use Rattle.reason_text.specs.Texts.{paths_of, path_of, from_text, added_text, why_text, reason_line};
 
 use ar_base::{AssignId, VarId};
-use ar_io::{Sink, SinkFailed};
+use ar_io::{Sink, SinkFailed, write_count, write_number, write_text};
 use flow_reasons::Reason;
-use gts_core::GtsParts;
-use text_pieces::pieces::{count, number, place, put, value, variable_path};
+use gts_core::{GtsParts, write_value};
+use text_pieces::pieces::{place, variable_path};
 
 // The lines of those of these reasons whose flows are told.
 pub(crate) fn told_lines<K: Sink>(
@@ -65,11 +65,11 @@ fn reason_line<K: Sink>(out: &mut K, parts: &GtsParts, reason: &Reason) -> Resul
     ensures { Writes (K.state out.old) (K.state out.new)
         (reason_line (naming_of_parts parts.now) (reason_of reason.now)) result }
 {
-    put(out, variable_path(parts, reason.flow.n))?;
-    put(out, " = ")?;
-    value(out, parts, reason.value)?;
+    write_text(out, variable_path(parts, reason.flow.n))?;
+    write_text(out, " = ")?;
+    write_value(out, parts, reason.value)?;
     why(out, parts, reason)?;
-    put(out, "\n")
+    write_text(out, "\n")
 }
 
 // Why a flow has its value.
@@ -80,7 +80,7 @@ fn why<K: Sink>(out: &mut K, parts: &GtsParts, reason: &Reason) -> Result<(), Si
         (numbers_of reason.now.rests_on.items)) result }
 {
     match reason.by {
-        None => put(out, " by reset"),
+        None => write_text(out, " by reset"),
         Some(by) => added(out, parts, by, reason.round, &reason.rests_on),
     }
 }
@@ -97,11 +97,11 @@ fn added<K: Sink>(
     ensures { Writes (K.state out.old) (K.state out.new)
         (added_text (naming_of_parts parts.now) by.n round (numbers_of rests_on.now)) result }
 {
-    put(out, " round ")?;
-    number(out, round)?;
-    put(out, " assignment ")?;
-    count(out, by.n as usize + 1)?;
-    put(out, " at ")?;
+    write_text(out, " round ")?;
+    write_number(out, round)?;
+    write_text(out, " assignment ")?;
+    write_count(out, by.n as usize + 1)?;
+    write_text(out, " at ")?;
     place(out, parts.assigns[by.n as usize].at)?;
     from(out, parts, rests_on)
 }
@@ -114,8 +114,8 @@ fn from<K: Sink>(out: &mut K, parts: &GtsParts, variables: &[VarId]) -> Result<(
     let Some((first, others)) = variables.split_first() else {
         return Ok(());
     };
-    put(out, " from ")?;
-    put(out, variable_path(parts, first.n))?;
+    write_text(out, " from ")?;
+    write_text(out, variable_path(parts, first.n))?;
     more_paths(out, parts, others)
 }
 
@@ -136,6 +136,6 @@ fn next_path<K: Sink>(out: &mut K, parts: &GtsParts, variable: VarId) -> Result<
     ensures { Writes (K.state out.old) (K.state out.new)
         (codes ", " ++ path_of (naming_of_parts parts.now) variable.n) result }
 {
-    put(out, ", ")?;
-    put(out, variable_path(parts, variable.n))
+    write_text(out, ", ")?;
+    write_text(out, variable_path(parts, variable.n))
 }

@@ -9,10 +9,9 @@ ghost use Rattle.replayer.specs.Listing.{AreAnswers, AreInside, HaveInside};
 ghost use Rattle.replayer.specs.Printing.{way_lines, event_lines, events_lines};
 
 use ar_base::WayId;
-use ar_io::{Sink, SinkFailed};
+use ar_io::{Sink, SinkFailed, write_text};
 use gts_core::{Event, Gts};
 use stepper::Stepper;
-use text_pieces::pieces::put;
 use text_pieces::print_label;
 
 /// Writes the labels of the visible ways that can fire, by event and way.
@@ -113,7 +112,7 @@ fn label_line<K: Sink>(out: &mut K, gts: &Gts, way: WayId) -> Result<(), SinkFai
     ensures { Writes (K.state out.old) (K.state out.new)
         (line (codes "  " ++ way_label gts.now way.n)) result }
 {
-    put(out, "  ")?;
+    write_text(out, "  ")?;
     print_label(gts, way, out)?;
-    put(out, "\n")
+    write_text(out, "\n")
 }

@@ -15,10 +15,10 @@ ghost use Rattle.replayer.specs.Observing.{AreTouched};
 ghost use Rattle.replayer.specs.Printing.{values_text, change_text, observer_lines, observer_value, texts_of, changes_text};
 
 use ar_base::VarId;
-use ar_io::{Sink, SinkFailed};
+use ar_io::{Sink, SinkFailed, write_text};
 use domains::Value;
-use gts_core::{GtsParts, Observer, value_in};
-use text_pieces::pieces::{put, value, variable_path};
+use gts_core::{GtsParts, Observer, value_at, value_in, write_value};
+use text_pieces::pieces::{observer_path, variable_path};
 
 /// Writes the lines of all variables and observers.
 pub(crate) fn all_lines<K: Sink>(
@@ -86,19 +86,9 @@ fn variable_changes<K: Sink>(
         (numbers changed.now)) result }
 {
     for variable in changed {
-        variable_line(out, parts, variable.n, value_at(new, variable.n))?;
+        variable_line(out, parts, variable.n, value_at(new, variable.n as usize))?;
     }
     Ok(())
-}
-
-// The value of the variable of this number.
-fn value_at(values: &[Value], n: u32) -> Value
-    ensures { result ≡ value_at values.now n }
-{
-    match values.get(n as usize) {
-        Some(value) => *value,
-        None => Value::Truth(false),
-    }
 }
 
 // The line of a variable.
@@ -106,9 +96,9 @@ fn variable_line<K: Sink>(out: &mut K, parts: &GtsParts, n: u32, v: Value) -> Re
     ensures { Writes (K.state out.old) (K.state out.new)
         (variable_line (naming_of_parts parts.now) n v) result }
 {
-    put(out, "  ")?;
+    write_text(out, "  ")?;
     named_value(out, parts, variable_path(parts, n), v)?;
-    put(out, "\n")
+    write_text(out, "\n")
 }
 
 // A name and its value.
@@ -121,9 +111,9 @@ fn named_value<K: Sink>(
     ensures { Writes (K.state out.old) (K.state out.new)
         (name.now ++ (codes " = " ++ value_text parts.now.symbols.items v)) result }
 {
-    put(out, name)?;
-    put(out, " = ")?;
-    value(out, parts, v)
+    write_text(out, name)?;
+    write_text(out, " = ")?;
+    write_value(out, parts, v)
 }
 
 // The lines of all observers.
@@ -179,7 +169,7 @@ fn observer_change<K: Sink>(
     let was = observer_value(parts, old, n);
     let is = observer_value(parts, new, n);
     if is_same(was, is) {
-        put(out, "")
+        write_text(out, "")
     } else {
         observer_line(out, parts, n, is)
     }
@@ -200,19 +190,9 @@ fn observer_line<K: Sink>(out: &mut K, parts: &GtsParts, n: u32, v: Value) -> Re
     ensures { Writes (K.state out.old) (K.state out.new)
         (observer_line (naming_of_parts parts.now) n v) result }
 {
-    put(out, "  observer ")?;
+    write_text(out, "  observer ")?;
     named_value(out, parts, observer_path(parts, n), v)?;
-    put(out, "\n")
-}
-
-// The path of the observer of this number.
-fn observer_path(parts: &GtsParts, n: u32) -> &str
-    ensures { result.now ≡ text_at (naming_of_parts parts.now).observers n }
-{
-    match parts.observers.get(n as usize) {
-        Some(observer) => observer.path.as_str(),
-        None => "",
-    }
+    write_text(out, "\n")
 }
 
 // Whether two values are the same.

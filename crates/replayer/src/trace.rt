@@ -18,12 +18,11 @@ ghost use Rattle.text_pieces.specs.Faults.{step_text, IsFaultInRange};
 use crate::enabled::enabled_lines;
 use crate::shown::{all_lines, changed_lines};
 use ar_base::{VarId, WayId};
-use ar_io::{Sink, SinkFailed};
+use ar_io::{Sink, SinkFailed, write_count, write_text};
 use domains::Value;
 use flow_propagate::FlowFault;
 use gts_core::Gts;
 use stepper::{StepFault, Stepper};
-use text_pieces::pieces::{count, put};
 use text_pieces::{print_flow_fault, print_label, print_step_fault};
 
 /// Writes the lines of a start.
@@ -32,7 +31,7 @@ pub(crate) fn started<K: Sink>(out: &mut K, gts: &Gts, values: &[Value]) -> Resu
     ensures { Writes (K.state out.old) (K.state out.new)
         (line (codes "start") ++ values_text gts.now values.now) result }
 {
-    put(out, "start\n")?;
+    write_text(out, "start\n")?;
     all_lines(out, gts.parts(), values)
 }
 
@@ -47,9 +46,9 @@ pub(crate) fn not_started<K: Sink>(
         (line (codes "fault: start: " ++ flow_fault_text (naming_of_parts gts.now)
         (fault_of fault))) result }
 {
-    put(out, "fault: start: ")?;
+    write_text(out, "fault: start: ")?;
     print_flow_fault(gts, fault, out)?;
-    put(out, "\n")
+    write_text(out, "\n")
 }
 
 /// Writes the lines of a way that was fired.
@@ -71,9 +70,9 @@ pub(crate) fn fired<K: Sink>(
         (line (codes "fire " ++ way_label gts.now way.n) ++ changes_text gts.now old.now new.now)
         result }
 {
-    put(out, "fire ")?;
+    write_text(out, "fire ")?;
     print_label(gts, way, out)?;
-    put(out, "\n")?;
+    write_text(out, "\n")?;
     changed_lines(out, gts.parts(), old, new, changed, touched)
 }
 
@@ -90,11 +89,11 @@ pub(crate) fn not_fired<K: Sink>(
         (line (codes "fault: " ++ (way_label gts.now way.n
         ++ (codes ": " ++ step_text gts.now fault)))) result }
 {
-    put(out, "fault: ")?;
+    write_text(out, "fault: ")?;
     print_label(gts, way, out)?;
-    put(out, ": ")?;
+    write_text(out, ": ")?;
     print_step_fault(gts, fault, out)?;
-    put(out, "\n")
+    write_text(out, "\n")
 }
 
 /// Writes the lines of a step that was taken back.
@@ -113,7 +112,7 @@ pub(crate) fn gone_back<K: Sink>(
     ensures { Writes (K.state out.old) (K.state out.new)
         (line (codes "back") ++ changes_text gts.now old.now new.now) result }
 {
-    put(out, "back\n")?;
+    write_text(out, "back\n")?;
     changed_lines(out, gts.parts(), old, new, changed, touched)
 }
 
@@ -122,7 +121,7 @@ pub(crate) fn no_step<K: Sink>(out: &mut K) -> Result<(), SinkFailed>
     ensures { Writes (K.state out.old) (K.state out.new) (line (codes "fault: back: no step"))
         result }
 {
-    put(out, "fault: back: no step\n")
+    write_text(out, "fault: back: no step\n")
 }
 
 /// Writes the lines of all variables and observers.
@@ -131,7 +130,7 @@ pub(crate) fn shown<K: Sink>(out: &mut K, gts: &Gts, values: &[Value]) -> Result
     ensures { Writes (K.state out.old) (K.state out.new)
         (line (codes "show") ++ values_text gts.now values.now) result }
 {
-    put(out, "show\n")?;
+    write_text(out, "show\n")?;
     all_lines(out, gts.parts(), values)
 }
 
@@ -142,7 +141,7 @@ pub(crate) fn listed<K: Sink>(out: &mut K, gts: &Gts, stepper: &Stepper) -> Resu
         → Writes (K.state out.old) (K.state out.new)
         (line (codes "enabled") ++ events_lines gts.now can gts.now.events.items) result }
 {
-    put(out, "enabled\n")?;
+    write_text(out, "enabled\n")?;
     enabled_lines(out, gts, stepper)
 }
 
@@ -151,7 +150,7 @@ pub(crate) fn ended<K: Sink>(out: &mut K, steps: usize) -> Result<(), SinkFailed
     ensures { Writes (K.state out.old) (K.state out.new) (line (codes "end " ++ decimal steps))
         result }
 {
-    put(out, "end ")?;
-    count(out, steps)?;
-    put(out, "\n")
+    write_text(out, "end ")?;
+    write_count(out, steps)?;
+    write_text(out, "\n")
 }

@@ -10,8 +10,8 @@ ghost use Rattle.gts_core.specs.Sound.{IsSound};
 ghost use Rattle.gts_flatten.specs.Flat.{naming_of_parts};
 ghost use Rattle.text_pieces.specs.Faults.{step_text, IsInRange, IsFaultInRange};
 
-use crate::pieces::{number, place, put, variable_path};
-use ar_io::{Sink, SinkFailed};
+use crate::pieces::{place, variable_path};
+use ar_io::{Sink, SinkFailed, write_number, write_text};
 use flow_propagate::FlowFault;
 use gts_core::{Gts, GtsParts};
 use stepper::StepFault;
@@ -35,9 +35,9 @@ fn about_flow<K: Sink>(out: &mut K, parts: &GtsParts, n: u32, what: &str) -> Res
     ensures { Writes (K.state out.old) (K.state out.new)
         (codes "flow " ++ (text_at (naming_of_parts parts.now).variables n ++ what.now)) result }
 {
-    put(out, "flow ")?;
-    put(out, variable_path(parts, n))?;
-    put(out, what)
+    write_text(out, "flow ")?;
+    write_text(out, variable_path(parts, n))?;
+    write_text(out, what)
 }
 
 // That an assignment does not hold.
@@ -47,11 +47,11 @@ fn about_assignment<K: Sink>(out: &mut K, parts: &GtsParts, n: u32) -> Result<()
     ensures { Writes (K.state out.old) (K.state out.new)
         (flow_fault_text (naming_of_parts parts.now) (Broken n)) result }
 {
-    put(out, "assignment ")?;
-    number(out, n + 1)?;
-    put(out, " at ")?;
+    write_text(out, "assignment ")?;
+    write_number(out, n + 1)?;
+    write_text(out, " at ")?;
     place(out, parts.assigns[n as usize].at)?;
-    put(out, " does not hold")
+    write_text(out, " does not hold")
 }
 
 /// Writes what a fault of a step is, without a line feed, and nothing for want of memory. Takes no memory.
@@ -60,11 +60,11 @@ pub fn print_step_fault<K: Sink>(gts: &Gts, fault: StepFault, out: &mut K) -> Re
     ensures { Writes (K.state out.old) (K.state out.new) (step_text gts.now fault) result }
 {
     match fault {
-        StepFault::NotEnabled => put(out, "not enabled"),
+        StepFault::NotEnabled => write_text(out, "not enabled"),
         StepFault::Clash(x) => clash(out, gts, x.n),
         StepFault::Range(x) => outside(out, gts, x.n),
         StepFault::Flow(flow) => print_flow_fault(gts, flow, out),
-        StepFault::Memory => put(out, ""),
+        StepFault::Memory => write_text(out, ""),
     }
 }
 
@@ -73,8 +73,8 @@ fn clash<K: Sink>(out: &mut K, gts: &Gts, n: u32) -> Result<(), SinkFailed>
     ensures { Writes (K.state out.old) (K.state out.new)
         (codes "two values for " ++ text_at (naming_of_parts gts.now).variables n) result }
 {
-    put(out, "two values for ")?;
-    put(out, variable_path(gts.parts(), n))
+    write_text(out, "two values for ")?;
+    write_text(out, variable_path(gts.parts(), n))
 }
 
 // That a variable receives a value outside its domain.
@@ -82,6 +82,6 @@ fn outside<K: Sink>(out: &mut K, gts: &Gts, n: u32) -> Result<(), SinkFailed>
     ensures { Writes (K.state out.old) (K.state out.new)
         (text_at (naming_of_parts gts.now).variables n ++ codes " outside its domain") result }
 {
-    put(out, variable_path(gts.parts(), n))?;
-    put(out, " outside its domain")
+    write_text(out, variable_path(gts.parts(), n))?;
+    write_text(out, " outside its domain")
 }

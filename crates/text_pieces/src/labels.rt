@@ -7,9 +7,9 @@ ghost use Rattle.ar_meaning.specs.TraceText.{way_text};
 ghost use Rattle.gts_flatten.specs.Flat.{naming_of_parts};
 ghost use Rattle.text_pieces.specs.WayLabels.{way_label, ways_found};
 
-use crate::pieces::{event_path, number, put, way_count};
+use crate::pieces::{event_path, way_count};
 use ar_base::WayId;
-use ar_io::{Sink, SinkFailed};
+use ar_io::{Sink, SinkFailed, write_number, write_text};
 use gts_core::{Gts, GtsParts};
 
 /// Writes the canonical label of a way: the path of its event, and `#k` behind it where the event has other ways. Takes
@@ -32,7 +32,7 @@ fn label<K: Sink>(out: &mut K, parts: &GtsParts, event: u32, k: u32) -> Result<(
 {
     let path = event_path(parts, event);
     if way_count(parts, event) == 1 {
-        put(out, path)
+        write_text(out, path)
     } else {
         numbered(out, path, k)
     }
@@ -43,7 +43,7 @@ fn numbered<K: Sink>(out: &mut K, path: &str, k: u32) -> Result<(), SinkFailed>
     ensures { Writes (K.state out.old) (K.state out.new) (path.now ++ (codes "#" ++ decimal k))
         result }
 {
-    put(out, path)?;
-    put(out, "#")?;
-    number(out, k)
+    write_text(out, path)?;
+    write_text(out, "#")?;
+    write_number(out, k)
 }

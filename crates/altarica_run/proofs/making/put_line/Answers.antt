@@ -3,18 +3,18 @@ use Rattle.ar_io.proofs.Writing.{writes_exit, writes_on, writes_front, writes_as
 use Rattle.altarica_run.proofs.LineLemmas.{line_two}
 use Rattle.altarica_run.proofs.making.put_line.Goals as goal
 
-pub returns-in_err-put : goal.returns-in_err-put
-returns-in_err-put g c =
+pub returns-in_err-write_text : goal.returns-in_err-write_text
+returns-in_err-write_text g c =
     writes_exit _ _ c.from_residual.ensures.1
-    (writes_as _ _ (line_two c.args.named.now (decimal c.args.number)) (writes_front _ _ c.in_err-put.ensures))
+    (writes_as _ _ (line_two c.args.named.now (decimal c.args.number)) (writes_front _ _ c.in_err-write_text.ensures))
 
-pub returns-in_err-put_wide : goal.returns-in_err-put_wide
-returns-in_err-put_wide g c =
-    writes_exit _ _ c.from_residual-in_err-put_wide.ensures.1
+pub returns-in_err-write_wide : goal.returns-in_err-write_wide
+returns-in_err-write_wide g c =
+    writes_exit _ _ c.from_residual-in_err-write_wide.ensures.1
     (writes_as _ _ (line_two c.args.named.now (decimal c.args.number))
-    (writes_on c.in_ok-put.ensures (writes_front _ _ c.in_err-put_wide.ensures)))
+    (writes_on c.in_ok-write_text.ensures (writes_front _ _ c.in_err-write_wide.ensures)))
 
 pub returns : goal.returns
 returns g c =
     writes_as _ _ (line_two c.args.named.now (decimal c.args.number))
-    (writes_on c.in_ok-put.ensures (writes_on c.in_ok-put_wide.ensures c.put-2.ensures))
+    (writes_on c.in_ok-write_text.ensures (writes_on c.in_ok-write_wide.ensures c.write_text-2.ensures))

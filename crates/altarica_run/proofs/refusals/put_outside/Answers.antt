@@ -12,32 +12,32 @@ shown n rule path e =
     line_four (codes "outside: S") (decimal n) (codes " at ") path
     ∙ ap (λ (k : ℕ). line (codes "outside: S" ++ (decimal k ++ (codes " at " ++ path)))) e
 
-pub returns-in_err-put : goal.returns-in_err-put
-returns-in_err-put g c =
+pub returns-in_err-write_text : goal.returns-in_err-write_text
+returns-in_err-write_text g c =
     writes_exit _ _ c.from_residual.ensures.1
-    (writes_front _ _ c.in_err-put.ensures)
+    (writes_front _ _ c.in_err-write_text.ensures)
 
-pub returns-in_err-put_number : goal.returns-in_err-put_number
-returns-in_err-put_number g c =
-    writes_exit _ _ c.from_residual-in_err-put_number.ensures.1
+pub returns-in_err-write_number : goal.returns-in_err-write_number
+returns-in_err-write_number g c =
+    writes_exit _ _ c.from_residual-in_err-write_number.ensures.1
     (writes_as _ _ (shown _ _ c.args.path.now c.from.ensures)
-    (writes_on c.in_ok-put.ensures (writes_front _ _ c.in_err-put_number.ensures)))
+    (writes_on c.in_ok-write_text.ensures (writes_front _ _ c.in_err-write_number.ensures)))
 
-pub returns-in_err-put-2 : goal.returns-in_err-put-2
-returns-in_err-put-2 g c =
-    writes_exit _ _ c.from_residual-in_err-put-2.ensures.1
+pub returns-in_err-write_text-2 : goal.returns-in_err-write_text-2
+returns-in_err-write_text-2 g c =
+    writes_exit _ _ c.from_residual-in_err-write_text-2.ensures.1
     (writes_as _ _ (shown _ _ c.args.path.now c.from.ensures)
-    (writes_on c.in_ok-put.ensures (writes_on c.in_ok-put_number.ensures (writes_front _ _ c.in_err-put-2.ensures))))
+    (writes_on c.in_ok-write_text.ensures (writes_on c.in_ok-write_number.ensures (writes_front _ _ c.in_err-write_text-2.ensures))))
 
-pub returns-in_err-put-3 : goal.returns-in_err-put-3
-returns-in_err-put-3 g c =
-    writes_exit _ _ c.from_residual-in_err-put-3.ensures.1
+pub returns-in_err-write_text-3 : goal.returns-in_err-write_text-3
+returns-in_err-write_text-3 g c =
+    writes_exit _ _ c.from_residual-in_err-write_text-3.ensures.1
     (writes_as _ _ (shown _ _ c.args.path.now c.from.ensures)
-    (writes_on c.in_ok-put.ensures (writes_on c.in_ok-put_number.ensures
-    (writes_on c.in_ok-put-2.ensures (writes_front _ _ c.in_err-put-3.ensures)))))
+    (writes_on c.in_ok-write_text.ensures (writes_on c.in_ok-write_number.ensures
+    (writes_on c.in_ok-write_text-2.ensures (writes_front _ _ c.in_err-write_text-3.ensures)))))
 
 pub returns : goal.returns
 returns g c =
     writes_as _ _ (shown _ _ c.args.path.now c.from.ensures)
-    (writes_on c.in_ok-put.ensures (writes_on c.in_ok-put_number.ensures
-    (writes_on c.in_ok-put-2.ensures (writes_on c.in_ok-put-3.ensures c.put-4.ensures))))
+    (writes_on c.in_ok-write_text.ensures (writes_on c.in_ok-write_number.ensures
+    (writes_on c.in_ok-write_text-2.ensures (writes_on c.in_ok-write_text-3.ensures c.write_text-4.ensures))))

@@ -63,4 +63,4 @@ returns g c =
     let observers : c.len-4.result ≡ length c.parts-parts.result.now.observers.items = search rules in
     writes_as _ _ (parts_line c.parts-parts.ensures.parts _ _ _ _ units variables events observers)
     (writes_on c.in_ok-put_many.ensures (writes_on c.in_ok-put_many-2.ensures
-    (writes_on c.in_ok-put_many-3.ensures (writes_on c.in_ok-put_many-4.ensures c.put.ensures))))
+    (writes_on c.in_ok-put_many-3.ensures (writes_on c.in_ok-put_many-4.ensures c.write_text.ensures))))

@@ -20,19 +20,19 @@ expression-returns-in-Sum g t c =
     c.deref-in-Sum.ensures.value
     ∙ sum_text c.args.parts.now c.args.expr.now c.in-Sum.terms c.in-Sum.is) c.sum.ensures
 
-pub opposite-returns-in_err-put : goal.opposite-returns-in_err-put
-opposite-returns-in_err-put g t c =
+pub opposite-returns-in_err-write_text : goal.opposite-returns-in_err-write_text
+opposite-returns-in_err-write_text g t c =
     writes_exit _ _ c.from_residual.ensures.1
-    (writes_front _ _ c.in_err-put.ensures)
+    (writes_front _ _ c.in_err-write_text.ensures)
 
 pub opposite-returns-in_err-expression : goal.opposite-returns-in_err-expression
 opposite-returns-in_err-expression g t c =
     writes_exit _ _ c.from_residual-in_err-expression.ensures.1
-    (writes_front _ _ (writes_on c.in_ok-put.ensures c.in_err-expression.ensures))
+    (writes_front _ _ (writes_on c.in_ok-write_text.ensures c.in_err-expression.ensures))
 
 pub opposite-returns : goal.opposite-returns
 opposite-returns g t c =
-    writes_on (writes_on c.in_ok-put.ensures c.in_ok-expression.ensures) c.put-2.ensures
+    writes_on (writes_on c.in_ok-write_text.ensures c.in_ok-expression.ensures) c.write_text-2.ensures
 
 pub expression-returns-in-All : goal.expression-returns-in-All
 expression-returns-in-All g t c =
@@ -70,12 +70,12 @@ expression-returns-in-Count g t c =
     (map (expr_text c.args.parts.now) es) ++ codes ")") c.deref-in-Count.ensures.value
     ∙ count_text c.args.parts.now c.args.expr.now c.in-Count.es c.in-Count.is) c.listed-in-Count.ensures
 
-pub expression-returns-in_err-put-in-Compare : goal.expression-returns-in_err-put-in-Compare
-expression-returns-in_err-put-in-Compare g t c =
+pub expression-returns-in_err-write_text-in-Compare : goal.expression-returns-in_err-write_text-in-Compare
+expression-returns-in_err-write_text-in-Compare g t c =
     writes_exit _ _ c.from_residual.ensures.1
     (writes_as _ _ (compare_text c.args.parts.now c.args.expr.now c.in-Compare.relation c.in-Compare.a c.in-Compare.b
     c.in-Compare.is)
-    (writes_front _ _ c.in_err-put-in-Compare.ensures))
+    (writes_front _ _ c.in_err-write_text-in-Compare.ensures))
 
 pub expression-returns-in_err-expression-in-Compare : goal.expression-returns-in_err-expression-in-Compare
 expression-returns-in_err-expression-in-Compare g t c =
@@ -83,20 +83,20 @@ expression-returns-in_err-expression-in-Compare g t c =
     (writes_as _ _ (compare_text c.args.parts.now c.args.expr.now c.in-Compare.relation c.in-Compare.a c.in-Compare.b
     c.in-Compare.is)
     (writes_front _ _ (writes_front _ _ (writes_front _ _
-    (writes_on c.in_ok-put-in-Compare.ensures
+    (writes_on c.in_ok-write_text-in-Compare.ensures
     (writes_as _ _ (ap (expr_text c.args.parts.now) c.deref-in-Compare.ensures)
     c.in_err-expression-in-Compare.ensures))))))
 
-pub expression-returns-in_err-put-in-Compare-2 : goal.expression-returns-in_err-put-in-Compare-2
-expression-returns-in_err-put-in-Compare-2 g t c =
-    writes_exit _ _ c.from_residual-in_err-put-in-Compare-2.ensures.1
+pub expression-returns-in_err-write_text-in-Compare-2 : goal.expression-returns-in_err-write_text-in-Compare-2
+expression-returns-in_err-write_text-in-Compare-2 g t c =
+    writes_exit _ _ c.from_residual-in_err-write_text-in-Compare-2.ensures.1
     (writes_as _ _ (compare_text c.args.parts.now c.args.expr.now c.in-Compare.relation c.in-Compare.a c.in-Compare.b
     c.in-Compare.is)
     (writes_front _ _ (writes_front _ _ (writes_on
-    (writes_on c.in_ok-put-in-Compare.ensures
+    (writes_on c.in_ok-write_text-in-Compare.ensures
     (writes_as _ _ (ap (expr_text c.args.parts.now) c.deref-in-Compare.ensures)
     c.in_ok-expression-in-Compare.ensures))
-    (writes_as _ _ c.relation_text.ensures c.in_err-put-in-Compare-2.ensures)))))
+    (writes_as _ _ c.relation_text.ensures c.in_err-write_text-in-Compare-2.ensures)))))
 
 pub expression-returns-in_err-expression-in-Compare-2 : goal.expression-returns-in_err-expression-in-Compare-2
 expression-returns-in_err-expression-in-Compare-2 g t c =
@@ -104,10 +104,10 @@ expression-returns-in_err-expression-in-Compare-2 g t c =
     (writes_as _ _ (compare_text c.args.parts.now c.args.expr.now c.in-Compare.relation c.in-Compare.a c.in-Compare.b
     c.in-Compare.is)
     (writes_front _ _ (writes_on (writes_on
-    (writes_on c.in_ok-put-in-Compare.ensures
+    (writes_on c.in_ok-write_text-in-Compare.ensures
     (writes_as _ _ (ap (expr_text c.args.parts.now) c.deref-in-Compare.ensures)
     c.in_ok-expression-in-Compare.ensures))
-    (writes_as _ _ c.relation_text.ensures c.in_ok-put-in-Compare-2.ensures))
+    (writes_as _ _ c.relation_text.ensures c.in_ok-write_text-in-Compare-2.ensures))
     (writes_as _ _ (ap (expr_text c.args.parts.now) c.deref-in-Compare-2.ensures)
     c.in_err-expression-in-Compare-2.ensures))))
 
@@ -115,12 +115,12 @@ pub expression-returns-in_ok-expression-in-Compare-2 : goal.expression-returns-i
 expression-returns-in_ok-expression-in-Compare-2 g t c =
     writes_as _ _ (compare_text c.args.parts.now c.args.expr.now c.in-Compare.relation c.in-Compare.a c.in-Compare.b
     c.in-Compare.is)
-    (writes_on (writes_on (writes_on (writes_on c.in_ok-put-in-Compare.ensures
+    (writes_on (writes_on (writes_on (writes_on c.in_ok-write_text-in-Compare.ensures
     (writes_as _ _ (ap (expr_text c.args.parts.now) c.deref-in-Compare.ensures)
     c.in_ok-expression-in-Compare.ensures))
-    (writes_as _ _ c.relation_text.ensures c.in_ok-put-in-Compare-2.ensures))
+    (writes_as _ _ c.relation_text.ensures c.in_ok-write_text-in-Compare-2.ensures))
     (writes_as _ _ (ap (expr_text c.args.parts.now) c.deref-in-Compare-2.ensures)
-    c.in_ok-expression-in-Compare-2.ensures)) c.put-in-Compare-3.ensures)
+    c.in_ok-expression-in-Compare-2.ensures)) c.write_text-in-Compare-3.ensures)
 
 pub expression-returns-in_err-chosen-in-Choose : goal.expression-returns-in_err-chosen-in-Choose
 expression-returns-in_err-chosen-in-Choose g t c =
@@ -153,61 +153,61 @@ expression-returns-in_ok-expression-in-Choose g t c =
     (ap (λ (cs : List (Expr VarId × Expr VarId)). cases_form (nat_eq c.len-one.result 1)
     (map (texts c.args.parts.now) cs)) c.deref-in-Choose.ensures.value) c.in_ok-chosen-in-Choose.ensures)
     (writes_as _ _ (ap (expr_text c.args.parts.now) c.deref-in-Choose-2.ensures)
-    c.in_ok-expression-in-Choose.ensures)) (writes_as _ _ c.either.ensures c.put-in-Choose.ensures))
+    c.in_ok-expression-in-Choose.ensures)) (writes_as _ _ c.either.ensures c.write_text-in-Choose.ensures))
 
-pub chosen-returns-in_err-put : goal.chosen-returns-in_err-put
-chosen-returns-in_err-put g t c =
+pub chosen-returns-in_err-write_text : goal.chosen-returns-in_err-write_text
+chosen-returns-in_err-write_text g t c =
     writes_exit _ _ c.from_residual.ensures.1
-    (writes_front _ _ (writes_front _ _ (writes_as _ _ c.either.ensures c.in_err-put.ensures)))
+    (writes_front _ _ (writes_front _ _ (writes_as _ _ c.either.ensures c.in_err-write_text.ensures)))
 
 pub chosen-returns-in_err-cases : goal.chosen-returns-in_err-cases
 chosen-returns-in_err-cases g t c =
     writes_exit _ _ c.from_residual-in_err-cases.ensures.1
-    (writes_front _ _ (writes_on (writes_as _ _ c.either.ensures c.in_ok-put.ensures) c.in_err-cases.ensures))
+    (writes_front _ _ (writes_on (writes_as _ _ c.either.ensures c.in_ok-write_text.ensures) c.in_err-cases.ensures))
 
 pub chosen-returns : goal.chosen-returns
 chosen-returns g t c =
-    writes_on (writes_on (writes_as _ _ c.either.ensures c.in_ok-put.ensures) c.in_ok-cases.ensures)
-    (writes_as _ _ c.either-2.ensures c.put-2.ensures)
+    writes_on (writes_on (writes_as _ _ c.either.ensures c.in_ok-write_text.ensures) c.in_ok-cases.ensures)
+    (writes_as _ _ c.either-2.ensures c.write_text-2.ensures)
 
-pub listed-returns-in_err-put : goal.listed-returns-in_err-put
-listed-returns-in_err-put g t c =
+pub listed-returns-in_err-write_text : goal.listed-returns-in_err-write_text
+listed-returns-in_err-write_text g t c =
     writes_exit _ _ c.from_residual.ensures.1
-    (writes_front _ _ (writes_front _ _ c.in_err-put.ensures))
+    (writes_front _ _ (writes_front _ _ c.in_err-write_text.ensures))
 
 pub listed-returns-in_err-operands : goal.listed-returns-in_err-operands
 listed-returns-in_err-operands g t c =
     writes_exit _ _ c.from_residual-in_err-operands.ensures.1
-    (writes_front _ _ (writes_on c.in_ok-put.ensures c.in_err-operands.ensures))
+    (writes_front _ _ (writes_on c.in_ok-write_text.ensures c.in_err-operands.ensures))
 
 pub listed-returns : goal.listed-returns
 listed-returns g t c =
-    writes_on (writes_on c.in_ok-put.ensures c.in_ok-operands.ensures) c.put-2.ensures
+    writes_on (writes_on c.in_ok-write_text.ensures c.in_ok-operands.ensures) c.write_text-2.ensures
 
-pub sum-returns-in_err-put : goal.sum-returns-in_err-put
-sum-returns-in_err-put g t c =
+pub sum-returns-in_err-write_text : goal.sum-returns-in_err-write_text
+sum-returns-in_err-write_text g t c =
     writes_exit _ _ c.from_residual.ensures.1
-    (writes_front _ _ c.in_err-put.ensures)
+    (writes_front _ _ c.in_err-write_text.ensures)
 
 pub sum-returns-in_err-terms : goal.sum-returns-in_err-terms
 sum-returns-in_err-terms g t c =
     writes_exit _ _ c.from_residual-in_err-terms.ensures.1
-    (writes_front _ _ (writes_on c.in_ok-put.ensures c.in_err-terms.ensures))
+    (writes_front _ _ (writes_on c.in_ok-write_text.ensures c.in_err-terms.ensures))
 
 pub sum-returns : goal.sum-returns
 sum-returns g t c =
-    writes_on (writes_on c.in_ok-put.ensures c.in_ok-terms.ensures) c.put-2.ensures
+    writes_on (writes_on c.in_ok-write_text.ensures c.in_ok-terms.ensures) c.write_text-2.ensures
 
 pub cases-loop-test-init : goal.cases-loop-test-init
 cases-loop-test-init g t c = leaves_all _ _
 
-pub cases-returns-in_err-put : goal.cases-returns-in_err-put
-cases-returns-in_err-put g t c =
+pub cases-returns-in_err-write_text : goal.cases-returns-in_err-write_text
+cases-returns-in_err-write_text g t c =
     writes_exit _ _ c.from_residual.ensures.1
     (leaves_front _ _ c.loop-test.invariant
     (writes_as _ _ (case_text c.args.one _ _)
     (writes_front _ _ (writes_front _ _ (writes_front _ _
-    (writes_front _ _ (writes_as _ _ c.either.ensures c.in_err-put.ensures))))))
+    (writes_front _ _ (writes_as _ _ c.either.ensures c.in_err-write_text.ensures))))))
     (next_item (λ (xs : List (Expr VarId × Expr VarId)). concat
     (map (case_form c.args.one) (map (λ (d : Expr VarId × Expr VarId).
     (expr_text c.args.parts.now d.0, expr_text c.args.parts.now d.1)) xs))) c.args.choices.now
@@ -219,20 +219,20 @@ cases-returns-in_err-expression g t c =
     (leaves_front _ _ c.loop-test.invariant
     (writes_as _ _ (case_text c.args.one _ _)
     (writes_front _ _ (writes_front _ _ (writes_front _ _
-    (writes_on (writes_as _ _ c.either.ensures c.in_ok-put.ensures) c.in_err-expression.ensures)))))
+    (writes_on (writes_as _ _ c.either.ensures c.in_ok-write_text.ensures) c.in_err-expression.ensures)))))
     (next_item (λ (xs : List (Expr VarId × Expr VarId)). concat
     (map (case_form c.args.one) (map (λ (d : Expr VarId × Expr VarId).
     (expr_text c.args.parts.now d.0, expr_text c.args.parts.now d.1)) xs))) c.args.choices.now
     c.loop-test.test-index c.loop-test-item.result c.loop-test-test.true c.loop-test-item.is))
 
-pub cases-returns-in_err-put-2 : goal.cases-returns-in_err-put-2
-cases-returns-in_err-put-2 g t c =
-    writes_exit _ _ c.from_residual-in_err-put-2.ensures.1
+pub cases-returns-in_err-write_text-2 : goal.cases-returns-in_err-write_text-2
+cases-returns-in_err-write_text-2 g t c =
+    writes_exit _ _ c.from_residual-in_err-write_text-2.ensures.1
     (leaves_front _ _ c.loop-test.invariant
     (writes_as _ _ (case_text c.args.one _ _)
     (writes_front _ _ (writes_front _ _ (writes_on
-    (writes_on (writes_as _ _ c.either.ensures c.in_ok-put.ensures) c.in_ok-expression.ensures)
-    (writes_as _ _ c.either-in-loop-test.ensures c.in_err-put-2.ensures)))))
+    (writes_on (writes_as _ _ c.either.ensures c.in_ok-write_text.ensures) c.in_ok-expression.ensures)
+    (writes_as _ _ c.either-in-loop-test.ensures c.in_err-write_text-2.ensures)))))
     (next_item (λ (xs : List (Expr VarId × Expr VarId)). concat
     (map (case_form c.args.one) (map (λ (d : Expr VarId × Expr VarId).
     (expr_text c.args.parts.now d.0, expr_text c.args.parts.now d.1)) xs))) c.args.choices.now
@@ -244,21 +244,21 @@ cases-returns-in_err-expression-2 g t c =
     (leaves_front _ _ c.loop-test.invariant
     (writes_as _ _ (case_text c.args.one _ _)
     (writes_front _ _ (writes_on (writes_on
-    (writes_on (writes_as _ _ c.either.ensures c.in_ok-put.ensures) c.in_ok-expression.ensures)
-    (writes_as _ _ c.either-in-loop-test.ensures c.in_ok-put-2.ensures)) c.in_err-expression-2.ensures)))
+    (writes_on (writes_as _ _ c.either.ensures c.in_ok-write_text.ensures) c.in_ok-expression.ensures)
+    (writes_as _ _ c.either-in-loop-test.ensures c.in_ok-write_text-2.ensures)) c.in_err-expression-2.ensures)))
     (next_item (λ (xs : List (Expr VarId × Expr VarId)). concat
     (map (case_form c.args.one) (map (λ (d : Expr VarId × Expr VarId).
     (expr_text c.args.parts.now d.0, expr_text c.args.parts.now d.1)) xs))) c.args.choices.now
     c.loop-test.test-index c.loop-test-item.result c.loop-test-test.true c.loop-test-item.is))
 
-pub cases-returns-in_err-put-3 : goal.cases-returns-in_err-put-3
-cases-returns-in_err-put-3 g t c =
-    writes_exit _ _ c.from_residual-in_err-put-3.ensures.1
+pub cases-returns-in_err-write_text-3 : goal.cases-returns-in_err-write_text-3
+cases-returns-in_err-write_text-3 g t c =
+    writes_exit _ _ c.from_residual-in_err-write_text-3.ensures.1
     (leaves_front _ _ c.loop-test.invariant
     (writes_as _ _ (case_text c.args.one _ _)
-    (writes_on (writes_on (writes_on (writes_on (writes_as _ _ c.either.ensures c.in_ok-put.ensures)
-    c.in_ok-expression.ensures) (writes_as _ _ c.either-in-loop-test.ensures c.in_ok-put-2.ensures))
-    c.in_ok-expression-2.ensures) (writes_as _ _ c.either-in-loop-test-2.ensures c.in_err-put-3.ensures)))
+    (writes_on (writes_on (writes_on (writes_on (writes_as _ _ c.either.ensures c.in_ok-write_text.ensures)
+    c.in_ok-expression.ensures) (writes_as _ _ c.either-in-loop-test.ensures c.in_ok-write_text-2.ensures))
+    c.in_ok-expression-2.ensures) (writes_as _ _ c.either-in-loop-test-2.ensures c.in_err-write_text-3.ensures)))
     (next_item (λ (xs : List (Expr VarId × Expr VarId)). concat
     (map (case_form c.args.one) (map (λ (d : Expr VarId × Expr VarId).
     (expr_text c.args.parts.now d.0, expr_text c.args.parts.now d.1)) xs))) c.args.choices.now
@@ -268,9 +268,9 @@ pub cases-loop-test-preserved : goal.cases-loop-test-preserved
 cases-loop-test-preserved g t c =
     leaves_on _ _ c.loop-test.invariant
     (writes_as _ _ (case_text c.args.one _ _)
-    (writes_on (writes_on (writes_on (writes_on (writes_as _ _ c.either.ensures c.in_ok-put.ensures)
-    c.in_ok-expression.ensures) (writes_as _ _ c.either-in-loop-test.ensures c.in_ok-put-2.ensures))
-    c.in_ok-expression-2.ensures) (writes_as _ _ c.either-in-loop-test-2.ensures c.in_ok-put-3.ensures)))
+    (writes_on (writes_on (writes_on (writes_on (writes_as _ _ c.either.ensures c.in_ok-write_text.ensures)
+    c.in_ok-expression.ensures) (writes_as _ _ c.either-in-loop-test.ensures c.in_ok-write_text-2.ensures))
+    c.in_ok-expression-2.ensures) (writes_as _ _ c.either-in-loop-test-2.ensures c.in_ok-write_text-3.ensures)))
     (next_item (λ (xs : List (Expr VarId × Expr VarId)). concat
     (map (case_form c.args.one) (map (λ (d : Expr VarId × Expr VarId).
     (expr_text c.args.parts.now d.0, expr_text c.args.parts.now d.1)) xs))) c.args.choices.now
@@ -287,10 +287,10 @@ cases-returns g t c =
 pub operands-loop-e-init : goal.operands-loop-e-init
 operands-loop-e-init g t c = leaves_all _ _
 
-pub operands-returns-in_err-put : goal.operands-returns-in_err-put
-operands-returns-in_err-put g t c =
+pub operands-returns-in_err-write_text : goal.operands-returns-in_err-write_text
+operands-returns-in_err-write_text g t c =
     writes_exit _ _ c.from_residual.ensures.1
-    (leaves_front _ _ c.loop-e.invariant (writes_front _ _ (writes_as _ _ c.either.ensures c.in_err-put.ensures))
+    (leaves_front _ _ c.loop-e.invariant (writes_front _ _ (writes_as _ _ c.either.ensures c.in_err-write_text.ensures))
     (next_item (λ (xs : List (Expr VarId)). separated c.loop-e.first c.args.separator.now
     (map (expr_text c.args.parts.now) xs)) c.args.es.now c.loop-e.e-index c.e-item.result c.loop-e-test.true
     c.e-item.is))
@@ -299,14 +299,14 @@ pub operands-returns-in_err-expression : goal.operands-returns-in_err-expression
 operands-returns-in_err-expression g t c =
     writes_exit _ _ c.from_residual-in_err-expression.ensures.1
     (leaves_front _ _ c.loop-e.invariant
-    (writes_on (writes_as _ _ c.either.ensures c.in_ok-put.ensures) c.in_err-expression.ensures)
+    (writes_on (writes_as _ _ c.either.ensures c.in_ok-write_text.ensures) c.in_err-expression.ensures)
     (next_item (λ (xs : List (Expr VarId)). separated c.loop-e.first c.args.separator.now
     (map (expr_text c.args.parts.now) xs)) c.args.es.now c.loop-e.e-index c.e-item.result c.loop-e-test.true
     c.e-item.is))
 
 pub operands-loop-e-preserved : goal.operands-loop-e-preserved
 operands-loop-e-preserved g t c =
-    leaves_on _ _ c.loop-e.invariant (writes_on (writes_as _ _ c.either.ensures c.in_ok-put.ensures)
+    leaves_on _ _ c.loop-e.invariant (writes_on (writes_as _ _ c.either.ensures c.in_ok-write_text.ensures)
     c.in_ok-expression.ensures)
     (next_item (λ (xs : List (Expr VarId)). separated c.loop-e.first c.args.separator.now
     (map (expr_text c.args.parts.now) xs)) c.args.es.now c.loop-e.e-index c.e-item.result c.loop-e-test.true
@@ -321,10 +321,10 @@ operands-returns g t c =
 pub terms-loop-plus-init : goal.terms-loop-plus-init
 terms-loop-plus-init g t c = leaves_all _ _
 
-pub terms-returns-in_err-put : goal.terms-returns-in_err-put
-terms-returns-in_err-put g t c =
+pub terms-returns-in_err-write_text : goal.terms-returns-in_err-write_text
+terms-returns-in_err-write_text g t c =
     writes_exit _ _ c.from_residual.ensures.1
-    (leaves_front _ _ c.loop-plus.invariant (writes_front _ _ (writes_as _ _ c.sign.ensures c.in_err-put.ensures))
+    (leaves_front _ _ c.loop-plus.invariant (writes_front _ _ (writes_as _ _ c.sign.ensures c.in_err-write_text.ensures))
     (next_item (λ (xs : List (Bool × Expr VarId)). summed c.loop-plus.first
     (map (λ (q : Bool × Expr VarId). (q.0, expr_text c.args.parts.now q.1)) xs)) c.args.all.now
     c.loop-plus.plus-index c.loop-plus-item.result c.loop-plus-test.true c.loop-plus-item.is))
@@ -333,7 +333,7 @@ pub terms-returns-in_err-expression : goal.terms-returns-in_err-expression
 terms-returns-in_err-expression g t c =
     writes_exit _ _ c.from_residual-in_err-expression.ensures.1
     (leaves_front _ _ c.loop-plus.invariant
-    (writes_on (writes_as _ _ c.sign.ensures c.in_ok-put.ensures) c.in_err-expression.ensures)
+    (writes_on (writes_as _ _ c.sign.ensures c.in_ok-write_text.ensures) c.in_err-expression.ensures)
     (next_item (λ (xs : List (Bool × Expr VarId)). summed c.loop-plus.first
     (map (λ (q : Bool × Expr VarId). (q.0, expr_text c.args.parts.now q.1)) xs)) c.args.all.now
     c.loop-plus.plus-index c.loop-plus-item.result c.loop-plus-test.true c.loop-plus-item.is))
@@ -341,7 +341,7 @@ terms-returns-in_err-expression g t c =
 pub terms-loop-plus-preserved : goal.terms-loop-plus-preserved
 terms-loop-plus-preserved g t c =
     leaves_on _ _ c.loop-plus.invariant
-    (writes_on (writes_as _ _ c.sign.ensures c.in_ok-put.ensures) c.in_ok-expression.ensures)
+    (writes_on (writes_as _ _ c.sign.ensures c.in_ok-write_text.ensures) c.in_ok-expression.ensures)
     (next_item (λ (xs : List (Bool × Expr VarId)). summed c.loop-plus.first
     (map (λ (q : Bool × Expr VarId). (q.0, expr_text c.args.parts.now q.1)) xs)) c.args.all.now
     c.loop-plus.plus-index c.loop-plus-item.result c.loop-plus-test.true c.loop-plus-item.is)

@@ -8,10 +8,10 @@ use Rattle.gts_core.proofs.print.way_parts.Goals as goal
 pub loop-part-init : goal.loop-part-init
 loop-part-init g c = leaves_all _ _
 
-pub returns-in_err-put : goal.returns-in_err-put
-returns-in_err-put g c =
+pub returns-in_err-write_text : goal.returns-in_err-write_text
+returns-in_err-write_text g c =
     writes_exit _ _ c.from_residual.ensures.1
-    (leaves_front _ _ c.loop-part.invariant (writes_front _ _ (writes_as _ _ c.either.ensures c.in_err-put.ensures))
+    (leaves_front _ _ c.loop-part.invariant (writes_front _ _ (writes_as _ _ c.either.ensures c.in_err-write_text.ensures))
     (next_some (λ (xs : List (Bool × WayId)). separated c.loop-part.first (codes " & ")
     (map (part_text c.args.parts.now) xs)) c.args.all.now c.loop-part.part-index c.loop-part-test.true).1)
 
@@ -19,14 +19,14 @@ pub returns-in_err-way_part : goal.returns-in_err-way_part
 returns-in_err-way_part g c =
     writes_exit _ _ c.from_residual-in_err-way_part.ensures.1
     (leaves_front _ _ c.loop-part.invariant
-    (writes_on (writes_as _ _ c.either.ensures c.in_ok-put.ensures) c.in_err-way_part.ensures)
+    (writes_on (writes_as _ _ c.either.ensures c.in_ok-write_text.ensures) c.in_err-way_part.ensures)
     (next_read (λ (xs : List (Bool × WayId)). separated c.loop-part.first (codes " & ")
     (map (part_text c.args.parts.now) xs)) c.args.all.now c.loop-part.part-index _ c.loop-part-test.true))
 
 pub loop-part-preserved : goal.loop-part-preserved
 loop-part-preserved g c =
     leaves_on _ _ c.loop-part.invariant
-    (writes_on (writes_as _ _ c.either.ensures c.in_ok-put.ensures) c.in_ok-way_part.ensures)
+    (writes_on (writes_as _ _ c.either.ensures c.in_ok-write_text.ensures) c.in_ok-way_part.ensures)
     (next_read (λ (xs : List (Bool × WayId)). separated c.loop-part.first (codes " & ")
     (map (part_text c.args.parts.now) xs)) c.args.all.now c.loop-part.part-index _ c.loop-part-test.true)
 

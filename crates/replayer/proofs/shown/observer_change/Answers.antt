@@ -14,7 +14,7 @@ returns-then-is_same g c =
     let e : is_same old new ≡ true = sym
     (ap (λ v. is_same v c.observer_value-is.result) c.observer_value-was.ensures
     ∙ ap (λ v. is_same old v) c.observer_value-is.ensures) ∙ sym c.is_same.ensures ∙ c.if-is_same.true in
-    writes_as _ _ (sym (ap (λ (b : Bool). if b then [] else one c.args.n new) e)) c.put.ensures
+    writes_as _ _ (sym (ap (λ (b : Bool). if b then [] else one c.args.n new) e)) c.write_text.ensures
 
 pub returns-else-is_same : goal.returns-else-is_same
 returns-else-is_same g c =

@@ -19,23 +19,23 @@ changed_lines-requires-clause-touched g c =
     subst (λ (q : GtsParts). AreTouched q c.args.changed.now c.args.touched.now) (sym c.parts.ensures.parts)
     c.requires.touched
 
-pub returns-in_err-put : goal.returns-in_err-put
-returns-in_err-put g c =
+pub returns-in_err-write_text : goal.returns-in_err-write_text
+returns-in_err-write_text g c =
     writes_exit _ _ c.from_residual.ensures.1
-    (writes_front _ _ c.in_err-put.ensures)
+    (writes_front _ _ c.in_err-write_text.ensures)
 
 pub returns-in_err-print_label : goal.returns-in_err-print_label
 returns-in_err-print_label g c =
     writes_exit _ _ c.from_residual-in_err-print_label.ensures.1
-    (writes_on c.in_ok-put.ensures (writes_front _ _ (writes_front _ _ c.in_err-print_label.ensures)))
+    (writes_on c.in_ok-write_text.ensures (writes_front _ _ (writes_front _ _ c.in_err-print_label.ensures)))
 
-pub returns-in_err-put-2 : goal.returns-in_err-put-2
-returns-in_err-put-2 g c =
-    writes_exit _ _ c.from_residual-in_err-put-2.ensures.1
-    (writes_on c.in_ok-put.ensures (writes_front _ _ (writes_on c.in_ok-print_label.ensures c.in_err-put-2.ensures)))
+pub returns-in_err-write_text-2 : goal.returns-in_err-write_text-2
+returns-in_err-write_text-2 g c =
+    writes_exit _ _ c.from_residual-in_err-write_text-2.ensures.1
+    (writes_on c.in_ok-write_text.ensures (writes_front _ _ (writes_on c.in_ok-print_label.ensures c.in_err-write_text-2.ensures)))
 
 pub returns : goal.returns
 returns g c =
-    writes_on c.in_ok-put.ensures (writes_on (writes_on c.in_ok-print_label.ensures c.in_ok-put-2.ensures)
+    writes_on c.in_ok-write_text.ensures (writes_on (writes_on c.in_ok-print_label.ensures c.in_ok-write_text-2.ensures)
     (writes_as _ _ (ap (λ (q : GtsParts). changes_text q c.args.old.now c.args.new.now) c.parts.ensures.parts)
     c.changed_lines.ensures))

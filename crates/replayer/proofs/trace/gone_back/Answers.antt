@@ -19,13 +19,13 @@ changed_lines-requires-clause-touched g c =
     subst (λ (q : GtsParts). AreTouched q c.args.changed.now c.args.touched.now) (sym c.parts.ensures.parts)
     c.requires.touched
 
-pub returns-in_err-put : goal.returns-in_err-put
-returns-in_err-put g c =
+pub returns-in_err-write_text : goal.returns-in_err-write_text
+returns-in_err-write_text g c =
     writes_exit _ _ c.from_residual.ensures.1
-    (writes_front _ _ c.in_err-put.ensures)
+    (writes_front _ _ c.in_err-write_text.ensures)
 
 pub returns : goal.returns
 returns g c =
-    writes_on c.in_ok-put.ensures (writes_as _ _
+    writes_on c.in_ok-write_text.ensures (writes_as _ _
     (ap (λ (q : GtsParts). changes_text q c.args.old.now c.args.new.now) c.parts.ensures.parts)
     c.changed_lines.ensures)

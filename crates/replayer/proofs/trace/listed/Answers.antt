@@ -1,11 +1,11 @@
 use Rattle.ar_io.proofs.Writing.{writes_exit, writes_on, writes_front}
 use Rattle.replayer.proofs.trace.listed.Goals as goal
 
-pub returns-in_err-put : goal.returns-in_err-put
-returns-in_err-put g c = λ can answers.
+pub returns-in_err-write_text : goal.returns-in_err-write_text
+returns-in_err-write_text g c = λ can answers.
     writes_exit _ _ c.from_residual.ensures.1
-    (writes_front _ _ c.in_err-put.ensures)
+    (writes_front _ _ c.in_err-write_text.ensures)
 
 pub returns : goal.returns
 returns g c = λ can answers.
-    writes_on c.in_ok-put.ensures (c.enabled_lines.ensures can answers)
+    writes_on c.in_ok-write_text.ensures (c.enabled_lines.ensures can answers)

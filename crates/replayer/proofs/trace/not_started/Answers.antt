@@ -1,16 +1,16 @@
 use Rattle.ar_io.proofs.Writing.{writes_exit, writes_on, writes_front}
 use Rattle.replayer.proofs.trace.not_started.Goals as goal
 
-pub returns-in_err-put : goal.returns-in_err-put
-returns-in_err-put g c =
+pub returns-in_err-write_text : goal.returns-in_err-write_text
+returns-in_err-write_text g c =
     writes_exit _ _ c.from_residual.ensures.1
-    (writes_front _ _ c.in_err-put.ensures)
+    (writes_front _ _ c.in_err-write_text.ensures)
 
 pub returns-in_err-print_flow_fault : goal.returns-in_err-print_flow_fault
 returns-in_err-print_flow_fault g c =
     writes_exit _ _ c.from_residual-in_err-print_flow_fault.ensures.1
-    (writes_on c.in_ok-put.ensures (writes_front _ _ c.in_err-print_flow_fault.ensures))
+    (writes_on c.in_ok-write_text.ensures (writes_front _ _ c.in_err-print_flow_fault.ensures))
 
 pub returns : goal.returns
 returns g c =
-    writes_on c.in_ok-put.ensures (writes_on c.in_ok-print_flow_fault.ensures c.put-2.ensures)
+    writes_on c.in_ok-write_text.ensures (writes_on c.in_ok-print_flow_fault.ensures c.write_text-2.ensures)

@@ -4,12 +4,12 @@ use Rattle.std.proofs.Common.{ap}
 use Rattle.replayer.specs.Printing.{values_text}
 use Rattle.replayer.proofs.trace.shown.Goals as goal
 
-pub returns-in_err-put : goal.returns-in_err-put
-returns-in_err-put g c =
+pub returns-in_err-write_text : goal.returns-in_err-write_text
+returns-in_err-write_text g c =
     writes_exit _ _ c.from_residual.ensures.1
-    (writes_front _ _ c.in_err-put.ensures)
+    (writes_front _ _ c.in_err-write_text.ensures)
 
 pub returns : goal.returns
 returns g c =
-    writes_on c.in_ok-put.ensures (writes_as _ _
+    writes_on c.in_ok-write_text.ensures (writes_as _ _
     (ap (λ (q : GtsParts). values_text q c.args.values.now) c.parts.ensures.parts) c.all_lines.ensures)

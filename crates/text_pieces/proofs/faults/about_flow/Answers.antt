@@ -1,17 +1,17 @@
 use Rattle.ar_io.proofs.Writing.{writes_exit, writes_on, writes_front, writes_as}
 use Rattle.text_pieces.proofs.faults.about_flow.Goals as goal
 
-pub returns-in_err-put : goal.returns-in_err-put
-returns-in_err-put g c =
+pub returns-in_err-write_text : goal.returns-in_err-write_text
+returns-in_err-write_text g c =
     writes_exit _ _ c.from_residual.ensures.1
-    (writes_front _ _ c.in_err-put.ensures)
+    (writes_front _ _ c.in_err-write_text.ensures)
 
-pub returns-in_err-put-2 : goal.returns-in_err-put-2
-returns-in_err-put-2 g c =
-    writes_exit _ _ c.from_residual-in_err-put-2.ensures.1
-    (writes_on c.in_ok-put.ensures (writes_front _ _ (writes_as _ _ c.variable_path.ensures c.in_err-put-2.ensures)))
+pub returns-in_err-write_text-2 : goal.returns-in_err-write_text-2
+returns-in_err-write_text-2 g c =
+    writes_exit _ _ c.from_residual-in_err-write_text-2.ensures.1
+    (writes_on c.in_ok-write_text.ensures (writes_front _ _ (writes_as _ _ c.variable_path.ensures c.in_err-write_text-2.ensures)))
 
 pub returns : goal.returns
 returns g c =
-    writes_on c.in_ok-put.ensures (writes_on (writes_as _ _ c.variable_path.ensures c.in_ok-put-2.ensures)
-    c.put-3.ensures)
+    writes_on c.in_ok-write_text.ensures (writes_on (writes_as _ _ c.variable_path.ensures c.in_ok-write_text-2.ensures)
+    c.write_text-3.ensures)

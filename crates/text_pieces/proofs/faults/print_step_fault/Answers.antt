@@ -4,7 +4,7 @@ use Rattle.text_pieces.specs.Faults.{step_text}
 use Rattle.text_pieces.proofs.faults.print_step_fault.Goals as goal
 
 pub returns-in-NotEnabled : goal.returns-in-NotEnabled
-returns-in-NotEnabled g c = writes_as _ _ (ap (step_text c.args.gts.now) (sym c.in-NotEnabled.is)) c.put.ensures
+returns-in-NotEnabled g c = writes_as _ _ (ap (step_text c.args.gts.now) (sym c.in-NotEnabled.is)) c.write_text.ensures
 
 pub returns-in-Clash : goal.returns-in-Clash
 returns-in-Clash g c = writes_as _ _ (ap (step_text c.args.gts.now) (sym c.in-Clash.is)) c.clash.ensures

@@ -11,7 +11,6 @@ use Rattle.ar_meaning.specs.TraceText.{Naming}
 use Rattle.ar_meaning.proofs.FlatSystems.{flat_back}
 use Rattle.ar_firing.specs.Rules.{Rule, rule_number, Spot, AtEvent, AtUnit, AtVariable, AtObserver, AtWhole, IsFirstBroken, KeepsAll}
 use Rattle.ar_firing.proofs.ImageRules.{first_broken_there, keeps_all_there}
-use Rattle.cut_text.specs.ForestPrinted.{edge_count}
 use Rattle.gts_core.specs.View.{Views}
 use Rattle.gts_core.specs.declared.system.GtsParts.{GtsParts}
 use Rattle.gts_flatten.specs.Elaborating.{Elaborated}
@@ -19,7 +18,6 @@ use Rattle.gts_flatten.specs.Flat.{IsFlat}
 use Rattle.hierarchy.specs.Listing.{variables}
 use Rattle.mode_trees.specs.Views.{trees_of, number_in}
 use Rattle.mode_trees.specs.declared.forests.Forest.{Forest}
-use Rattle.mode_trees.specs.declared.forests.ModeTree.{ModeTree}
 use Rattle.static_fragment.specs.Recognised.{IsRecognised, IsOutside, spot_of}
 use Rattle.static_fragment.specs.declared.faults.Spot as there
 use Rattle.altarica_run.specs.Passing.{IsStageOf, AreDropped, CanBeWritten, HasForest}
@@ -35,16 +33,6 @@ none_dropped p events e = record {
   are = sym (ap (λ (z : List EventId). map (λ (n : EventId). n.n) z) e);
   inside = record { each = λ n o. absurd (one_none n (subst (λ (z : List EventId). IsOneOf z n) e o)) };
 }
-
--- a tree has no more edges than all trees
-pub edges_of_one : (ts : List ModeTree) (t : ModeTree) → IsOneOf ts t → length t.edges.items ≤ edge_count ts
-edges_of_one ts t o = go ts o.place o.stands
-  where
-    go : (us : List ModeTree) (n : ℕ) → Stands us n t → length t.edges.items ≤ edge_count us
-    go [] zero s = cc
-    go [] (suc n) s = cc
-    go (u ∷ us) zero s = let i : u ≡ t = cc in let l = ap (λ (z : ModeTree). length z.edges.items) i in omega (arith, l)
-    go (u ∷ us) (suc n) s = let r = go us n s in omega (arith, r)
 
 -- the source has the rules that its flat system keeps or breaks, and calls its things alike
 module _ (x : Elaborated) (p : GtsParts) (of : IsFlat x p) (dropped : List ℕ) where

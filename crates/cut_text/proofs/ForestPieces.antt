@@ -53,13 +53,3 @@ pub count_next : (ts : List ModeTree) (n : ℕ) (t : ModeTree) → Stands ts n t
 count_next [] n t s = cc
 count_next (u ∷ ts) zero t s = let i : u ≡ t = cc in ap (λ (z : ModeTree). length z.edges.items + edge_count ts) i
 count_next (u ∷ ts) (suc n) t s = count_next ts n t s
-
--- a tree has no more edges than all trees
-pub edges_of_one : (ts : List ModeTree) (t : ModeTree) → IsOneOf ts t → length t.edges.items ≤ edge_count ts
-edges_of_one ts t o = go ts o.place o.stands
-  where
-    go : (us : List ModeTree) (n : ℕ) → Stands us n t → length t.edges.items ≤ edge_count us
-    go [] zero s = cc
-    go [] (suc n) s = cc
-    go (u ∷ us) zero s = let i : u ≡ t = cc in let l = ap (λ (z : ModeTree). length z.edges.items) i in omega (arith, l)
-    go (u ∷ us) (suc n) s = let r = go us n s in omega (arith, r)

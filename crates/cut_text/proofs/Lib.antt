@@ -3,6 +3,7 @@ mod EdgeEvents
 mod Fault
 mod Firing
 pub mod FlatLines
+pub mod Edges
 mod ForestPieces
 pub mod InSystem
 pub mod Known

@@ -87,15 +87,18 @@ is_made _ = false
 
 -- How far a command goes
 
+-- to the trees of modes, for systems of the static fragment: each command that goes further than the flat system
 abbrev pub to_forest : Reach → Bool
 to_forest reach.System = false
 to_forest _ = true
 
+-- to the gate table of an observer's value, by the trees
 abbrev pub to_table : Reach → Bool
 to_table reach.Table = true
 to_table reach.Cuts = true
 to_table _ = false
 
+-- to the cuts of the value, by diagrams of the gates
 abbrev pub to_cuts : Reach → Bool
 to_cuts reach.Cuts = true
 to_cuts _ = false

@@ -31,7 +31,8 @@ abbrev pub IsTaken : Bool → Option Text → Type 0
 IsTaken true given = Unit {0}
 IsTaken false given = given ≡ None
 
--- and where it cannot do without it
+-- an option as the command takes it: one that it does not take is not used, one that it may take is used or not, and one
+-- that it cannot do without is used
 abbrev pub IsUsed : Takes → Option Text → Type 0
 IsUsed Never given = given ≡ None
 IsUsed May given = Unit {0}
@@ -42,6 +43,8 @@ abbrev pub nodes_by_default : Form → ℕ
 nodes_by_default form.Number = 16777216
 nodes_by_default _ = 1000000
 
+-- the node limit: what `--nodes` writes, a number from 1 to 16777216, where the command takes this option and it is used,
+-- else that by default
 abbrev pub IsNodes : Shape → Option Text → ℕ → Type 0
 IsNodes shape None nodes = nodes ≡ nodes_by_default shape.files
 IsNodes shape (Some text) nodes = (shape.nodes ≡ true) × IsNumberText 1 16777216 text nodes

@@ -1,7 +1,7 @@
 //! The table of the commands: what each takes, and how far it goes.
 
 ghost use Rattle.std.specs.Prelude.{◌≡◌};
-ghost use Rattle.run_words.specs.Commands.{shape_of, is_script, is_list, is_made, to_forest, to_table};
+ghost use Rattle.run_words.specs.Commands.{shape_of, is_made};
 
 use crate::verbs::Verb;
 
@@ -66,41 +66,11 @@ pub struct Shape {
 }
 
 impl Form {
-    /// Whether the second file is a script.
-    pub fn is_script(self) -> bool
-        ensures { result ≡ is_script self }
-    {
-        matches!(self, Form::ModelAndScript)
-    }
-
-    /// Whether the second file is a list of cuts.
-    pub fn is_list(self) -> bool
-        ensures { result ≡ is_list self }
-    {
-        matches!(self, Form::ModelAndList)
-    }
-
     /// Whether there is no file, and the command makes its model.
     pub fn is_made(self) -> bool
         ensures { result ≡ is_made self }
     {
         matches!(self, Form::Number)
-    }
-}
-
-impl Reach {
-    /// Whether the command is for systems of the static fragment, by the trees of their modes.
-    pub fn to_forest(self) -> bool
-        ensures { result ≡ to_forest self }
-    {
-        !matches!(self, Reach::System)
-    }
-
-    /// Whether the command is about the gate table, for an observer and a value.
-    pub fn to_table(self) -> bool
-        ensures { result ≡ to_table self }
-    {
-        matches!(self, Reach::Table | Reach::Cuts)
     }
 }
 

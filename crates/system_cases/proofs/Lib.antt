@@ -1,2 +1,1 @@
-mod Edges
 mod Keyed

@@ -3,7 +3,7 @@ use Rattle.std.proofs.lemmas.Result.{err_from_is_err_and}
 use Rattle.ar_base.proofs.Standing.{stands_some}
 use Rattle.gts_core.specs.declared.system.GtsParts.{GtsParts}
 use Rattle.gts_flatten.specs.Flat.{naming_of_parts}
-use Rattle.altarica_run.proofs.ForestLemmas.{edges_of_one}
+use Rattle.cut_text.proofs.Edges.{edges_of_one}
 use Rattle.altarica_run.proofs.TableLemmas.{table_refused, memory_refused, table_given}
 use Rattle.altarica_run.proofs.tabling.table_of.Goals as goal
 

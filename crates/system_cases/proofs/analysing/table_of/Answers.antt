@@ -7,7 +7,7 @@ use Rattle.gts_core.specs.View.{net_of, numbered}
 use Rattle.gts_core.specs.declared.system.Observer.{Observer}
 use Rattle.mode_trees.specs.Views.{trees_of, number_in}
 use Rattle.tree_equations.specs.Gives.{AtObserver, IsTableOf}
-use Rattle.system_cases.proofs.Edges.{edges_of_one}
+use Rattle.cut_text.proofs.Edges.{edges_of_one}
 use Rattle.system_cases.proofs.Keyed.{keyed_static}
 use Rattle.system_cases.proofs.analysing.table_of.Goals as goal
 

@@ -1,6 +1,6 @@
 -- The dropped events and the forest of a job.
-use Rattle.std.proofs.Common.{◌≡◌, ◌≤◌, ℕ, zero, suc, List, [], ◌∷◌, length, Ok, Err, map, refl, sym, ◌∙◌, ap, subst, arith}
-use Rattle.ar_base.specs.Lists.{IsOneOf, Stands}
+use Rattle.std.proofs.Common.{◌≡◌, ℕ, List, [], Ok, Err, map, refl, sym, ◌∙◌, ap, subst}
+use Rattle.ar_base.specs.Lists.{IsOneOf}
 use Rattle.ar_base.specs.Numbers.{EventId}
 use Rattle.ar_base.specs.Texts.{text_at}
 use Rattle.ar_base.proofs.Standing.{one_none}

@@ -2,7 +2,6 @@
 
 ghost use Rattle.std.specs.Prelude.{◌≡◌, IfOk};
 ghost use Rattle.ar_base.specs.Texts.{text_at};
-ghost use Rattle.gts_flatten.specs.Flat.{naming_of_parts};
 ghost use Rattle.static_fragment.specs.Recognised.{spot_of};
 ghost use Rattle.altarica_run.specs.Spots.{path_in};
 

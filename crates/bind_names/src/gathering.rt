@@ -1,6 +1,6 @@
 //! The transitions and synchronisations of events, from the members of units.
 
-ghost use Rattle.std.specs.Prelude.{◌≡◌, ◌<◌, [], ◌∷◌, List, length, map, Some, OnOk};
+ghost use Rattle.std.specs.Prelude.{◌<◌, [], ◌∷◌, List, length, map, Some, OnOk};
 ghost use Rattle.std.specs.List.{flat_map};
 ghost use Rattle.ar_base.specs.Lists.{Stands, Along};
 ghost use Rattle.ar_syntax.specs.declared.members.Member.{out-Member};

@@ -1,7 +1,7 @@
 //! Events that hide clauses name.
 
-ghost use Rattle.std.specs.Prelude.{◌≡◌, ◌<◌, true, false, List, length, map, replicate};
-ghost use Rattle.std.specs.Prelude.{slice_set, Some, IfOk};
+ghost use Rattle.std.specs.Prelude.{◌≡◌, ◌<◌, false, List, length, map, replicate};
+ghost use Rattle.std.specs.Prelude.{Some, IfOk};
 ghost use Rattle.std.specs.List.{flat_map};
 ghost use Rattle.ar_base.specs.Lists.{Stands};
 ghost use Rattle.class_table.specs.declared.tables.Owned.TheVariants.{Plain};
@@ -16,7 +16,7 @@ ghost use Rattle.bind_scopes.specs.Scopes.{HasScopes};
 ghost use Rattle.bind_names.specs.Hiding.{HidesIn, Marks, AreHidden};
 
 use crate::members::sites_of;
-use ar_base::{BodyId, EventId, Memory, UnitId, mark};
+use ar_base::{BodyId, Memory, UnitId, mark};
 use ar_syntax::{Member, Path};
 use bind_scopes::Scopes;
 use class_table::{Owned, owned_at};

@@ -71,8 +71,10 @@ fn units_bytes(fronts: &[usize]) -> usize {
 pub(crate) fn path_bytes(alloc: Global, tree: &Tree) -> Result<usize, Memory> {
     let names = &tree.classes.names;
     let fronts = front_bytes(alloc, tree)?;
-    Ok(units_bytes(&fronts)
-        .saturating_add(variables_bytes(tree, &fronts))
-        .saturating_add(things_bytes(names, &fronts, &tree.events))
-        .saturating_add(things_bytes(names, &fronts, &tree.observers)))
+    Ok(
+        units_bytes(&fronts)
+            .saturating_add(variables_bytes(tree, &fronts))
+            .saturating_add(things_bytes(names, &fronts, &tree.events))
+            .saturating_add(things_bytes(names, &fronts, &tree.observers)),
+    )
 }

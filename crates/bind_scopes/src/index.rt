@@ -9,7 +9,7 @@ ghost use Rattle.hierarchy.specs.Units.{UnitPath, numbers};
 ghost use Rattle.hierarchy.specs.Walks.{is_variable, is_parameter, is_event};
 ghost use Rattle.hierarchy.specs.Listing.{variables, parameters, events};
 ghost use Rattle.hierarchy.specs.Tie.{IsTreeOf, AnswersThing};
-ghost use Rattle.hierarchy.specs.Finding.{FindsOwner, IsSomeTree};
+ghost use Rattle.hierarchy.specs.Finding.{IsSomeTree};
 ghost use Rattle.bind_scopes.specs.Indexed.{same_pair, TellsNodes, IsIndexOf};
 
 use ar_base::{EventId, Memory, NameId, UnitId, VarId};

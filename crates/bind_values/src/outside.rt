@@ -80,7 +80,10 @@ pub(crate) fn outside_variables(scopes: &Scopes<'_>, values: &[Value]) -> Option
 {
     let mut found = None;
     for (place, node) in scopes.tree.variables.iter().enumerate() {
-        found = earlier(found, outside_variable(scopes, node, value_at(values, place)));
+        found = earlier(
+            found,
+            outside_variable(scopes, node, value_at(values, place)),
+        );
     }
     found
 }
@@ -93,7 +96,10 @@ pub(crate) fn outside_parameters(scopes: &Scopes<'_>, values: &[Value]) -> Optio
 {
     let mut found = None;
     for (place, node) in scopes.tree.parameters.iter().enumerate() {
-        found = earlier(found, outside_parameter(scopes, node, value_at(values, place)));
+        found = earlier(
+            found,
+            outside_parameter(scopes, node, value_at(values, place)),
+        );
     }
     found
 }

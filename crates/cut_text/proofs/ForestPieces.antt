@@ -1,6 +1,6 @@
 -- Lines in pieces.
-use Rattle.std.proofs.Common.{◌≡◌, ◌≤◌, ◌+◌, ℕ, zero, suc, List, [], ◌∷◌, ◌++◌, codes, decimal, drop, length, refl, ◌∙◌, ap, arith}
-use Rattle.ar_base.specs.Lists.{Stands, IsOneOf}
+use Rattle.std.proofs.Common.{◌≡◌, ◌+◌, ℕ, zero, suc, List, [], ◌∷◌, ◌++◌, codes, decimal, drop, length, refl, ◌∙◌, ap}
+use Rattle.ar_base.specs.Lists.{Stands}
 use Rattle.ar_base.specs.Texts.{text_at}
 use Rattle.ar_base.proofs.Lines.{line_after}
 use Rattle.ar_meaning.specs.ValueTexts.{value_text}

@@ -1,6 +1,6 @@
 //! The lines of sets of events.
 
-ghost use Rattle.std.specs.Prelude.{◌≡◌, ◌++◌, ℕ, List, ◌∷◌, true, false, codes, decimal, reverse};
+ghost use Rattle.std.specs.Prelude.{◌≡◌, ◌++◌, ℕ, List, ◌∷◌, true, false, codes, reverse};
 ghost use Rattle.ar_base.specs.Texts.{line, separated};
 ghost use Rattle.ar_io.specs.Writing.{Writes};
 ghost use Rattle.ar_meaning.specs.Flows.{FlowFault as MetFault};

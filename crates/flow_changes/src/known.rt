@@ -1,6 +1,6 @@
 //! What is known, as expressions read it.
 
-ghost use Rattle.std.specs.Prelude.{◌≡◌, ◌∷◌, [], ℕ, map, Contains, IfOk};
+ghost use Rattle.std.specs.Prelude.{◌≡◌, [], map, Contains, IfOk};
 ghost use Rattle.domains.specs.declared.Value.{Value};
 ghost use Rattle.typed_expr.specs.Kinds.{kind_of};
 ghost use Rattle.typed_expr.specs.Rows.{first_of};

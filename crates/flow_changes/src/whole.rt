@@ -1,6 +1,6 @@
 //! What the new state determines, found anew.
 
-ghost use Rattle.std.specs.Prelude.{◌≡◌, ◌<◌, ℕ, List, length, IfOk, IfErr, OnErr};
+ghost use Rattle.std.specs.Prelude.{◌≡◌, ◌<◌, IfOk, IfErr, OnErr};
 ghost use Rattle.flow_propagate.specs.Determined.{IsDetermined};
 ghost use Rattle.flow_propagate.specs.NewValues.{AreNewValues, written};
 ghost use Rattle.flow_propagate.specs.Plan.{IsPlan};

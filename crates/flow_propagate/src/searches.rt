@@ -1,6 +1,6 @@
 //! The searches for faults.
 
-ghost use Rattle.std.specs.Prelude.{false, ◌≡◌, ◌<◌, ◌≤◌, ℕ, List, length, Contains};
+ghost use Rattle.std.specs.Prelude.{false, ◌≡◌, ◌<◌, List, length, Contains};
 ghost use Rattle.ar_base.specs.Least.{least_with};
 ghost use Rattle.ar_base.specs.Lists.{HasOther};
 ghost use Rattle.domains.specs.Domains.{IsDomain, Holds as DomainHolds};

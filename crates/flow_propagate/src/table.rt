@@ -1,7 +1,6 @@
 //! Tables of facts.
 
-ghost use Rattle.std.specs.Prelude.{true, false, ◌≡◌, ◌⊎◌, ◌<◌, ◌≤◌, ℕ, List, length, map, IfOk, IsTrue, Contains};
-ghost use Rattle.domains.specs.Domains.{IsDomain, Holds as DomainHolds};
+ghost use Rattle.std.specs.Prelude.{true, false, ◌<◌, map, IfOk, Contains};
 ghost use Rattle.domains.specs.declared.Value.{Value};
 ghost use Rattle.domains.specs.declared.Value.TheVariants.{Truth};
 ghost use Rattle.typed_expr.specs.Kinds.{kind_of};
@@ -12,7 +11,7 @@ ghost use Rattle.typed_expr.specs.Rows.{row_at, first_of};
 ghost use Rattle.flow_propagate.specs.Table.{Holds, Reaches};
 
 use ar_base::{Memory, VarId};
-use domains::{Domain, Value};
+use domains::Value;
 use gts_core::Assign;
 use std::alloc::Global;
 use typed_expr::{Env, Expr, ValueKind, ValueSet, eval_set, first_of, kind_of, row_at};

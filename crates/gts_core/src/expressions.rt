@@ -1,6 +1,6 @@
 //! The text of expressions.
 
-ghost use Rattle.std.specs.Prelude.{true, ◌≡◌, ◌++◌, codes, map};
+ghost use Rattle.std.specs.Prelude.{true, ◌++◌, codes, map};
 ghost use Rattle.ar_io.specs.Writing.{Writes};
 ghost use Rattle.std.specs.List.{concat};
 ghost use Rattle.ar_base.specs.Texts.{separated};
@@ -9,7 +9,7 @@ ghost use Rattle.gts_core.specs.Printed.{expr_text, summed, case_form, cases_for
 use crate::pieces::{either, relation_text, sign, variable_path, write_value};
 use crate::system::GtsParts;
 use ar_base::VarId;
-use ar_io::{Sink, SinkFailed, write_number, write_text};
+use ar_io::{Sink, SinkFailed, write_text};
 use typed_expr::Expr;
 
 // An expression.
@@ -38,7 +38,7 @@ pub(crate) fn expression<K: Sink>(
         Expr::Product(es) => listed(out, parts, "(", es, " * "),
         Expr::Least(es) => listed(out, parts, "min(", es, ", "),
         Expr::Greatest(es) => listed(out, parts, "max(", es, ", "),
-        Expr::Count(es) => listed(out, parts, "write_number(", es, ", "),
+        Expr::Count(es) => listed(out, parts, "count(", es, ", "),
         Expr::Choose(choices, other) => {
             let one = choices.len() == 1;
             chosen(out, parts, one, choices)?;

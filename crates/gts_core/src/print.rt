@@ -1,6 +1,6 @@
 //! The text of a flat system.
 
-ghost use Rattle.std.specs.Prelude.{true, ◌≡◌, ◌++◌, ◌<◌, ◌^◌, length, codes, map, slice_get};
+ghost use Rattle.std.specs.Prelude.{true, ◌++◌, ◌<◌, ◌^◌, length, codes, map, slice_get};
 ghost use Rattle.std.specs.Fmt.{signed_decimal};
 ghost use Rattle.ar_base.specs.Numbers.{WayId};
 ghost use Rattle.ar_io.specs.Writing.{Writes};

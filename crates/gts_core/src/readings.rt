@@ -1,6 +1,6 @@
 //! What expressions read under a total valuation.
 
-ghost use Rattle.std.specs.Prelude.{◌≡◌, ◌∷◌, [], true};
+ghost use Rattle.std.specs.Prelude.{◌≡◌, [], true};
 ghost use Rattle.std.specs.List.{list_all};
 ghost use Rattle.typed_expr.specs.Kinds.{kind_of};
 ghost use Rattle.gts_core.specs.Readings.{value_at, values_at, value_in, is_truth, is_met};

@@ -1,6 +1,6 @@
 //! What paths name in a tree of units.
 
-ghost use Rattle.std.specs.Prelude.{◌≡◌, ◌<◌, ℕ, List, length, option_map};
+ghost use Rattle.std.specs.Prelude.{◌<◌, List, length, option_map};
 ghost use Rattle.std.specs.List.Sorted.{IsNonDecreasingBy};
 ghost use Rattle.ar_base.specs.Lists.{Stands};
 ghost use Rattle.ar_base.specs.Numbers.{VarId as VarNumber, EventId as EventNumber};
@@ -110,8 +110,8 @@ pub fn unit_at(tree: &Tree, from: UnitId, first: PathStart, names: &[NameId]) ->
     Some(at)
 }
 
-/// The number of the unit to which all names but the last lead, read in the unit `from`, and the last name. None where
-/// they lead to no unit, or there is no name. Takes no memory.
+/// The number of the unit to which all names but the last lead, read in the unit `from`, and the last name. None only
+/// where the names name no thing of any kind. Takes no memory.
 pub fn owner_and_name(
     tree: &Tree,
     from: UnitId,

@@ -1,6 +1,6 @@
 //! The things of units, in the order of units and members.
 
-ghost use Rattle.std.specs.Prelude.{◌≡◌, ◌<◌, ◌^◌, ◌++◌, [], ◌∷◌, List, length, map, OnOk, IfOk, Some};
+ghost use Rattle.std.specs.Prelude.{◌≡◌, ◌<◌, ◌^◌, ◌++◌, List, length, map, OnOk, IfOk, Some};
 ghost use Rattle.std.specs.List.{flat_map};
 ghost use Rattle.ar_base.specs.Lists.{Along};
 ghost use Rattle.ar_syntax.specs.declared.members.Member.{out-Member};

@@ -1,8 +1,8 @@
 //! The lines of variables and observers. A step's lines look at the variables that changed, and at the observers that name one
 //! of them, and at no others.
 
-ghost use Rattle.std.specs.Prelude.{◌≡◌, ◌≢◌, ◌<◌, ◌≤◌, ◌^◌, ◌++◌, codes, length, map, slice_get, Some};
-ghost use Rattle.ar_base.specs.Texts.{text_at, line};
+ghost use Rattle.std.specs.Prelude.{◌≡◌, ◌<◌, ◌^◌, ◌++◌, codes, length, Some};
+ghost use Rattle.ar_base.specs.Texts.{line};
 ghost use Rattle.ar_io.specs.Writing.{Writes};
 ghost use Rattle.ar_meaning.specs.TraceText.{variable_line, observer_line, lines_from};
 ghost use Rattle.ar_meaning.specs.ValueTexts.{value_text};

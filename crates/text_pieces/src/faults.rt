@@ -1,6 +1,6 @@
 //! The texts of faults of the flows and of steps.
 
-ghost use Rattle.std.specs.Prelude.{◌≡◌, ◌<◌, ◌+◌, ◌++◌, codes, length};
+ghost use Rattle.std.specs.Prelude.{◌<◌, ◌+◌, ◌++◌, codes, length};
 ghost use Rattle.ar_base.specs.Texts.{text_at};
 ghost use Rattle.ar_io.specs.Writing.{Writes};
 ghost use Rattle.ar_meaning.specs.Flows.{Broken};

@@ -1,6 +1,6 @@
 //! The assignments that may give a value outside their targets' domains.
 
-ghost use Rattle.std.specs.Prelude.{◌≡◌, ◌<◌, ℕ, List, IfOk, OnOk, length, map};
+ghost use Rattle.std.specs.Prelude.{◌<◌, IfOk, OnOk, length, map};
 ghost use Rattle.ar_base.specs.Lists.{Stands};
 ghost use Rattle.domains.specs.Domains.{IsDomain};
 ghost use Rattle.gts_core.specs.Sound.{IsSound};

@@ -1,11 +1,11 @@
 //! The first declaration of variables that breaks rule L8.
 
-ghost use Rattle.std.specs.Prelude.{◌≡◌, [], ◌∷◌, List, map, IfOk, Some, Option, unwrap_or, slice_get};
+ghost use Rattle.std.specs.Prelude.{◌≡◌, [], List, map, IfOk, Some, Option, unwrap_or, slice_get};
 ghost use Rattle.ar_base.specs.Lists.{Along};
 ghost use Rattle.class_table.specs.Declaring.{Declared};
 ghost use Rattle.class_table.specs.Earliest.{IsEarliest};
 ghost use Rattle.class_table.specs.Members.{owned_at as declared_at};
-ghost use Rattle.class_table.specs.Tables.{HoldsDeclared, IsBodyOf, IsNamedType, site_of};
+ghost use Rattle.class_table.specs.Tables.{HoldsDeclared, site_of};
 ghost use Rattle.class_table.specs.declared.tables.Classes.{Classes as Table};
 ghost use Rattle.hierarchy.specs.Models.{RootedModel, IsRootedTable};
 ghost use Rattle.hierarchy.specs.Units.{UnitPath};

@@ -1,6 +1,6 @@
 //! The units that the names of a unit lead to.
 
-ghost use Rattle.std.specs.Prelude.{◌≡◌, ◌<◌, ◌^◌, ℕ, List, [], ◌∷◌, length, map, OnOk, IfOk};
+ghost use Rattle.std.specs.Prelude.{◌≡◌, ◌<◌, ◌^◌, List, [], ◌∷◌, length, map, OnOk, IfOk};
 ghost use Rattle.std.specs.List.Sorted.{IsPermutation, IsNonDecreasingBy};
 ghost use Rattle.ar_base.specs.Lists.{Stands, Along};
 ghost use Rattle.ar_base.specs.declared.places.Place.{Place as PlaceOf};

@@ -1,6 +1,6 @@
 //! What may be set in the bodies of units, looked up by body and name.
 
-ghost use Rattle.std.specs.Prelude.{◌≡◌, [], ◌∷◌, List, map, OnOk, IfOk, Some, option_and_then, option_copied};
+ghost use Rattle.std.specs.Prelude.{◌≡◌, [], ◌∷◌, List, map, OnOk, IfOk, Some, option_and_then};
 ghost use Rattle.std.specs.List.{flat_map};
 ghost use Rattle.ar_base.specs.Numbers.{NameId as Name};
 ghost use Rattle.ar_base.specs.declared.places.Place.{Place as PlaceOf};

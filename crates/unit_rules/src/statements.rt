@@ -8,7 +8,7 @@ ghost use Rattle.class_table.specs.Tables.{IsBodyOf, site_of};
 ghost use Rattle.hierarchy.specs.Models.{RootedModel, IsKeptTable};
 ghost use Rattle.hierarchy.specs.Units.{UnitPath, body_of};
 ghost use Rattle.hierarchy.specs.Walks.{Nothing, Loops};
-ghost use Rattle.hierarchy.specs.Tie.{AreOutlines, IsOutline};
+ghost use Rattle.hierarchy.specs.Tie.{AreOutlines};
 ghost use Rattle.unit_walks.specs.Settling.{AreOutcomes};
 ghost use Rattle.unit_rules.specs.Statements.{WalkEnds, EndsIn};
 ghost use Rattle.unit_rules.specs.Naming.{statement_of, statement_found, EndsSo, SiteEndsSo, SitesEndSo, broken_so};

@@ -1,6 +1,6 @@
 //! The names of bodies that may be units, listed and indexed once.
 
-ghost use Rattle.std.specs.Prelude.{◌≡◌, ◌++◌, ◌∷◌, ◌+◌, [], ℕ, List, Vec, length, map, OnOk, IfOk, Some, option_copied};
+ghost use Rattle.std.specs.Prelude.{◌≡◌, ◌++◌, ◌∷◌, ◌+◌, [], ℕ, List, Vec, length, map, OnOk, IfOk, Some};
 ghost use Rattle.std.specs.Global.{Global};
 ghost use Rattle.ar_base.specs.Lists.{Along, Stands};
 ghost use Rattle.ar_base.specs.Numbers.{NameId as Name};

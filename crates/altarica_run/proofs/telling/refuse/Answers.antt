@@ -7,4 +7,4 @@ pub returns : goal.returns
 returns g c =
     text_written (λ text ends. (text ≡ line_of c.args.refusal.now) × (ends ≡ status_of c.args.refusal.now))
     (line_of c.args.refusal.now) c.status-whole.result _ _ c.written.ensures (refl, c.status-whole.ensures)
-    c.write_text.ensures
+    c.put.ensures

@@ -15,8 +15,8 @@ returns-then-has-clause-text g c = λ lines are.
     writes_as _ _ (missing_none c.args.gts.now c.args.ways.now lines (numbers c.args.events.now)
     (c.if-has.ensures.answer c.args.gts.now lines are)) c.write_text.ensures
 
-pub returns-then-has-clause-write_signed : goal.returns-then-has-clause-write_signed
-returns-then-has-clause-write_signed g c = λ lines are.
+pub returns-then-has-clause-whole : goal.returns-then-has-clause-whole
+returns-then-has-clause-whole g c = λ lines are.
     on_ok _ c.write_text.result
     (and_true c.args.whole.now ∙ ap (λ (b : Bool). c.args.whole.now && b)
     (sym (listed_yes lines (numbers c.args.events.now) (c.if-has.ensures.answer c.args.gts.now lines are))))
@@ -40,8 +40,8 @@ returns-clause-text g c = λ lines are.
     (c.if-has.ensures.answer c.args.gts.now lines are))
     (writes_on c.in_ok-write_text.ensures (writes_on c.in_ok-write_set.ensures c.write_text-3.ensures))
 
-pub returns-clause-write_signed : goal.returns-clause-write_signed
-returns-clause-write_signed g c = λ lines are.
+pub returns-clause-whole : goal.returns-clause-whole
+returns-clause-whole g c = λ lines are.
     on_ok _ c.write_text-3.result
     (and_false c.args.whole.now ∙ ap (λ (b : Bool). c.args.whole.now && b)
     (sym (listed_not lines (numbers c.args.events.now) (c.if-has.ensures.answer c.args.gts.now lines are))))

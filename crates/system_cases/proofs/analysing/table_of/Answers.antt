@@ -1,4 +1,4 @@
-use Rattle.std.proofs.Common.{◌≤◌, ◌<◌, true, [], Option, subst, arith}
+use Rattle.std.proofs.Common.{true, [], Option, subst, arith}
 use Rattle.ar_base.proofs.Standing.{stands_some}
 use Rattle.ar_firing.proofs.Shapes.{are_trees}
 use Rattle.domains.specs.declared.Value.TheVariants.{Truth}

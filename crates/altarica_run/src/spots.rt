@@ -6,6 +6,7 @@ ghost use Rattle.static_fragment.specs.Recognised.{spot_of};
 ghost use Rattle.altarica_run.specs.Spots.{path_in};
 
 use ar_base::{Memory, Text};
+use ar_io::text_at;
 use gts_core::GtsParts;
 use static_fragment::Spot;
 use std::alloc::Global;
@@ -25,19 +26,9 @@ fn path_at(parts: &GtsParts, spot: Spot) -> &str
 {
     match spot {
         Spot::Event(event) => event_path(parts, event.n),
-        Spot::Unit(unit) => unit_path(parts, unit.n),
+        Spot::Unit(unit) => text_at(&parts.units, unit.n),
         Spot::Variable(variable) => variable_path(parts, variable.n),
         Spot::Observer(observer) => observer_path(parts, observer),
         Spot::Whole => "main",
-    }
-}
-
-// The path of the unit of this number; empty where there is none.
-fn unit_path(parts: &GtsParts, n: u32) -> &str
-    ensures { result.now ≡ text_at parts.now.units.items n }
-{
-    match parts.units.get(n as usize) {
-        Some(path) => path.as_str(),
-        None => "",
     }
 }

@@ -15,15 +15,12 @@ use crate::answer::{Drawn, answer};
 use crate::by_modes::{Unanswered, by_modes};
 use crate::firable::firable_sets;
 use crate::paths::forest_paths;
-use ar_base::{Cap, Memory};
+use ar_base::{Cap, MOST_NODES, Memory};
 use eq_core::Equations;
 use mode_trees::Forest;
 use std::alloc::Global;
 use zdd_nodes::NodeFault;
 use zdd_ops::Ops;
-
-// The most nodes that a store may have.
-const MOST_NODES: u32 = 16_777_216;
 
 /// The least sets that are firable in the forest's trees and at which the table's conflict operand
 /// is true, or, where there are none, the least ones at which its top operand is. The answer's

@@ -1,6 +1,6 @@
 //! The family of a diagram, tree by tree.
 
-ghost use Rattle.std.specs.Prelude.{◌≡◌, ◌≤◌, ◌+◌, ◌<◌, IfOk, length};
+ghost use Rattle.std.specs.Prelude.{◌≤◌, ◌+◌, ◌<◌, IfOk, length};
 ghost use Rattle.zdd_nodes.specs.Nodes.{family, IsNumber, IsSoundStore};
 ghost use Rattle.mode_nodes.specs.Diagrams.{IsNumber as IsDiagramNumber, IsFrom};
 ghost use Rattle.mode_diagrams.specs.Trees.{AreNumbered};
@@ -11,6 +11,7 @@ use crate::NumberedTree;
 use crate::drawing::Undrawn;
 use crate::held::{Held, State};
 use crate::paths::with_path;
+use ar_base::MOST_NODES;
 use mode_nodes::{DiagramId, Diagrams};
 use std::alloc::Global;
 use zdd_nodes::{NodeFault, NodeId, Store};
@@ -83,9 +84,6 @@ pub struct Listed {
     /// The number of the family.
     pub root: NodeId,
 }
-
-// The most nodes that a store may have.
-const MOST_NODES: u32 = 16_777_216;
 
 /// The family of the sets of events on paths at whose modes the diagram is true. Beyond comes where more nodes were made
 /// on the way than a store may have, which says nothing of the family.

@@ -1,6 +1,6 @@
 //! The lines of cuts in short.
 
-ghost use Rattle.std.specs.Prelude.{◌≡◌, ◌++◌, true, false, codes, map};
+ghost use Rattle.std.specs.Prelude.{◌++◌, true, false, codes, map};
 ghost use Rattle.ar_base.specs.Texts.{line, separated, text_at};
 ghost use Rattle.ar_io.specs.Writing.{Writes};
 ghost use Rattle.cut_text.specs.Answers.{Prints};
@@ -15,7 +15,7 @@ ghost use Rattle.module_text.specs.Texts.{module_line, part_line, unit_mark, lin
 use crate::arranging::{Group, Line, Piece, groups_of, lines_of_forms};
 use crate::places::edge_places;
 use ar_base::UnitId;
-use ar_io::{Sink, SinkFailed, write_count, write_text};
+use ar_io::{Sink, SinkFailed, text_at, write_count, write_text};
 use cut_text::PrintFault;
 use gate_modules::Short;
 use gts_core::{Gts, GtsParts};
@@ -73,7 +73,7 @@ fn head<K: Sink>(out: &mut K, parts: &GtsParts, unit: UnitId) -> Result<(), Sink
         (module_line (text_at parts.now.units.items unit.n)) result }
 {
     write_text(out, "module ")?;
-    write_text(out, unit_path(parts, unit))?;
+    write_text(out, text_at(&parts.units, unit.n))?;
     write_text(out, "\n")
 }
 
@@ -191,16 +191,6 @@ fn mark<K: Sink>(out: &mut K, parts: &GtsParts, unit: UnitId) -> Result<(), Sink
         (unit_mark (text_at parts.now.units.items unit.n)) result }
 {
     write_text(out, "[")?;
-    write_text(out, unit_path(parts, unit))?;
+    write_text(out, text_at(&parts.units, unit.n))?;
     write_text(out, "]")
-}
-
-// The path of the unit; empty where there is none of this number.
-fn unit_path(parts: &GtsParts, unit: UnitId) -> &str
-    ensures { result.now ≡ text_at parts.now.units.items unit.n }
-{
-    match parts.units.get(unit.n as usize) {
-        Some(path) => path.as_str(),
-        None => "",
-    }
 }

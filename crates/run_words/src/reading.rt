@@ -1,6 +1,6 @@
 //! The words read as a job.
 
-ghost use Rattle.std.specs.Prelude.{◌≡◌, ◌↔◌, ℕ, List, Option, map, option_map, IfOk, IfErr, IsTrue, MatchOption, Some};
+ghost use Rattle.std.specs.Prelude.{◌≡◌, ◌↔◌, ℕ, Option, map, option_map, IfOk, IfErr, IsTrue, MatchOption, Some};
 ghost use Rattle.ar_base.specs.Texts.{bytes_of_all};
 ghost use Rattle.run_words.specs.declared.jobs.Job.{Job as Jobs};
 ghost use Rattle.run_words.specs.declared.verbs.Verb.{Verb as Verbs};
@@ -15,14 +15,11 @@ use crate::lines::{CommandLine, command_line, matches};
 use crate::numbers::number;
 use crate::shapes::{Form, Shape, Takes};
 use crate::verbs::{Verb, named as named_verb};
-use ar_base::Text;
+use ar_base::{MOST_NODES, Text};
 use std::alloc::Global;
 
 // The node limit where `--nodes` is not used.
 const USUAL_NODES: u32 = 1_000_000;
-
-// The most nodes that a diagram may have.
-const MOST_NODES: u32 = 16_777_216;
 
 /// Reads the words behind the program's name as a job.
 ///

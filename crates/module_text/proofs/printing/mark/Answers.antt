@@ -7,9 +7,9 @@ returns-in_err-write_text g c = writes_exit _ _ c.from_residual.ensures.1 (write
 
 pub returns-in_err-write_text-2 : goal.returns-in_err-write_text-2
 returns-in_err-write_text-2 g c = writes_exit _ _ c.from_residual-in_err-write_text-2.ensures.1
-    (writes_as _ _ (mark_pieces _ _ c.unit_path.ensures)
+    (writes_as _ _ (mark_pieces _ _ (rw c.deref.ensures.value at c.text_at.ensures))
     (writes_on c.in_ok-write_text.ensures (writes_front _ _ c.in_err-write_text-2.ensures)))
 
 pub returns : goal.returns
-returns g c = (writes_as _ _ (mark_pieces _ _ c.unit_path.ensures)
+returns g c = (writes_as _ _ (mark_pieces _ _ (rw c.deref.ensures.value at c.text_at.ensures))
     (writes_on c.in_ok-write_text.ensures (writes_on c.in_ok-write_text-2.ensures c.write_text-3.ensures)))

@@ -2,8 +2,8 @@
 //! thing.
 //!
 //! Two readings of a text give sources in which each value is the same but for the addresses of
-//! lists and boxes. The definition in `specs/` says what it is that two jobs stand ready alike; each
-//! function here has an empty body, or calls other laws, and states a law.
+//! lists and boxes. The definition in `specs/` says what it is that two jobs stand ready alike.
+//! Each function here has an empty body, or calls other laws, and states a law.
 #![tactic(auto)]
 
 pub mod laws;

@@ -17,6 +17,7 @@ use Rattle.altarica_run.specs.declared.refusals.Refusal.{Refusal}
 use Rattle.altarica_run.specs.declared.status.Status.{Status}
 use Rattle.source_laws.specs.Sources.{SameSource}
 use Rattle.ready_laws.specs.Ready.{SameReady}
+use Rattle.job_laws.specs.Alike.{HasOneSource}
 use Rattle.job_laws.specs.Definite.{IsDefinite, SaysOf, AgreeButNodes}
 use Rattle.job_laws.specs.Definite as says
 use Rattle.job_laws.specs.Readings.{SameAnswer}
@@ -63,17 +64,13 @@ module _ (pass : PassAlike) (refuse : RefuseAlike) (one_list : OneList) (x y : E
         → AgreeButNodes job s a t b
     saying_alike s t a b h k = saying_one one_list y is job texts s t a b (saying_there s a h) k
 
--- However texts are read, their sources are alike
-
-abbrev pub OneSource : Type 0
-OneSource = (main : Option (List ℕ)) (text : List ℕ) (a b : Result Elaborated Refusal) → Elaborates main text a
-    → Elaborates main text b → SameAnswer SameSource a b
+-- Where however texts are read their sources are alike
 
 abbrev pub AllDefinite : Type 0
 AllDefinite = (main : Option (List ℕ)) (text : List ℕ) (x : Elaborated) → Elaborates main text (Ok x) → IsDefinite x
 
-module _ (pass : PassAlike) (refuse : RefuseAlike) (tell : TellAlike) (one_list : OneList) (definite : AllDefinite)
-    (source : OneSource) where
+module _ (pass : PassAlike) (refuse : RefuseAlike) (one_list : OneList) (definite : AllDefinite)
+    (source : (main : Option (List ℕ)) (text : List ℕ) → HasOneSource main text) where
   module _ (job : Job) (texts : List (List ℕ)) (text : List ℕ) where
     -- all stages from the text on have one answer
     stages_alike : (a b : Result Ready Refusal) → Stages job texts text a → Stages job texts text b
@@ -86,9 +83,9 @@ module _ (pass : PassAlike) (refuse : RefuseAlike) (tell : TellAlike) (one_list 
         texts a b m n
 
     -- and so has what is told
-    staged_alike : (w v : Ready) → Stages job texts text (Ok w) → Stages job texts text (Ok v) → (s t : List ℕ)
+    staged_alike : TellAlike → (w v : Ready) → Stages job texts text (Ok w) → Stages job texts text (Ok v) → (s t : List ℕ)
         (a b : Status) → Tells job w s a → Tells job v t b → AgreeButNodes job s a t b
-    staged_alike w v (passes x h m) (passes y k n) s t a b p q =
+    staged_alike tell w v (passes x h m) (passes y k n) s t a b p q =
         saying_alike pass refuse one_list x y (source job.main text (Ok x) (Ok y) h k) (definite job.main text y k) job
         texts tell s t a b (says.tells m p) (says.tells n q)
 
@@ -106,12 +103,13 @@ module _ (pass : PassAlike) (refuse : RefuseAlike) (tell : TellAlike) (one_list 
     passes_alike job a b (loaded {text = text} texts l t s) k =
         stages_alike job texts text a b s (of_text files loading job texts text l t (trees text) b k)
 
-    told_alike : (job : Job) (w v : Ready) → Passes files job (Ok w) → Passes files job (Ok v) → (s t : List ℕ)
-        (a b : Status) → Tells job w s a → Tells job v t b → AgreeButNodes job s a t b
-    told_alike job w v (loaded {text = text} texts l i h) k s t a b p q =
-        staged_alike job texts text w v h (of_text files loading job texts text l i (trees text) (Ok v) k) s t a b p q
+    told_alike : TellAlike → (job : Job) (w v : Ready) → Passes files job (Ok w) → Passes files job (Ok v)
+        → (s t : List ℕ) (a b : Status) → Tells job w s a → Tells job v t b → AgreeButNodes job s a t b
+    told_alike tell job w v (loaded {text = text} texts l i h) k s t a b p q =
+        staged_alike job texts text tell w v h (of_text files loading job texts text l i (trees text) (Ok v) k) s t a b p
+        q
 
-    module _ (ws : List (List ℕ)) (one : (a b : Job) → IsJob ws a → IsJob ws b → a ≡ b) where
+    module _ (tell : TellAlike) (ws : List (List ℕ)) (one : (a b : Job) → IsJob ws a → IsJob ws b → a ≡ b) where
       moved_job : (j k : Job) → IsJob ws j → IsJob ws k → (a : Result Ready Refusal) → Passes files k a
           → Passes files j a
       moved_job j k i o a h = subst (λ (z : Job). Passes files z a) (one k j o i) h
@@ -135,6 +133,6 @@ module _ (pass : PassAlike) (refuse : RefuseAlike) (tell : TellAlike) (one_list 
           inr (
             j,
             i,
-            told_alike j w v p (moved_job j k i o (Ok v) n) s t a b m
+            told_alike tell j w v p (moved_job j k i o (Ok v) n) s t a b m
                 (subst (λ (z : Job). Tells z v t b) (one k j o i) l),
           )

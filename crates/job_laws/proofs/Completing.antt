@@ -16,12 +16,9 @@ use Rattle.altarica_run.specs.declared.status.Status.{Status}
 use Rattle.altarica_run.specs.declared.status.Status.TheVariants as status
 use Rattle.altarica_run.proofs.FollowLemmas.{meaning_of}
 use Rattle.ready_laws.specs.Ready.{SameReady}
+use Rattle.job_laws.specs.Alike.{IsListingOf}
 use Rattle.job_laws.specs.Readings.{SameAnswer}
 use Rattle.job_laws.proofs.Findings.{conflict_text}
-
--- a listing of a job that stands ready like this one
-abbrev pub HasListing : Call → Job → Ready → Type 0
-HasListing c job w = (l : IsListing c job) × SameReady w l.ready
 
 not_nodes : (e : End) → status_at e ≡ status.Nodes → ⊥
 not_nodes end.Done e = cc
@@ -80,10 +77,10 @@ module _ (c : Call) (job : Job) (one : (a b : Job) → IsJob c.words a → IsJob
         enough m.ready (told_same status.Nodes m)
         (nodes_told job m.ready m.text status.Nodes refl (tells_at status.Nodes m))
 
-    done : Gave c status.Done → HasListing c job w
-    done g = let l = listing g in (l, alike (Ok w) (Ok l.ready) p l.passes)
+    done : Gave c status.Done → IsListingOf c job w
+    done g = let l = listing g in record { listing = l; same = alike (Ok w) (Ok l.ready) p l.passes }
 
-    pub listed_whole : (s : Status) → Gave c s → ((s ≡ status.Done) × HasListing c job w) ⊎ (s ≡ status.Memory)
+    pub listed_whole : (s : Status) → Gave c s → ((s ≡ status.Done) × IsListingOf c job w) ⊎ (s ≡ status.Memory)
     listed_whole status.Done g = inl (refl, done g)
     listed_whole status.Usage g = absurd ((meaning_of c status.Usage g).0 job is)
     listed_whole status.Syntax g = absurd (never status.Syntax (meaning_of c status.Syntax g))

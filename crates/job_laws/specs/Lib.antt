@@ -1,3 +1,4 @@
+pub mod Alike
 pub mod Definite
 pub mod Findings
 pub mod Named

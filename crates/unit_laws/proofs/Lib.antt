@@ -1,3 +1,4 @@
+pub mod Alike
 pub mod Containment
 mod Firsts
 pub mod Forced

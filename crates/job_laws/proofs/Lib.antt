@@ -1,5 +1,6 @@
 pub mod Alike
 pub mod Asking
+pub mod Completing
 pub mod Cuts
 pub mod Demanding
 pub mod Domains

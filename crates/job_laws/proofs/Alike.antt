@@ -17,10 +17,9 @@ use Rattle.altarica_run.specs.declared.refusals.Refusal.{Refusal}
 use Rattle.altarica_run.specs.declared.status.Status.{Status}
 use Rattle.source_laws.specs.Sources.{SameSource}
 use Rattle.ready_laws.specs.Ready.{SameReady}
-use Rattle.job_laws.specs.Alike.{HasOneSource}
 use Rattle.job_laws.specs.Definite.{IsDefinite, SaysOf, AgreeButNodes}
 use Rattle.job_laws.specs.Definite as says
-use Rattle.job_laws.specs.Readings.{SameAnswer}
+use Rattle.unit_laws.specs.Answers.{SameAnswer}
 use Rattle.job_laws.proofs.Asking.{OneList}
 use Rattle.job_laws.proofs.Demanding.{readies_one}
 use Rattle.job_laws.proofs.Stages.{same_err, ok_err}
@@ -64,13 +63,18 @@ module _ (pass : PassAlike) (refuse : RefuseAlike) (one_list : OneList) (x y : E
         → AgreeButNodes job s a t b
     saying_alike s t a b h k = saying_one one_list y is job texts s t a b (saying_there s a h) k
 
--- Where however texts are read their sources are alike
+-- However a text is read, its sources are alike
+
+-- the sources of a text from one main block are alike, or it is refused in one way
+abbrev pub OneSource : Type 0
+OneSource = (main : Option (List ℕ)) (text : List ℕ) (a b : Result Elaborated Refusal) → Elaborates main text a
+    → Elaborates main text b → SameAnswer SameSource a b
 
 abbrev pub AllDefinite : Type 0
 AllDefinite = (main : Option (List ℕ)) (text : List ℕ) (x : Elaborated) → Elaborates main text (Ok x) → IsDefinite x
 
 module _ (pass : PassAlike) (refuse : RefuseAlike) (one_list : OneList) (definite : AllDefinite)
-    (source : (main : Option (List ℕ)) (text : List ℕ) → HasOneSource main text) where
+    (source : OneSource) where
   module _ (job : Job) (texts : List (List ℕ)) (text : List ℕ) where
     -- all stages from the text on have one answer
     stages_alike : (a b : Result Ready Refusal) → Stages job texts text a → Stages job texts text b

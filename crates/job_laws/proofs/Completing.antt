@@ -16,8 +16,8 @@ use Rattle.altarica_run.specs.declared.status.Status.{Status}
 use Rattle.altarica_run.specs.declared.status.Status.TheVariants as status
 use Rattle.altarica_run.proofs.FollowLemmas.{meaning_of}
 use Rattle.ready_laws.specs.Ready.{SameReady}
-use Rattle.job_laws.specs.Alike.{IsListingOf}
-use Rattle.job_laws.specs.Readings.{SameAnswer}
+use Rattle.job_laws.specs.Listings.{IsListingOf}
+use Rattle.unit_laws.specs.Answers.{SameAnswer}
 use Rattle.job_laws.proofs.Findings.{conflict_text}
 
 not_nodes : (e : End) → status_at e ≡ status.Nodes → ⊥

@@ -11,6 +11,7 @@ pub mod Labels
 pub mod Lines
 pub mod Modules
 pub mod Observers
+pub mod OneSource
 pub mod Plans
 pub mod Readings
 pub mod Scripts

@@ -1,5 +1,5 @@
-pub mod Alike
 pub mod Definite
 pub mod Findings
+pub mod Listings
 pub mod Named
 pub mod Readings

@@ -7,4 +7,5 @@
 pub mod alike_laws;
 pub mod answer_laws;
 pub mod flat_laws;
+pub mod one_answer;
 pub mod word_laws;

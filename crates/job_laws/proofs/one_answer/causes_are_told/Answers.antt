@@ -1,9 +1,9 @@
 use Rattle.altarica_run.proofs.LawLemmas.{only_of}
 use Rattle.job_laws.proofs.Completing.{refused_alone}
-use Rattle.job_laws.proofs.alike_laws.causes_of_alike_sources_are_told.Goals as goal
+use Rattle.job_laws.proofs.one_answer.causes_are_told.Goals as goal
 
 pub returns : goal.returns
-returns c = λ one k s job r gave quiet known is p.
-    let alike = c.one_passing_of_alike_sources.ensures one k.files known job in
+returns c = λ k s job r gave quiet known is p.
+    let alike = c.one_passing.ensures k.files known job in
     only_of k job (c.one_job.ensures k.words) is r
     (λ x h. refused_alone k job (c.one_job.ensures k.words) is alike r p x h) quiet s gave

@@ -1,7 +1,0 @@
-use Rattle.job_laws.proofs.Alike.{passes_alike}
-use Rattle.job_laws.proofs.alike_laws.one_passing_of_alike_sources.Goals as goal
-
-pub returns : goal.returns
-returns c =
-    λ one files known job a b h k. passes_alike c.readiness_agrees.ensures.passes c.readiness_agrees.ensures.refuses
-    c.one_list.ensures c.sources_are_definite.ensures one files (c.one_loading.ensures files known) c.one_tree.ensures job a b h k

@@ -1,0 +1,10 @@
+mod Acted
+mod Breaches
+mod Carried
+mod Forms
+mod Levels
+mod Meant
+mod PathKinds
+mod Ruled
+mod Tested
+mod Wrong

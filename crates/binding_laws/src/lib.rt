@@ -1,0 +1,9 @@
+//! Laws of declarations: models that agree mean the same, and break the same rules.
+//!
+//! What a tree of units declares is seen over the things of its units. So models that agree have
+//! the same variables, assertions, events and observers, save for the addresses of the lists and
+//! boxes in their expressions and the room that these have. Each function here has an empty body,
+//! or calls other laws, and states a law.
+#![tactic(auto)]
+
+pub mod meanings;

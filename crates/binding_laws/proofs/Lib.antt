@@ -2,8 +2,12 @@ mod Acted
 mod Breaches
 mod Carried
 mod Forms
+mod Itself
 mod Levels
 mod Meant
+mod OneBinding
+mod OneDeclarations
+mod OneText
 mod PathKinds
 mod Ruled
 mod Tested

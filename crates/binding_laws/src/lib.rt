@@ -1,4 +1,4 @@
-//! Laws of declarations: models that agree mean the same, and break the same rules.
+//! Laws of declarations: models that agree mean the same, break the same rules, have one binding.
 //!
 //! What a tree of units declares is seen over the things of its units. So models that agree have
 //! the same variables, assertions, events and observers, save for the addresses of the lists and
@@ -6,4 +6,5 @@
 //! or calls other laws, and states a law.
 #![tactic(auto)]
 
+pub mod bindings;
 pub mod meanings;

@@ -64,7 +64,7 @@ named_same d e {t = t} {u = u} p q o =
 one_item : {A : Type 0} {o : Option A} {a b : A} → o ≡ Some a → o ≡ Some b → a ≡ b
 one_item p q = cc
 
-along_both : {A B C : Type 0} {R : A → B → Type 0} {S : A → C → Type 0} {T : B → C → Type 0}
+pub along_both : {A B C : Type 0} {R : A → B → Type 0} {S : A → C → Type 0} {T : B → C → Type 0}
     → ((a : A) (b : B) (m : C) → R a b → S a m → T b m)
     → {es : List A} {bs : List B} {cs : List C} → Along R es bs → Along S es cs → Along T bs cs
 along_both f along.none along.none = along.none
@@ -109,7 +109,7 @@ module _ (m : RootedModel) (different : AreDifferent m.declared.symbols) where
 
   -- Variables
 
-  variable_same : {units : List UnitPath} → AreDifferent units → (t : Thing) (x y : s.Variable Thing)
+  pub variable_same : {units : List UnitPath} → AreDifferent units → (t : Thing) (x y : s.Variable Thing)
       → IsVariable m units t x → IsVariable m units t y
       → Variable_renames (λ (t u : Thing). t ≡ u) x y
   variable_same d t x y p q =
@@ -125,7 +125,7 @@ module _ (m : RootedModel) (different : AreDifferent m.declared.symbols) where
         value = value_same m different p.value q.value;
       }
 
-  observer_same : (t : Thing) (e f : Expr Thing) → IsObserver m t e → IsObserver m t f
+  pub observer_same : (t : Thing) (e f : Expr Thing) → IsObserver m t e → IsObserver m t f
       → Expr_renames (λ (t u : Thing). t ≡ u) e f
   observer_same t e f p q =
       let what : Observer p.type p.written ≡ Observer q.type q.written = one_item p.is q.is in
@@ -152,7 +152,7 @@ module _ (m : RootedModel) (different : AreDifferent m.declared.symbols) where
       })
   member_same u f y z (b.sync k) (b.sync h) = synchronise (along_both (part_same u) k h)
 
-  event_same : {units : List UnitPath} → AreDifferent units → (t : Thing) (d e : EventDeclaration (s.Transition Thing)
+  pub event_same : {units : List UnitPath} → AreDifferent units → (t : Thing) (d e : EventDeclaration (s.Transition Thing)
       Thing) → IsEvent m units t d → IsEvent m units t e
       → Declared_renames (λ (t u : Thing). t ≡ u) (λ (t u : Thing). t ≡ u) d e
   event_same {units = units} k t d e p q = record {

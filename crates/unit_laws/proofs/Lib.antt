@@ -14,7 +14,7 @@ pub mod Nesting
 mod Numbered
 mod OneTree
 pub mod Passing
-mod Ruled
+pub mod Ruled
 mod Seen
 pub mod Settled
 mod Sizes

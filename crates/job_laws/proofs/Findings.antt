@@ -166,7 +166,7 @@ module _ (job : Job) (w : Ready) where
   abbrev IsConflict : List ℕ → Type 0
   IsConflict text = IsConflictText (naming_of w.source.declarations) w.source.system w.dropped text
 
-  conflict_text : lists_cuts job.command ≡ true → (text : List ℕ) (s : Status) → s ≡ status.Fault → Tells job w text s
+  pub conflict_text : lists_cuts job.command ≡ true → (text : List ℕ) (s : Status) → s ≡ status.Fault → Tells job w text s
       → IsConflict text
   conflict_text j text s d (check i) = other_command lists_cuts job.command Check i refl j
   conflict_text j text s d (flat i h) = other_command lists_cuts job.command Flat i refl j

@@ -1,4 +1,6 @@
+pub mod Alike
 pub mod Asking
+pub mod Completing
 pub mod Cuts
 pub mod Demanding
 pub mod Domains
@@ -9,6 +11,7 @@ pub mod Labels
 pub mod Lines
 pub mod Modules
 pub mod Observers
+pub mod OneSource
 pub mod Plans
 pub mod Readings
 pub mod Scripts

@@ -1,4 +1,5 @@
 pub mod Definite
 pub mod Findings
+pub mod Listings
 pub mod Named
 pub mod Readings

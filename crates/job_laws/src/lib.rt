@@ -4,6 +4,8 @@
 //! and states a law.
 #![tactic(auto)]
 
+pub mod alike_laws;
 pub mod answer_laws;
 pub mod flat_laws;
+pub mod one_answer;
 pub mod word_laws;

@@ -35,7 +35,7 @@ use Rattle.unit_laws.proofs.Named.{Both, neither, both, own_along, types_both, s
 use Rattle.unit_laws.proofs.Inherited.{class_in, class_there, members_there}
 use Rattle.unit_laws.proofs.Seen.{main_there}
 
-none_there : {A B : Type 0} {R : A → B → Type 0} {a : Option A} {b : Option B} → Both R a b → a ≡ None → b ≡ None
+pub none_there : {A B : Type 0} {R : A → B → Type 0} {a : Option A} {b : Option B} → Both R a b → a ≡ None → b ≡ None
 none_there neither e = refl
 none_there (both r) e = cc
 

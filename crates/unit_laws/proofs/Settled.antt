@@ -47,7 +47,7 @@ other_of {R = R} (both {a = c} {b = b} r) a e = let same : c ≡ a = cc in (b, r
 pub target_same : {s t : Setting} → SameSetting s t → target_of s ≡ target_of t
 target_same r = ap (λ (ws : List Word). map target_word_of ws) r.target
 
-state_same : {ss rs : List Setting} → Along SameSetting ss rs → is_state ss ≡ is_state rs
+pub state_same : {ss rs : List Setting} → Along SameSetting ss rs → is_state ss ≡ is_state rs
 state_same along.none = refl
 state_same (along.one_and r along.none) = ap is_init (target_same r)
 state_same (along.one_and r (along.one_and s more)) = refl
@@ -57,7 +57,7 @@ flow_same along.none = refl
 flow_same (along.one_and r along.none) = ap is_reset (target_same r)
 flow_same (along.one_and r (along.one_and s more)) = refl
 
-state_variable_same : {k l : MemberKind} → SameMeant k l → is_state_variable k ≡ is_state_variable l
+pub state_variable_same : {k l : MemberKind} → SameMeant k l → is_state_variable k ≡ is_state_variable l
 state_variable_same meant.inner = refl
 state_variable_same (meant.clone s) = refl
 state_variable_same (meant.alias s) = refl
@@ -67,7 +67,7 @@ state_variable_same meant.kept = refl
 state_variable_same meant.event = refl
 state_variable_same (meant.observer s) = refl
 
-flow_variable_same : {k l : MemberKind} → SameMeant k l → is_flow_variable k ≡ is_flow_variable l
+pub flow_variable_same : {k l : MemberKind} → SameMeant k l → is_flow_variable k ≡ is_flow_variable l
 flow_variable_same meant.inner = refl
 flow_variable_same (meant.clone s) = refl
 flow_variable_same (meant.alias s) = refl

@@ -27,7 +27,7 @@ along_turned : {A B : Type 0} {R : A → B → Type 0} {S : B → A → Type 0} 
 along_turned f along.none = along.none
 along_turned f (along.one_and {a = a} {b = b} r more) = along.one_and (f a b r) (along_turned f more)
 
-path_turned : (p q : Path) → SamePath p q → SamePath q p
+pub path_turned : (p q : Path) → SamePath p q → SamePath q p
 path_turned p q s = record { start = sym s.start; names = sym s.names; place = sym s.place }
 
 -- Expressions

@@ -1,6 +1,5 @@
 -- What it is that two unfoldings, and what stands in their units, are alike.
-use Rattle.std.specs.Prelude.{◌≡◌, Result, Ok, Err}
-use Rattle.ar_base.specs.declared.faults.RuleFault.{RuleFault}
+use Rattle.std.specs.Prelude.{◌≡◌}
 use Rattle.hierarchy.specs.Listing.{Unfolded, In}
 use Rattle.hierarchy.specs.Settings.{Attribute}
 use Rattle.parser_laws.specs.Expressions.{SameExpr}
@@ -10,13 +9,6 @@ use Rattle.unit_laws.specs.Tables.{SameRooted}
 pub record SameUnfolded (t u : Unfolded) : Type 0 where
   pub model : SameRooted t.model u.model
   pub units : t.units ≡ u.units
-
--- both have units, and they are alike; or both are refused, for one limit, or one rule at one place
-abbrev pub SameUnfolding : Result Unfolded RuleFault → Result Unfolded RuleFault → Type 0
-SameUnfolding (Ok t) (Ok u) = SameUnfolded t u
-SameUnfolding (Ok t) (Err s) = ⊥
-SameUnfolding (Err r) (Ok u) = ⊥
-SameUnfolding (Err r) (Err s) = r ≡ s
 
 -- a value that is read in one unit, at one place, from expressions that agree
 pub record SameAttribute (a b : Attribute) : Type 0 where

@@ -23,8 +23,9 @@ ghost use Rattle.hierarchy.specs.Settings.{in_force};
 ghost use Rattle.hierarchy.specs.TypeDomains.{HasDomain};
 ghost use Rattle.unit_rules.specs.Sizes.{tree_nodes};
 ghost use Rattle.instantiate.specs.Unfolding.{BreaksUnitRule, Instantiates};
+ghost use Rattle.unit_laws.specs.Answers.{SameAnswer};
 ghost use Rattle.unit_laws.specs.Tables.{SameRooted};
-ghost use Rattle.unit_laws.specs.Units.{SameUnfolding, SameAttribute, SameIn};
+ghost use Rattle.unit_laws.specs.Units.{SameUnfolded, SameAttribute, SameIn};
 ghost use Rattle.unit_laws.specs.Views.{SameForms};
 
 use crate::laws::texts_are_seen_alike;
@@ -107,7 +108,7 @@ pub fn unit_rules_agree()
 /// or break the same rule at the same place.
 pub fn one_tree_or_refusal()
     ensures { (m n : RootedModel) → SameRooted m n → (a b : Result Unfolded RuleFault)
-        → Instantiates m a → Instantiates n b → SameUnfolding a b }
+        → Instantiates m a → Instantiates n b → SameAnswer SameUnfolded a b }
 {
     agreement_opens();
 }
@@ -128,7 +129,7 @@ pub fn one_tree_of_a_text()
         → ReadsWithin k text x → ReadsWithin k text y → IsRootedIn x main m → IsRootedIn y main n
         → AreKept text_rules (BreaksTextRule y main n.declared)
         → (a b : Result Unfolded RuleFault) → Instantiates m a → Instantiates n b
-        → SameUnfolding a b }
+        → SameAnswer SameUnfolded a b }
 {
     one_root_of_a_text();
     one_tree_or_refusal();

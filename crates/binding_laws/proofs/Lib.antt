@@ -1,0 +1,14 @@
+mod Acted
+mod Breaches
+mod Carried
+mod Forms
+mod Itself
+mod Levels
+mod Meant
+mod OneBinding
+mod OneDeclarations
+mod OneText
+mod PathKinds
+mod Ruled
+mod Tested
+mod Wrong

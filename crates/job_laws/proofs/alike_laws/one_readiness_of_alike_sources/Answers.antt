@@ -1,0 +1,7 @@
+use Rattle.job_laws.proofs.Alike.{readies_alike}
+use Rattle.job_laws.proofs.alike_laws.one_readiness_of_alike_sources.Goals as goal
+
+pub returns : goal.returns
+returns c =
+    λ x y same is job texts a b h k. readies_alike c.readiness_agrees.ensures.passes c.readiness_agrees.ensures.refuses
+    c.one_list.ensures x y same is job texts a b h k

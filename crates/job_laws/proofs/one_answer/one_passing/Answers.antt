@@ -1,0 +1,8 @@
+use Rattle.job_laws.proofs.Alike.{passes_alike}
+use Rattle.job_laws.proofs.one_answer.one_passing.Goals as goal
+
+pub returns : goal.returns
+returns c =
+    λ files known job a b h k. passes_alike c.readiness_agrees.ensures.passes c.readiness_agrees.ensures.refuses
+    c.one_list.ensures c.sources_are_definite.ensures c.one_source_or_refusal.ensures files
+    (c.one_loading.ensures files known) c.one_tree.ensures job a b h k

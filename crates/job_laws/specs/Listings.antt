@@ -1,0 +1,11 @@
+-- What it is that a listing is that of a job that stands ready alike.
+use Rattle.run_words.specs.declared.jobs.Job.{Job}
+use Rattle.altarica_run.specs.Follows.{Call}
+use Rattle.altarica_run.specs.Listings.{IsListing}
+use Rattle.altarica_run.specs.Stages.{Ready}
+use Rattle.ready_laws.specs.Ready.{SameReady}
+
+-- what was written is the listing of a job that stands ready like this one
+pub record IsListingOf (c : Call) (job : Job) (w : Ready) : Type 0 where
+  pub listing : IsListing c job
+  pub same : SameReady w listing.ready

@@ -1,0 +1,56 @@
+//! What follows for sources that are alike, and that the sources of a text are, however it is read.
+
+ghost use Rattle.std.specs.Prelude.{ℕ, List, Option, Result};
+ghost use Rattle.gts_flatten.specs.Elaborating.{Elaborated};
+ghost use Rattle.run_words.specs.declared.jobs.Job.{Job};
+ghost use Rattle.altarica_run.specs.Elaborates.{Elaborates};
+ghost use Rattle.altarica_run.specs.Stages.{Ready, Readies};
+ghost use Rattle.altarica_run.specs.declared.refusals.Refusal.{Refusal};
+ghost use Rattle.altarica_run.specs.declared.status.Status.{Status};
+ghost use Rattle.unit_laws.specs.Answers.{SameAnswer};
+ghost use Rattle.source_laws.specs.Sources.{SameSource};
+ghost use Rattle.ready_laws.specs.Ready.{SameReady};
+ghost use Rattle.job_laws.specs.Definite.{IsDefinite, SaysOf, AgreeButNodes};
+
+use binding_laws::bindings::one_binding_of_a_text;
+use job_inputs::laws::one_list;
+use parser_laws::readings::one_tree;
+use ready_laws::laws::{readiness_agrees, texts_agree};
+use source_laws::sources::one_system_or_refusal;
+use unit_laws::laws::{texts_are_seen_alike, texts_break_the_same_rules};
+
+/// All stages of a job that come after sources that are alike have one answer: both jobs stand
+/// ready alike, or both are refused for one reason.
+pub fn one_readiness_of_alike_sources()
+    ensures { (x y : Elaborated) → SameSource x y → IsDefinite y → (job : Job)
+        (texts : List (List ℕ)) (a b : Result Ready Refusal) → Readies job texts x a
+        → Readies job texts y b → SameAnswer SameReady a b }
+{
+    one_list();
+    readiness_agrees();
+}
+
+/// Of sources that are alike the words of a job say one text and end in one way, save that, where
+/// cuts are asked for, the line `nodes: N` may stand beside it.
+pub fn one_answer_of_alike_sources()
+    ensures { (x y : Elaborated) → SameSource x y → IsDefinite y → (job : Job)
+        (texts : List (List ℕ)) (s t : List ℕ) (a b : Status) → SaysOf job texts x s a
+        → SaysOf job texts y t b → AgreeButNodes job s a t b }
+{
+    one_list();
+    readiness_agrees();
+    texts_agree();
+}
+
+/// However a text is read, the stages up to its source have one answer: its sources from the main
+/// block that is asked for are alike, or it is refused in one way.
+pub fn one_source_or_refusal()
+    ensures { (main : Option (List ℕ)) (text : List ℕ) (a b : Result Elaborated Refusal)
+        → Elaborates main text a → Elaborates main text b → SameAnswer SameSource a b }
+{
+    one_tree();
+    texts_are_seen_alike();
+    texts_break_the_same_rules();
+    one_binding_of_a_text();
+    one_system_or_refusal();
+}

@@ -1,0 +1,88 @@
+//! What words say over given files, and what a call of them answers, is one thing.
+
+ghost use Rattle.std.specs.Prelude.{◌≡◌, ◌⊎◌, ℕ, List, Result, Ok, Err};
+ghost use Rattle.ar_firing.specs.Cuts.{IsConflictFree};
+ghost use Rattle.ar_io.specs.Outside.{Told};
+ghost use Rattle.run_words.specs.declared.jobs.Job.{Job};
+ghost use Rattle.run_words.specs.declared.verbs.Verb.TheVariants.{Cuts};
+ghost use Rattle.run_words.specs.Jobs.{IsJob};
+ghost use Rattle.altarica_run.specs.Follows.{Call, Gave, IsKnown, IsQuiet, Wrote};
+ghost use Rattle.altarica_run.specs.Refusals.{line_of, status_of};
+ghost use Rattle.altarica_run.specs.Says.{Says};
+ghost use Rattle.altarica_run.specs.Stages.{Ready, Passes};
+ghost use Rattle.altarica_run.specs.Tells.{MayNeedMore};
+ghost use Rattle.altarica_run.specs.declared.refusals.Refusal.{Refusal};
+ghost use Rattle.altarica_run.specs.declared.status.Status.{Status};
+ghost use Rattle.altarica_run.specs.declared.status.Status.TheVariants as status;
+ghost use Rattle.unit_laws.specs.Answers.{SameAnswer};
+ghost use Rattle.ready_laws.specs.Ready.{SameReady};
+ghost use Rattle.job_laws.specs.Definite.{AgreeButNodes};
+ghost use Rattle.job_laws.specs.Listings.{IsListingOf};
+
+use crate::alike_laws::one_source_or_refusal;
+use crate::answer_laws::sources_are_definite;
+use altarica_run::laws::{listings_are_whole, one_job, one_loading};
+use job_inputs::laws::one_list;
+use parser_laws::readings::one_tree;
+use ready_laws::laws::{conflicts_agree, readiness_agrees, texts_agree};
+
+/// The stages of a job over files of which something is told have one answer: all of them are
+/// passed, by jobs that stand ready alike, or they refuse in one way.
+pub fn one_passing()
+    ensures { (files : List ℕ → Told) → ((name : List ℕ) → IsKnown (files name)) → (job : Job)
+        (a b : Result Ready Refusal) → Passes files job a → Passes files job b
+        → SameAnswer SameReady a b }
+{
+    one_loading();
+    one_list();
+    one_tree();
+    one_source_or_refusal();
+    sources_are_definite();
+    readiness_agrees();
+}
+
+/// Words over files of which something is told say one text and end in one way, save that, where
+/// cuts are asked for, the line `nodes: N` may stand beside it.
+pub fn texts_have_one_answer()
+    ensures { (files : List ℕ → Told) → ((name : List ℕ) → IsKnown (files name))
+        → (words : List (List ℕ)) (s t : List ℕ) (a b : Status) → Says files words s a
+        → Says files words t b
+        → ((s ≡ t) × (a ≡ b)) ⊎ ((job : Job) × IsJob words job × AgreeButNodes job s a t b) }
+{
+    one_job();
+    one_loading();
+    one_list();
+    one_tree();
+    one_source_or_refusal();
+    sources_are_definite();
+    readiness_agrees();
+    texts_agree();
+}
+
+/// A job over files of which something is told, and which a stage refuses, is answered with that
+/// refusal, with its line and status, unless something of the outside fails or memory is refused.
+pub fn causes_are_told()
+    ensures { (c : Call) (s : Status) (job : Job) (r : Refusal) → Gave c s → IsQuiet c
+        → ((name : List ℕ) → IsKnown (c.files name)) → IsJob c.words job
+        → Passes c.files job (Err r)
+        → ((s ≡ status_of r) × Wrote c (line_of r)) ⊎ (s ≡ status.Memory) }
+{
+    one_job();
+    one_passing();
+}
+
+/// A job of `cuts` over files of which something is told, which passes all stages, of whose events
+/// no set meets a conflict, and for which no more nodes than its limit may be needed, is answered
+/// with the whole listing, unless something of the outside fails or memory is refused.
+pub fn listings_are_complete()
+    ensures { (c : Call) (s : Status) (job : Job) (w : Ready) → Gave c s → IsQuiet c
+        → ((name : List ℕ) → IsKnown (c.files name)) → IsJob c.words job → job.command ≡ Cuts
+        → Passes c.files job (Ok w) → IsConflictFree w.source.system w.dropped
+        → (MayNeedMore w job.nodes → ⊥)
+        → ((s ≡ status.Done) × IsListingOf c job w) ⊎ (s ≡ status.Memory) }
+{
+    one_job();
+    listings_are_whole();
+    conflicts_agree();
+    one_passing();
+}

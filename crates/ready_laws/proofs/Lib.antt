@@ -1,0 +1,14 @@
+mod Asking
+mod Carrying
+mod Demanding
+mod Families
+mod Flats
+mod Inputs
+mod Labels
+mod Lists
+mod Modules
+mod Runs
+mod Shared
+mod Tables
+mod Telling
+mod Turned

@@ -1,0 +1,96 @@
+//! Laws of jobs whose sources are alike.
+
+ghost use Rattle.std.specs.Prelude.{◌≡◌, ◌↔◌, ℕ, List, Option, Result, Ok, Err};
+ghost use Rattle.ar_firing.specs.Cuts.{IsConflictFree};
+ghost use Rattle.ar_meaning.specs.Runs.{Command, Label};
+ghost use Rattle.domains.specs.declared.Value.{Value};
+ghost use Rattle.source_meaning.specs.Systems.{Declarations};
+ghost use Rattle.gts_flatten.specs.Elaborating.{Elaborated};
+ghost use Rattle.gts_flatten.specs.Flat.{naming_of};
+ghost use Rattle.job_inputs.specs.CutLists.{CutLine, CutList};
+ghost use Rattle.job_inputs.specs.Labels.{IsLabel};
+ghost use Rattle.job_inputs.specs.Naming.{NamesEvents};
+ghost use Rattle.job_inputs.specs.Scripts.{BadLine, Commands};
+ghost use Rattle.job_inputs.specs.Wanting.{NamesObserver, IsWanted};
+ghost use Rattle.run_words.specs.declared.jobs.Job.{Job};
+ghost use Rattle.altarica_run.specs.Stages.{Ready, Asks, Readies};
+ghost use Rattle.altarica_run.specs.Tells.{MayNeedMore, Tells};
+ghost use Rattle.altarica_run.specs.declared.refusals.Refusal.{Refusal};
+ghost use Rattle.altarica_run.specs.declared.status.Status.{Status};
+ghost use Rattle.binding_laws.specs.Declarations.{SameDeclarations};
+ghost use Rattle.source_laws.specs.Sources.{SameSource};
+ghost use Rattle.ready_laws.specs.Ready.{SameReady};
+
+use parser_laws::readings::agreement_opens;
+
+/// Declarations and sources that are alike, and jobs that stand ready alike, are so the other way
+/// round.
+pub fn likeness_turns_round()
+    ensures declarations { (d e : Declarations) → SameDeclarations d e → SameDeclarations e d }
+    ensures sources { (x y : Elaborated) → SameSource x y → SameSource y x }
+    ensures jobs { (w v : Ready) → SameReady w v → SameReady v w }
+{}
+
+/// In sources that are alike everything is called alike, and words, scripts and lists of cuts mean
+/// the same: labels, commands, cut lines, events, observers and their values.
+pub fn inputs_agree()
+    ensures naming { (x y : Elaborated) → SameSource x y
+        → naming_of x.declarations ≡ naming_of y.declarations }
+    ensures labels { (x y : Elaborated) → SameSource x y → (text : List ℕ) (l : Label)
+        → (IsLabel x text l ↔ IsLabel y text l) }
+    ensures scripts { (x y : Elaborated) → SameSource x y → (script : List ℕ)
+        (a : Result (List Command) BadLine) → (Commands script x a ↔ Commands script y a) }
+    ensures cuts { (x y : Elaborated) → SameSource x y → (list : List ℕ)
+        (a : Result (List CutLine) BadLine) → (CutList list x a ↔ CutList list y a) }
+    ensures events { (x y : Elaborated) → SameSource x y → (text events : List ℕ)
+        → (NamesEvents x text events ↔ NamesEvents y text events) }
+    ensures observers { (x y : Elaborated) → SameSource x y → (path : List ℕ) (n : ℕ)
+        → (NamesObserver x path n ↔ NamesObserver y path n) }
+    ensures wanted { (x y : Elaborated) → SameSource x y → (path : List ℕ) (word : Option (List ℕ))
+        (n : ℕ) (v : Value) → (IsWanted x path word n v ↔ IsWanted y path word n v) }
+{
+    agreement_opens();
+}
+
+/// Of sources that are alike the words, the script and the list of cuts of a job ask one thing, and
+/// both jobs stand ready alike; or they are refused in one way.
+pub fn requests_agree()
+    ensures passes { (x y : Elaborated) → SameSource x y → (job : Job) (texts : List (List ℕ))
+        (w : Ready) → Asks job texts x (Ok w)
+        → (v : Ready) × Asks job texts y (Ok v) × SameReady w v }
+    ensures refuses { (x y : Elaborated) → SameSource x y → (job : Job) (texts : List (List ℕ))
+        (r : Refusal) → Asks job texts x (Err r) → Asks job texts y (Err r) }
+{
+    agreement_opens();
+}
+
+/// Of sources that are alike the stages behind them have one answer: both jobs stand ready alike,
+/// or are refused in one way.
+pub fn readiness_agrees()
+    ensures passes { (x y : Elaborated) → SameSource x y → (job : Job) (texts : List (List ℕ))
+        (w : Ready) → Readies job texts x (Ok w)
+        → (v : Ready) × Readies job texts y (Ok v) × SameReady w v }
+    ensures refuses { (x y : Elaborated) → SameSource x y → (job : Job) (texts : List (List ℕ))
+        (r : Refusal) → Readies job texts x (Err r) → Readies job texts y (Err r) }
+{
+    agreement_opens();
+}
+
+/// Of jobs that stand ready alike no set of events meets a conflict in both or in neither, and more
+/// nodes than a limit may be needed for both or for neither.
+pub fn conflicts_agree()
+    ensures free { (w v : Ready) → SameReady w v
+        → (IsConflictFree w.source.system w.dropped ↔ IsConflictFree v.source.system v.dropped) }
+    ensures nodes { (w v : Ready) → SameReady w v → (limit : ℕ)
+        → (MayNeedMore w limit ↔ MayNeedMore v limit) }
+{
+    agreement_opens();
+}
+
+/// Jobs that stand ready alike tell the same texts, and end in the same ways.
+pub fn texts_agree()
+    ensures { (w v : Ready) → SameReady w v → (job : Job) (text : List ℕ) (ends : Status)
+        → (Tells job w text ends ↔ Tells job v text ends) }
+{
+    agreement_opens();
+}

@@ -1,0 +1,4 @@
+mod Counted
+mod Flattened
+mod Meant
+mod Synchronised

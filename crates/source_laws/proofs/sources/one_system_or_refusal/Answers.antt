@@ -1,0 +1,7 @@
+use Rattle.source_laws.proofs.Flattened.{system_alike}
+use Rattle.source_laws.proofs.sources.one_system_or_refusal.Goals as goal
+
+pub returns : goal.returns
+returns c = λ d e s keyed a b h k.
+    system_alike c.way_rules_agree.ensures c.systems_agree.ensures c.counts_agree.ensures.ways
+    c.counts_agree.ensures.parts c.counts_agree.ensures.nodes d e (record { same = s; keyed = keyed }) a b h k

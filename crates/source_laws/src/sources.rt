@@ -1,0 +1,58 @@
+//! Laws of the systems that declarations mean.
+
+ghost use Rattle.std.specs.Prelude.{◌≡◌, ◌↔◌, ℕ, Result};
+ghost use Rattle.ar_base.specs.declared.faults.RuleFault.{RuleFault};
+ghost use Rattle.ar_base.specs.declared.places.Place.{Place};
+ghost use Rattle.ar_meaning.specs.Expand.{AreKeyedEvents};
+ghost use Rattle.ar_meaning.specs.Image.{IsImage};
+ghost use Rattle.ar_meaning.specs.Systems.{System};
+ghost use Rattle.hierarchy.specs.Units.{Thing};
+ghost use Rattle.source_meaning.specs.Systems.{Declarations, HasDeclarations};
+ghost use Rattle.gts_flatten.specs.Elaborating.{Elaborated, BreaksWayRule, Flattens};
+ghost use Rattle.gts_flatten.specs.Elaborating.{most_ways_counted, way_parts_counted, nodes_counted};
+ghost use Rattle.unit_laws.specs.Answers.{SameAnswer};
+ghost use Rattle.binding_laws.specs.Declarations.{IsSameThing, SameDeclarations};
+ghost use Rattle.source_laws.specs.Sources.{SameSource};
+
+use unit_laws::units::{members_of_units_agree, things_agree};
+
+/// Declarations that are alike break L14 at the same places: the same synchronisations lead back to
+/// their events.
+pub fn way_rules_agree()
+    ensures { (d e : Declarations) → SameDeclarations d e → (r : ℕ) (p : Place)
+        → (BreaksWayRule d r p ↔ BreaksWayRule e r p) }
+{
+    things_agree();
+    members_of_units_agree();
+}
+
+/// Declarations that are alike, no two of whose events have one key, mean systems that are the same
+/// form for form, the ways of their events included.
+pub fn systems_agree()
+    ensures { (d e : Declarations) → SameDeclarations d e → AreKeyedEvents e.events
+        → (x y : System Thing) → HasDeclarations d x → HasDeclarations e y
+        → IsImage IsSameThing x y }
+{}
+
+/// Sources that are alike have as many ways of the event that has the most, parts of ways and nodes
+/// of expressions.
+pub fn counts_agree()
+    ensures ways { (x y : Elaborated) → SameSource x y
+        → most_ways_counted x ≡ most_ways_counted y }
+    ensures parts { (x y : Elaborated) → SameSource x y
+        → way_parts_counted x ≡ way_parts_counted y }
+    ensures nodes { (x y : Elaborated) → SameSource x y → nodes_counted x ≡ nodes_counted y }
+{}
+
+/// The system of declarations that are alike, no two of whose events have one key, has one answer:
+/// both mean systems that are the same form for form, or both break L14 at one place, or pass the
+/// same limit.
+pub fn one_system_or_refusal()
+    ensures { (d e : Declarations) → SameDeclarations d e → AreKeyedEvents e.events
+        → (a b : Result Elaborated RuleFault) → Flattens d a → Flattens e b
+        → SameAnswer SameSource a b }
+{
+    way_rules_agree();
+    systems_agree();
+    counts_agree();
+}

@@ -21,7 +21,8 @@ use Rattle.gts_core.specs.Readings.{IsTotal}
 use Rattle.gts_core.specs.declared.system.GtsParts.{GtsParts}
 use Rattle.gts_core.proofs.Viewing.{variables_long}
 use Rattle.gts_flatten.specs.Flat.{naming_of_parts}
-use Rattle.replayer.specs.Printing.{values_text, changes_text, events_lines}
+use Rattle.replayer.specs.Listing.{visible_ways, able}
+use Rattle.replayer.specs.Printing.{values_text, changes_text, way_lines}
 use Rattle.replayer.specs.Playing.{AreTotal, Follows}
 use Rattle.replayer.specs.Replays.{IsReplay}
 use Rattle.replayer.specs.declared.replaying.End.{End}
@@ -194,7 +195,7 @@ module _ (p : GtsParts) (sound : IsSound p) (sys : s.System ℕ) (views : Views 
       record {
         text = _;
         end = f.end;
-        follows = lists_so below t (events_lines p may.0 p.events.items)
+        follows = lists_so below t (way_lines p (able may.0 (visible_ways p.events.items)))
             (is_list p sys views t may.0 may.1 sound) cs f.text f.end f.follows;
       }
 

@@ -1,12 +1,13 @@
 -- What is written of the ways that can fire is what the trace tells of them.
-use Rattle.std.proofs.Common.{◌≡◌, ◌+◌, ◌-◌, ◌<◌, ℕ, suc, Bool, true, false, if◌then◌else◌, List, [], ◌∷◌, ◌++◌, codes, length, refl, sym, ◌∙◌, ap, subst, arith, append_assoc, inl, inr}
+use Rattle.std.proofs.Common.{◌≡◌, ◌+◌, ◌-◌, ◌<◌, ℕ, suc, Bool, true, false, if◌then◌else◌, cond, List, [], ◌∷◌, ◌++◌, codes, filter, length, refl, sym, ◌∙◌, ap, subst, arith, append_assoc, inl, inr}
 use Rattle.std.proofs.lemmas.Bool.{cases_eq, cases_lt}
 use Rattle.std.proofs.lemmas.List.{length-map}
-use Rattle.ar_base.specs.Lists.{Stands, Along}
+use Rattle.std.proofs.lemmas.List.Elements.{filter-append}
+use Rattle.ar_base.specs.Lists.{Stands, IsOneOf, Along}
 use Rattle.ar_base.specs.Lists as l
 use Rattle.ar_base.specs.Numbers.{WayId}
 use Rattle.ar_base.specs.Texts.{line}
-use Rattle.ar_base.proofs.Standing.{stands_within}
+use Rattle.ar_base.proofs.Standing.{stands_within, one_here, one_none, one_cases, one_first, one_rest, one_split}
 use Rattle.domains.specs.declared.Value.{Value}
 use Rattle.typed_expr.proofs.Listing.{Told}
 use Rattle.ar_meaning.specs.Systems as s
@@ -27,8 +28,8 @@ use Rattle.gts_core.specs.declared.system.Event.{Event}
 use Rattle.gts_core.specs.declared.system.GtsParts.{GtsParts}
 use Rattle.gts_flatten.specs.Flat.{naming_of_parts}
 use Rattle.text_pieces.specs.WayLabels.{label_of, label_found, way_label}
-use Rattle.replayer.specs.Listing.{AreAnswers, AreInside, HaveInside}
-use Rattle.replayer.specs.Printing.{way_lines, events_lines}
+use Rattle.replayer.specs.Listing.{AreAnswers, AreInside, visible_ways, able, AreReady}
+use Rattle.replayer.specs.Printing.{way_lines}
 use Rattle.text_pieces.proofs.Ways.{label_alike}
 
 -- the labels of those of these ways that can fire
@@ -43,6 +44,13 @@ visible_labels may v e = if v.hidden then [] else labels_of may v.ways.items e 0
 abbrev events_labels : (ℕ → Bool) → List Event → ℕ → List Label
 events_labels may [] e = []
 events_labels may (v ∷ vs) e = visible_labels may v e ++ events_labels may vs (e + 1)
+
+-- the lines of ways and of further ones
+way_lines_both : (p : GtsParts) (vs ws : List WayId) → way_lines p (vs ++ ws) ≡ way_lines p vs ++ way_lines p ws
+way_lines_both p [] ws = refl
+way_lines_both p (v ∷ vs) ws =
+    ap (λ z. line (codes "  " ++ way_label p v.n) ++ z) (way_lines_both p vs ws)
+    ∙ sym (append_assoc (line (codes "  " ++ way_label p v.n)) (way_lines p vs) (way_lines p ws))
 
 module _ (p : GtsParts) (sys : s.System ℕ) (views : Views p sys) (t : List Value) (may : ℕ → Bool)
     (answers : AreAnswers p t may) where
@@ -101,42 +109,41 @@ module _ (p : GtsParts) (sys : s.System ℕ) (views : Views p sys) (t : List Val
         (sym (label_alike p sys views n.n)
         ∙ ap (λ (z : Label). label_text (naming_of_parts p) sys z) (listed_label e k n is))
 
-    one_text : (e k : ℕ) (n : WayId) (b : Bool) → IsListedWay p e k n
-        → (if b then line (codes "  " ++ way_label p n.n) else [])
-        ≡ label_lines (naming_of_parts p) sys (if b then record { event = e; way = k } ∷ [] else [])
-    one_text e k n true is = way_text_is e k n is
-        ∙ sym (nothing_behind (line (codes "  " ++ label_text (naming_of_parts p) sys (record { event = e; way = k }))))
-      where
-        nothing_behind : (xs : List ℕ) → xs ++ [] ≡ xs
-        nothing_behind [] = refl
-        nothing_behind (x ∷ xs) = ap (λ z. x ∷ z) (nothing_behind xs)
-    one_text e k n false is = refl
+    one_text : (e k : ℕ) (n : WayId) (b : Bool) (ws : List WayId) (ls : List Label) → IsListedWay p e k n
+        → way_lines p ws ≡ label_lines (naming_of_parts p) sys ls
+        → way_lines p (cond b (n ∷ ws) ws)
+        ≡ label_lines (naming_of_parts p) sys ((if b then record { event = e; way = k } ∷ [] else []) ++ ls)
+    one_text e k n true ws ls is rest =
+        ap (λ z. z ++ way_lines p ws) (way_text_is e k n is)
+        ∙ ap (λ z. line (codes "  " ++ label_text (naming_of_parts p) sys (record { event = e; way = k })) ++ z) rest
+    one_text e k n false ws ls is rest = rest
 
     ways_text : (e : ℕ) (ids : List WayId) (k : ℕ) → ((j : ℕ) (n : WayId) → Stands ids j n → IsListedWay p e (k + j) n)
-        → way_lines p may ids ≡ label_lines (naming_of_parts p) sys (labels_of may ids e k)
+        → way_lines p (able may ids)
+        ≡ label_lines (naming_of_parts p) sys (labels_of may ids e k)
     ways_text e [] k own = refl
     ways_text e (n ∷ ids) k own =
         let first : IsListedWay p e k n = subst (λ (z : ℕ). IsListedWay p e z n) (omega arith) (own 0 n refl) in
-        ap (λ z. z ++ way_lines p may ids) (one_text e k n (may n.n) first)
-        ∙ ap (λ z. label_lines (naming_of_parts p) sys
-        (if may n.n then record { event = e; way = k } ∷ [] else []) ++ z)
+        one_text e k n (may n.n) (able may ids) (labels_of may ids e (k + 1)) first
         (ways_text e ids (k + 1) (λ j m s. subst (λ (z : ℕ). IsListedWay p e z m) (omega arith) (own (suc j) m s)))
-        ∙ sym (lines_joined (if may n.n then record { event = e; way = k } ∷ [] else []) (labels_of may ids e (k + 1)))
 
     event_text : (e : ℕ) (v : Event) (b : Bool) → Stands p.events.items e v
-        → (if b then [] else way_lines p may v.ways.items)
+        → way_lines p (able may (if b then [] else v.ways.items))
         ≡ label_lines (naming_of_parts p) sys (if b then [] else labels_of may v.ways.items e 0)
     event_text e v true s = refl
     event_text e v false s = ways_text e v.ways.items 0
         (λ j n h. subst (λ (z : ℕ). IsListedWay p e z n) (omega arith) (sound.event_ways e j v n s h))
 
     events_text : (vs : List Event) (e : ℕ) → ((j : ℕ) (v : Event) → Stands vs j v → Stands p.events.items (e + j) v)
-        → events_lines p may vs ≡ label_lines (naming_of_parts p) sys (events_labels may vs e)
+        → way_lines p (able may (visible_ways vs)) ≡ label_lines (naming_of_parts p) sys (events_labels may vs e)
     events_text [] e own = refl
     events_text (v ∷ vs) e own =
         let first : Stands p.events.items e v =
         subst (λ (z : ℕ). Stands p.events.items z v) (omega arith) (own 0 v refl) in
-        ap (λ z. z ++ events_lines p may vs) (event_text e v v.hidden first)
+        let here : List WayId = if v.hidden then [] else v.ways.items in
+        ap (way_lines p) (filter-append (λ (n : WayId). may n.n) here (visible_ways vs))
+        ∙ way_lines_both p (able may here) (able may (visible_ways vs))
+        ∙ ap (λ z. z ++ way_lines p (able may (visible_ways vs))) (event_text e v v.hidden first)
         ∙ ap (λ z. label_lines (naming_of_parts p) sys (visible_labels may v e) ++ z)
         (events_text vs (e + 1) (λ j u h. subst (λ (z : ℕ). Stands p.events.items z u) (omega arith) (own (suc j) u h)))
         ∙ sym (lines_joined (visible_labels may v e) (events_labels may vs (e + 1)))
@@ -147,7 +154,7 @@ module _ (p : GtsParts) (sys : s.System ℕ) (views : Views p sys) (t : List Val
       pub listed : Listed (HasValue sys.net t) 0 sys.events labels
       pub lines : text ≡ label_lines (naming_of_parts p) sys labels
 
-    pub is_list : IsList (events_lines p may p.events.items)
+    pub is_list : IsList (way_lines p (able may (visible_ways p.events.items)))
     is_list = record {
       labels = events_labels may p.events.items 0;
       listed = subst (λ (net : s.Net ℕ). Listed (HasValue net t) 0 sys.events (events_labels may p.events.items 0))
@@ -211,7 +218,52 @@ pub rest_inside : (p : GtsParts) (ways : List WayId) (i : ℕ) (w : WayId) → A
     → w.n < length p.ways.items
 rest_inside p ways i w h s = h.each i w s
 
-pub events_inside : (p : GtsParts) → IsSound p → HaveInside p p.events.items
-events_inside p sound = record {
-  each = λ k e h. record { each = λ j w i. let own = sound.event_ways k j e w h i in stands_within p.ways.items w.n own.way own.stands };
+-- the visible ways of these events are those of the system
+events_inside : (p : GtsParts) → IsSound p → (es : List Event) (e : ℕ)
+    → ((j : ℕ) (v : Event) → Stands es j v → Stands p.events.items (e + j) v)
+    → (w : WayId) → IsOneOf (visible_ways es) w → w.n < length p.ways.items
+events_inside p sound [] e own w o = absurd (one_none w o)
+events_inside p sound (v ∷ es) e own w o =
+    elim (one_split (if v.hidden then [] else v.ways.items) (visible_ways es) w o) [
+      | inl here ↦ one v.hidden here
+      | inr later ↦ events_inside p sound es (e + 1)
+          (λ j u h. subst (λ (z : ℕ). Stands p.events.items z u) (omega arith) (own (suc j) u h)) w later
+    ]
+  where
+    one : (b : Bool) → IsOneOf (if b then [] else v.ways.items) w → w.n < length p.ways.items
+    one true here = absurd (one_none w here)
+    one false here =
+        let first : Stands p.events.items e v =
+        subst (λ (z : ℕ). Stands p.events.items z v) (omega arith) (own 0 v refl) in
+        let listed = sound.event_ways e here.place v w first here.stands in
+        stands_within p.ways.items w.n listed.way listed.stands
+
+pub visible_inside : (p : GtsParts) → IsSound p → AreInside p (visible_ways p.events.items)
+visible_inside p sound = record {
+  each = λ k w s. events_inside p sound p.events.items 0
+      (λ j v h. subst (λ (z : ℕ). Stands p.events.items z v) (omega arith) h) w
+      (one_here (visible_ways p.events.items) k w s);
+}
+
+-- some of these ways
+filter_one : (f : WayId → Bool) (ws : List WayId) (w : WayId) → IsOneOf (filter f ws) w → IsOneOf ws w
+filter_one f [] w o = o
+filter_one f (v ∷ ws) w o = by (f v) (filter_one f ws w) o
+  where
+    by : (b : Bool) → (IsOneOf (filter f ws) w → IsOneOf ws w) → IsOneOf (cond b (v ∷ filter f ws) (filter f ws)) w
+        → IsOneOf (v ∷ ws) w
+    by true rest q = elim (one_cases v (filter f ws) w q) [
+      | inl e ↦ subst (λ (z : WayId). IsOneOf (v ∷ ws) z) e (one_first v ws)
+      | inr r ↦ one_rest v ws w (rest r)
+    ]
+    by false rest q = one_rest v ws w (rest q)
+
+pub ready_inside : (p : GtsParts) → IsSound p → (t : List Value) (ways : List WayId) → AreReady p t ways
+    → AreInside p ways
+ready_inside p sound t ways h = record {
+  each = λ k w s.
+      let may = some_answers p sound t in
+      let o = subst (λ (z : List WayId). IsOneOf z w) (h.are may.0 may.1) (one_here ways k w s) in
+      let q = filter_one (λ (v : WayId). may.0 v.n) (visible_ways p.events.items) w o in
+      (visible_inside p sound).each q.place w q.stands;
 }

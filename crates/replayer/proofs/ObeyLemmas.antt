@@ -1,5 +1,5 @@
 -- What each command answers.
-use Rattle.std.proofs.Common.{◌≡◌, ◌<◌, ℕ, List, [], ◌∷◌, ◌++◌, codes, length, Result, Err, refl, sym, subst, arith}
+use Rattle.std.proofs.Common.{◌≡◌, ◌<◌, ℕ, List, [], ◌∷◌, ◌++◌, codes, length, Result, Err, refl, sym, subst}
 use Rattle.ar_base.specs.Texts.{line}
 use Rattle.ar_io.specs.Writing.{SinkState, Writes}
 use Rattle.ar_io.specs.declared.outside.SinkFailed.{SinkFailed}
@@ -22,7 +22,8 @@ use Rattle.stepper.specs.declared.faults.StepFault.TheVariants as fault
 use Rattle.text_pieces.specs.WayLabels.{label_of, way_label}
 use Rattle.replayer.specs.Playing.{AreTotal, Follows, Answers, stops, write, memory, IsRefusal}
 use Rattle.replayer.specs.Playing as refusal
-use Rattle.replayer.specs.Printing.{values_text, changes_text, events_lines}
+use Rattle.replayer.specs.Listing.{visible_ways, able}
+use Rattle.replayer.specs.Printing.{values_text, changes_text, way_lines}
 use Rattle.text_pieces.specs.Faults.{step_text}
 use Rattle.replayer.specs.declared.replaying.End.{End}
 use Rattle.replayer.specs.declared.replaying.End.TheVariants.{Fault}
@@ -161,10 +162,11 @@ module _ (p : GtsParts) (sound : IsSound p) (sys : s.System ℕ) (views : Views 
   pub list_on : (at : Standing) → (cs : List Command) (more : List ℕ) (end : End)
       → Follows (naming_of_parts p) sys at.below at.values cs more end
       → Follows (naming_of_parts p) sys at.below at.values (Enabled ∷ cs)
-      ((line (codes "enabled") ++ events_lines p (some_answers p sound at.values).0 p.events.items) ++ more) end
+      ((line (codes "enabled") ++ way_lines p (able (some_answers p sound at.values).0 (visible_ways p.events.items)))
+      ++ more) end
   list_on at cs more end f =
       let may = some_answers p sound at.values in
-      lists_so p sound sys views at.below at.values (events_lines p may.0 p.events.items)
+      lists_so p sound sys views at.below at.values (way_lines p (able may.0 (visible_ways p.events.items)))
       (is_list p sys views at.values may.0 may.1 sound) cs more end f
 
   pub show_on : (at : Standing) → IsTotal p at.values → (cs : List Command) (more : List ℕ) (end : End)

@@ -11,6 +11,7 @@ use Rattle.gts_core.specs.Readings.{IsTotal}
 use Rattle.gts_core.specs.declared.system.GtsParts.{GtsParts}
 use Rattle.gts_core.specs.declared.system.Observer.{Observer}
 use Rattle.value_changes.specs.Changes.{numbers}
+use Rattle.replayer.specs.Listing.{IsReady}
 use Rattle.replayer.specs.declared.latest.Latest.{Latest}
 
 -- observer n names variable x
@@ -43,8 +44,10 @@ pub record AreTouched (p : GtsParts) (variables : List VarId) (all : List ℕ) :
   pub ascend : Ascends all
   pub each : (n : ℕ) → (IsOneOf all n ↔ NamesOne p variables n)
 
--- the valuation that was told last is the present one, and each variable's observers are known
+-- the valuation that was told last is the present one, each variable's observers are known, and so are the visible
+-- ways that can fire, where they are found
 pub record IsLatest (p : GtsParts) (t : List Value) (latest : Latest) : Type 0 where
   pub values : latest.values.items ≡ t
   pub total : IsTotal p t
   pub observed : AreInOrder p latest.observed.items
+  pub ready : IsReady p t latest.ready

@@ -1,6 +1,6 @@
 -- The texts of a replay as they are written: the lines of values, of changes and of what can fire, by the parts of a
 -- flat system.
-use Rattle.std.specs.Prelude.{ℕ, ◌+◌, Bool, if◌then◌else◌, List, [], ◌∷◌, ◌++◌, map, codes, slice_get, Option, Some, None, false}
+use Rattle.std.specs.Prelude.{ℕ, ◌+◌, if◌then◌else◌, List, [], ◌∷◌, ◌++◌, map, codes, slice_get, Option, Some, None, false}
 use Rattle.ar_base.specs.Numbers.{WayId}
 use Rattle.ar_base.specs.Texts.{line}
 use Rattle.domains.specs.declared.Value.{Value}
@@ -8,7 +8,6 @@ use Rattle.domains.specs.declared.Value.TheVariants.{Truth}
 use Rattle.domains.specs.Same.{is_same}
 use Rattle.ar_meaning.specs.TraceText.{variable_line, observer_line, all_lines}
 use Rattle.gts_core.specs.Readings.{value_in}
-use Rattle.gts_core.specs.declared.system.Event.{Event}
 use Rattle.gts_core.specs.declared.system.GtsParts.{GtsParts}
 use Rattle.gts_core.specs.declared.system.Observer.{Observer}
 use Rattle.gts_flatten.specs.Flat.{naming_of_parts}
@@ -68,16 +67,7 @@ abbrev pub changes_text : GtsParts → List Value → List Value → List ℕ
 changes_text p old new =
     changes_from (variable_line (naming_of_parts p)) 0 old new ++ observer_changes p old new 0 p.observers.items
 
--- the lines of those of these ways that can fire
-abbrev pub way_lines : GtsParts → (ℕ → Bool) → List WayId → List ℕ
-way_lines p can [] = []
-way_lines p can (w ∷ ws) = (if can w.n then line (codes "  " ++ way_label p w.n) else []) ++ way_lines p can ws
-
--- the lines of the ways of an event, which has none where it is hidden
-abbrev pub event_lines : GtsParts → (ℕ → Bool) → Event → List ℕ
-event_lines p can e = if e.hidden then [] else way_lines p can e.ways.items
-
--- the lines of the ways of these events that can fire
-abbrev pub events_lines : GtsParts → (ℕ → Bool) → List Event → List ℕ
-events_lines p can [] = []
-events_lines p can (e ∷ es) = event_lines p can e ++ events_lines p can es
+-- the lines of these ways
+abbrev pub way_lines : GtsParts → List WayId → List ℕ
+way_lines p [] = []
+way_lines p (w ∷ ws) = line (codes "  " ++ way_label p w.n) ++ way_lines p ws

@@ -1,35 +1,46 @@
-//! What the lines of changes are told from.
+//! What lines are told from.
 
 ghost use Rattle.std.specs.Prelude.{◌≡◌, length, IfOk};
 ghost use Rattle.gts_core.specs.Sound.{IsSound};
 ghost use Rattle.value_changes.specs.Changes.{AreChanges};
+ghost use Rattle.replayer.specs.Listing.{IsReady};
 ghost use Rattle.replayer.specs.Observing.{AreObserved, AreInOrder};
 
+use crate::ready::{Ready, not_found};
 use ar_base::{Memory, VarId};
 use domains::Value;
 use flow_propagate::add_named_pairs;
 use gts_core::GtsParts;
 use std::alloc::Global;
 
-/// What the lines of changes are told from: the valuation that was told last, so that no valuation is copied at a step, and
-/// which observers name which variable, so that no others are looked at.
+/// What lines are told from: the valuation that was told last, so that no valuation is copied at a
+/// step, which observers name which variable, so that no others are looked at, and the visible
+/// ways that can fire.
 #[derive(Drop)]
 pub(crate) struct Latest {
     /// The valuation that was told last.
     pub values: Vec<Value>,
     /// The pairs of a variable and an observer that names it, by ascending variables.
     pub observed: Vec<(u32, u32)>,
+    /// The visible ways that can fire, as far as they are found.
+    pub ready: Ready,
 }
 
-/// The valuation of a start, and the observers.
+/// The valuation of a start, the observers and the visible ways.
 pub(crate) fn at_start(alloc: Global, parts: &GtsParts, values: &[Value]) -> Result<Latest, Memory>
     requires { IsSound parts.now }
     ensures values { IfOk result (λ latest. latest.values.items ≡ values.now) }
     ensures observed { IfOk result (λ latest. AreInOrder parts.now latest.observed.items) }
+    ensures ready { IfOk result (λ latest. IsReady parts.now values.now latest.ready) }
 {
     let values = Vec::from_slice(alloc, values)?;
     let observed = observed(alloc, parts)?;
-    Ok(Latest { values, observed })
+    let ready = not_found(alloc, &parts.events)?;
+    Ok(Latest {
+        values,
+        observed,
+        ready,
+    })
 }
 
 // The pairs of a variable and an observer that names it, by ascending variables.

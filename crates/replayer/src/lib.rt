@@ -5,6 +5,7 @@ mod enabled;
 mod latest;
 pub mod laws;
 mod obeying;
+mod ready;
 mod replaying;
 mod settling;
 mod shown;

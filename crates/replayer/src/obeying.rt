@@ -12,6 +12,7 @@ ghost use Rattle.text_pieces.specs.Faults.{IsFaultInRange};
 ghost use Rattle.replayer.specs.declared.replaying.End.TheVariants.{Done};
 
 use crate::latest::{Latest, follow};
+use crate::ready::find;
 use crate::replaying::{End, ReplayFault};
 use crate::touched::touched;
 use crate::trace::{fired, gone_back, listed, no_step, not_fired, shown};
@@ -48,7 +49,7 @@ pub(crate) fn obey<K: Sink>(
         Command::Fire(way) => fire(alloc, gts, stepper, latest, way, out),
         Command::Back => back(alloc, gts, stepper, latest, out),
         Command::Show => show(gts, stepper, out),
-        Command::Enabled => list(gts, stepper, out),
+        Command::Enabled => list(alloc, gts, stepper, latest, out),
     }
 }
 
@@ -81,6 +82,7 @@ fn fire<K: Sink>(
             let touched = touched(alloc, &latest.observed, changed)?;
             fired(out, gts, way, &latest.values, new, changed, &touched)?;
             follow(&mut latest.values, changed, new);
+            latest.ready.found = false;
             Ok(End::Done)
         }
         Err(fault) => refuse(gts, way, fault, out),
@@ -134,6 +136,7 @@ fn back<K: Sink>(
             let touched = touched(alloc, &latest.observed, changed)?;
             gone_back(out, gts, &latest.values, new, changed, &touched)?;
             follow(&mut latest.values, changed, new);
+            latest.ready.found = false;
             Ok(End::Done)
         }
         Err(NoStep {}) => {
@@ -157,16 +160,23 @@ fn show<K: Sink>(gts: &Gts, stepper: &Stepper, out: &mut K) -> Result<End, Repla
 }
 
 // Lists the ways that can fire.
-fn list<K: Sink>(gts: &Gts, stepper: &Stepper, out: &mut K) -> Result<End, ReplayFault>
+fn list<K: Sink>(
+    alloc: Global,
+    gts: &Gts,
+    stepper: &Stepper,
+    latest: &mut Latest,
+    out: &mut K,
+) -> Result<End, ReplayFault>
     requires sound { IsSound gts.now }
     requires same { stepper.now.system ≡ gts.now }
     requires below { AreTotal gts.now stepper.now.below }
-    ensures { (system : System ℕ) → Views gts.now system
+    requires latest { IsLatest gts.now stepper.now.values latest.old }
+    ensures latest { OnOk result (IsLatest gts.now stepper.now.values latest.new) }
+    ensures answers { (system : System ℕ) → Views gts.now system
         → Answers (naming_of_parts gts.now) system stepper.now stepper.now
         (command_of gts.now Command.Enabled) (K.state out.old) (K.state out.new) result }
 {
-    // The present valuation is total, and so the run goes on.
-    let _values = stepper.values();
-    listed(out, gts, stepper)?;
+    find(alloc, stepper, &mut latest.ready)?;
+    listed(out, gts, &latest.ready.ways)?;
     Ok(End::Done)
 }

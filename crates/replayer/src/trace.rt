@@ -1,6 +1,6 @@
 //! The lines of a trace, moment by moment.
 
-ghost use Rattle.std.specs.Prelude.{◌≡◌, ◌<◌, ◌++◌, ℕ, Bool, codes, decimal, length};
+ghost use Rattle.std.specs.Prelude.{◌≡◌, ◌<◌, ◌++◌, codes, decimal, length};
 ghost use Rattle.ar_base.specs.Texts.{line};
 ghost use Rattle.ar_io.specs.Writing.{Writes};
 ghost use Rattle.ar_meaning.specs.TraceText.{flow_fault_text};
@@ -9,20 +9,20 @@ ghost use Rattle.gts_core.specs.Readings.{IsTotal};
 ghost use Rattle.gts_flatten.specs.Flat.{naming_of_parts};
 ghost use Rattle.text_pieces.specs.WayLabels.{way_label};
 ghost use Rattle.text_pieces.specs.Faults.{IsInRange};
-ghost use Rattle.replayer.specs.Listing.{AreAnswers};
+ghost use Rattle.replayer.specs.Listing.{AreInside};
 ghost use Rattle.value_changes.specs.Changes.{AreChanges};
 ghost use Rattle.replayer.specs.Observing.{AreTouched};
-ghost use Rattle.replayer.specs.Printing.{values_text, changes_text, events_lines};
+ghost use Rattle.replayer.specs.Printing.{values_text, changes_text, way_lines};
 ghost use Rattle.text_pieces.specs.Faults.{step_text, IsFaultInRange};
 
-use crate::enabled::enabled_lines;
+use crate::enabled::way_lines;
 use crate::shown::{all_lines, changed_lines};
 use ar_base::{VarId, WayId};
 use ar_io::{Sink, SinkFailed, write_count, write_text};
 use domains::Value;
 use flow_propagate::FlowFault;
 use gts_core::Gts;
-use stepper::{StepFault, Stepper};
+use stepper::StepFault;
 use text_pieces::{print_flow_fault, print_label, print_step_fault};
 
 /// Writes the lines of a start.
@@ -134,15 +134,14 @@ pub(crate) fn shown<K: Sink>(out: &mut K, gts: &Gts, values: &[Value]) -> Result
     all_lines(out, gts.parts(), values)
 }
 
-/// Writes the lines of the ways that can fire.
-pub(crate) fn listed<K: Sink>(out: &mut K, gts: &Gts, stepper: &Stepper) -> Result<(), SinkFailed>
-    requires { stepper.now.system ≡ gts.now }
-    ensures { (can : ℕ → Bool) → AreAnswers gts.now stepper.now.values can
-        → Writes (K.state out.old) (K.state out.new)
-        (line (codes "enabled") ++ events_lines gts.now can gts.now.events.items) result }
+/// Writes the lines of a list of these ways.
+pub(crate) fn listed<K: Sink>(out: &mut K, gts: &Gts, ways: &[WayId]) -> Result<(), SinkFailed>
+    requires { AreInside gts.now ways.now }
+    ensures { Writes (K.state out.old) (K.state out.new)
+        (line (codes "enabled") ++ way_lines gts.now ways.now) result }
 {
     write_text(out, "enabled\n")?;
-    enabled_lines(out, gts, stepper)
+    way_lines(out, gts, ways)
 }
 
 /// Writes the line of the end, where so many steps stand.

@@ -9,6 +9,7 @@ use Rattle.gts_core.specs.Readings.{IsTotal}
 use Rattle.gts_core.specs.declared.system.GtsParts.{GtsParts}
 use Rattle.gts_flatten.specs.Flat.{naming_of_parts}
 use Rattle.job_inputs.specs.Flat.{command_of}
+use Rattle.replayer.specs.Listing.{IsReady}
 use Rattle.replayer.specs.Observing.{AreInOrder}
 use Rattle.replayer.specs.Playing.{AreTotal, Answers}
 use Rattle.replayer.specs.Printing.{values_text}
@@ -57,6 +58,10 @@ loop-command-init g c =
         total = total;
         observed = subst (λ (q : GtsParts). AreInOrder q c.in_ok-latest.latest.observed.items) c.parts.ensures.parts
             c.in_ok-latest.ensures.observed;
+        ready = subst (λ (q : GtsParts). IsReady q c.args.stepper.values c.in_ok-latest.latest.ready)
+            c.parts.ensures.parts
+            (subst (λ (t : List Value). IsReady c.parts.result.now t c.in_ok-latest.latest.ready)
+            (c.deref.ensures.value ∙ c.values.ensures.values) c.in_ok-latest.ensures.ready);
       };
       played = λ system views.
           started_on p c.requires.sound system views c.args.stepper _ c.requires.starts c.requires.no_step total

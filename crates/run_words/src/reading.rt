@@ -15,11 +15,8 @@ use crate::lines::{CommandLine, command_line, matches};
 use crate::numbers::number;
 use crate::shapes::{Form, Shape, Takes};
 use crate::verbs::{Verb, named as named_verb};
-use ar_base::{MOST_NODES, Text};
+use ar_base::{MOST_NODES, Text, USUAL_NODES};
 use std::alloc::Global;
-
-// The node limit where `--nodes` is not used.
-const USUAL_NODES: u32 = 1_000_000;
 
 /// Reads the words behind the program's name as a job.
 ///

@@ -33,7 +33,8 @@ pub fn one_table_of_a_text()
     tables_agree();
 }
 
-/// In tables that agree a body has the same members, inherited ones included, site by site.
+/// In tables that agree lists of a body's members, inherited ones included, are one list, site by site.
+/// A body that extends itself has none.
 pub fn members_agree()
     ensures { (d e : Declared) → SameTable d e → (b : ℕ) (xs ys : List Site) → Members d b xs
         → Members e b ys → xs ≡ ys }
@@ -42,7 +43,7 @@ pub fn members_agree()
     one_list_of_members();
 }
 
-/// However a text is read, each of its bodies has one list of members.
+/// However a text is read, each of its bodies has at most one list of members.
 pub fn one_list_of_members_of_a_text()
     ensures { (text : List ℕ) (n : ℕ) (x y : Model) (d e : Declared) → ReadsWithin n text x
         → ReadsWithin n text y → IsDeclared x d → IsDeclared y e

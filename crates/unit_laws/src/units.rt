@@ -104,8 +104,8 @@ pub fn unit_rules_agree()
     agreement_opens();
 }
 
-/// The unfolding of models that agree has one answer: both have the same units, or both pass the same limit,
-/// or break the same rule at the same place.
+/// The unfolding of models that agree has at most one answer: both have the same units, or both pass the same
+/// limit, or break the same rule at the same place.
 pub fn one_tree_or_refusal()
     ensures { (m n : RootedModel) → SameRooted m n → (a b : Result Unfolded RuleFault)
         → Instantiates m a → Instantiates n b → SameAnswer SameUnfolded a b }
@@ -123,7 +123,7 @@ pub fn one_root_of_a_text()
     texts_are_seen_alike();
 }
 
-/// However a text that keeps the rules L1 to L5 is read, its unfolding has one answer.
+/// However a text that keeps the rules L1 to L5 is read, its unfolding has at most one answer.
 pub fn one_tree_of_a_text()
     ensures { (text : List ℕ) (k : ℕ) (x y : Model) (main : Option (List ℕ)) (m n : RootedModel)
         → ReadsWithin k text x → ReadsWithin k text y → IsRootedIn x main m → IsRootedIn y main n

@@ -5,9 +5,9 @@ mod Forms
 mod Itself
 mod Levels
 mod Meant
-mod OneBinding
+pub mod OneBinding
 mod OneDeclarations
-mod OneText
+pub mod OneText
 mod PathKinds
 mod Ruled
 mod Tested

@@ -32,13 +32,13 @@ unfolding_of m t (passes a (whole u s l) (passes b (passes c (fits f) (passes d 
     record { model = refl; are = u }
 
 -- models that agree, the second of which keeps the rules of the text
-record AreRootedAlike (m n : RootedModel) : Type 0 where
-  same : SameRooted m n
-  kept : KeepsTextRules n
+pub record AreRootedAlike (m n : RootedModel) : Type 0 where
+  pub same : SameRooted m n
+  pub kept : KeepsTextRules n
 
 module _ (one : (m n : RootedModel) → SameRooted m n → (a b : Result Unfolded RuleFault) → Instantiates m a
     → Instantiates n b → SameAnswer SameUnfolded a b) where
-  trees_alike : (m n : RootedModel) → AreRootedAlike m n → (x y : Result Unfolded RuleFault) → Instantiates m x
+  pub trees_alike : (m n : RootedModel) → AreRootedAlike m n → (x y : Result Unfolded RuleFault) → Instantiates m x
       → Instantiates n y → AreAlike AreKeptAlike x y
   trees_alike m n s x y h k =
       alike_where (λ t u i j r.

@@ -1,8 +1,6 @@
 -- A call whose job has one answer tells its refusal, or its whole listing.
-use Rattle.std.proofs.Common.{◌≡◌, ◌⊎◌, ℕ, zero, List, Result, Ok, Err, inl, inr, refl, ap, subst}
+use Rattle.std.proofs.Common.{◌≡◌, ◌⊎◌, zero, Result, Ok, Err, inl, inr, refl, ap, subst}
 use Rattle.ar_firing.specs.Cuts.{IsConflictFree}
-use Rattle.replayer.specs.declared.replaying.End.{End}
-use Rattle.replayer.specs.declared.replaying.End.TheVariants as end
 use Rattle.run_words.specs.declared.jobs.Job.{Job}
 use Rattle.run_words.specs.declared.verbs.Verb.TheVariants.{Cuts}
 use Rattle.run_words.specs.Jobs.{IsJob}
@@ -10,7 +8,7 @@ use Rattle.altarica_run.specs.Follows.{Call, Gave, IsQuiet}
 use Rattle.altarica_run.specs.Listings.{IsListing}
 use Rattle.altarica_run.specs.Stages.{Ready, Passes, lists_cuts}
 use Rattle.altarica_run.specs.Statuses.{IsTold, IsRefused}
-use Rattle.altarica_run.specs.Tells.{MayNeedMore, Tells, check, flat, replay, fragment, equations, cuts, make, checks, in_short, explains, unsettled, conflict, nodes, status_at}
+use Rattle.altarica_run.specs.Tells.{MayNeedMore, Tells}
 use Rattle.altarica_run.specs.declared.refusals.Refusal.{Refusal}
 use Rattle.altarica_run.specs.declared.status.Status.{Status}
 use Rattle.altarica_run.specs.declared.status.Status.TheVariants as status
@@ -18,28 +16,8 @@ use Rattle.altarica_run.proofs.FollowLemmas.{meaning_of}
 use Rattle.ready_laws.specs.Ready.{SameReady}
 use Rattle.job_laws.specs.Listings.{IsListingOf}
 use Rattle.unit_laws.specs.Answers.{SameAnswer}
+use Rattle.job_laws.proofs.Enough.{nodes_line_told}
 use Rattle.job_laws.proofs.Findings.{conflict_text}
-
-not_nodes : (e : End) → status_at e ≡ status.Nodes → ⊥
-not_nodes end.Done e = cc
-not_nodes end.Fault e = cc
-
--- the line `nodes: N` is told where more may be needed
-nodes_told : (job : Job) (w : Ready) (text : List ℕ) (s : Status) → s ≡ status.Nodes → Tells job w text s
-    → MayNeedMore w job.nodes
-nodes_told job w text s e (check i) = absurd cc
-nodes_told job w text s e (flat i h) = absurd cc
-nodes_told job w text s e (replay {ends = last} i h) = absurd (not_nodes last e)
-nodes_told job w text s e (fragment i h) = absurd cc
-nodes_told job w text s e (equations i q h) = absurd cc
-nodes_told job w text s e (cuts i h) = absurd cc
-nodes_told job w text s e (make i h) = absurd cc
-nodes_told job w text s e (checks i h) = absurd cc
-nodes_told job w text s e (in_short i h) = absurd cc
-nodes_told job w text s e (explains i h) = absurd cc
-nodes_told job w text s e (unsettled i h) = absurd cc
-nodes_told job w text s e (conflict i h) = absurd cc
-nodes_told job w text s e (nodes i h) = h
 
 module _ (c : Call) (job : Job) (one : (a b : Job) → IsJob c.words a → IsJob c.words b → a ≡ b)
     (is : IsJob c.words job)
@@ -75,7 +53,7 @@ module _ (c : Call) (job : Job) (one : (a b : Job) → IsJob c.words a → IsJob
     no_nodes : IsTold c status.Nodes → ⊥
     no_nodes m =
         enough m.ready (told_same status.Nodes m)
-        (nodes_told job m.ready m.text status.Nodes refl (tells_at status.Nodes m))
+        (nodes_line_told job m.ready m.text status.Nodes refl (tells_at status.Nodes m)).needs
 
     done : Gave c status.Done → IsListingOf c job w
     done g = let l = listing g in record { listing = l; same = alike (Ok w) (Ok l.ready) p l.passes }

@@ -1,9 +1,11 @@
 pub mod Alike
+pub mod Answering
 pub mod Asking
 pub mod Completing
 pub mod Cuts
 pub mod Demanding
 pub mod Domains
+pub mod Enough
 pub mod Expressions
 pub mod Findings
 pub mod Flats

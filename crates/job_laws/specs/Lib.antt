@@ -3,3 +3,4 @@ pub mod Findings
 pub mod Listings
 pub mod Named
 pub mod Readings
+pub mod Told

@@ -8,4 +8,5 @@ pub mod alike_laws;
 pub mod answer_laws;
 pub mod flat_laws;
 pub mod one_answer;
+pub mod told;
 pub mod word_laws;

@@ -1,5 +1,6 @@
 mod Asking
 mod Carrying
+mod Conflicts
 mod Demanding
 mod Families
 mod Flats

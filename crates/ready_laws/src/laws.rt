@@ -13,8 +13,10 @@ ghost use Rattle.job_inputs.specs.Naming.{NamesEvents};
 ghost use Rattle.job_inputs.specs.Scripts.{BadLine, Commands};
 ghost use Rattle.job_inputs.specs.Wanting.{NamesObserver, IsWanted};
 ghost use Rattle.run_words.specs.declared.jobs.Job.{Job};
+ghost use Rattle.altarica_run.specs.Listings.{IsCut};
+ghost use Rattle.altarica_run.specs.Nodes.{HasConflict};
 ghost use Rattle.altarica_run.specs.Stages.{Ready, Asks, Readies};
-ghost use Rattle.altarica_run.specs.Tells.{MayNeedMore, Tells};
+ghost use Rattle.altarica_run.specs.Tells.{HasCuts, MayNeedMore, Tells};
 ghost use Rattle.altarica_run.specs.declared.refusals.Refusal.{Refusal};
 ghost use Rattle.altarica_run.specs.declared.status.Status.{Status};
 ghost use Rattle.binding_laws.specs.Declarations.{SameDeclarations};
@@ -76,11 +78,15 @@ pub fn readiness_agrees()
     agreement_opens();
 }
 
-/// Of jobs that stand ready alike no set of events meets a conflict in both or in neither, and more
-/// nodes than a limit may be needed for both or for neither.
+/// Of jobs that stand ready alike no set of events meets a conflict in both or in neither, some set
+/// does in both or in neither, and more nodes than a limit may be needed for both or for neither.
+/// Where both have cuts, the same sets of events are cuts.
 pub fn conflicts_agree()
     ensures free { (w v : Ready) → SameReady w v
         → (IsConflictFree w.source.system w.dropped ↔ IsConflictFree v.source.system v.dropped) }
+    ensures conflict { (w v : Ready) → SameReady w v → (HasConflict w ↔ HasConflict v) }
+    ensures cuts { (w v : Ready) → SameReady w v → (a : HasCuts w) (b : HasCuts v) (set : List ℕ)
+        → (IsCut w a set ↔ IsCut v b set) }
     ensures nodes { (w v : Ready) → SameReady w v → (limit : ℕ)
         → (MayNeedMore w limit ↔ MayNeedMore v limit) }
 {

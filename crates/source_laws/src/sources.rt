@@ -1,20 +1,31 @@
 //! Laws of the systems that declarations mean.
 
-ghost use Rattle.std.specs.Prelude.{◌≡◌, ◌↔◌, ℕ, Result};
+ghost use Rattle.std.specs.Prelude.{◌≡◌, ◌↔◌, ℕ, List, Option, Result};
+ghost use Rattle.ar_base.specs.Breach.{AreKept};
+ghost use Rattle.ar_base.specs.Stages.{Then};
 ghost use Rattle.ar_base.specs.declared.faults.RuleFault.{RuleFault};
 ghost use Rattle.ar_base.specs.declared.places.Place.{Place};
+ghost use Rattle.ar_parser.specs.Models.{ReadsWithin};
+ghost use Rattle.ar_syntax.specs.declared.items.Model.{Model};
 ghost use Rattle.ar_meaning.specs.Expand.{AreKeyedEvents};
 ghost use Rattle.ar_meaning.specs.Image.{IsImage};
 ghost use Rattle.ar_meaning.specs.Systems.{System};
+ghost use Rattle.class_table.specs.Rules.{BreaksTextRule, text_rules};
+ghost use Rattle.hierarchy.specs.Models.{RootedModel, IsRootedIn, KeepsTextRules};
 ghost use Rattle.hierarchy.specs.Units.{Thing};
-ghost use Rattle.source_meaning.specs.Systems.{Declarations, HasDeclarations};
+ghost use Rattle.instantiate.specs.Unfolding.{Instantiates};
+ghost use Rattle.source_meaning.specs.Systems.{Binds, Declarations, HasDeclarations};
 ghost use Rattle.gts_flatten.specs.Elaborating.{Elaborated, BreaksWayRule, Flattens};
 ghost use Rattle.gts_flatten.specs.Elaborating.{most_ways_counted, way_parts_counted, nodes_counted};
 ghost use Rattle.unit_laws.specs.Answers.{SameAnswer};
+ghost use Rattle.unit_laws.specs.Tables.{SameRooted};
 ghost use Rattle.binding_laws.specs.Declarations.{IsSameThing, SameDeclarations};
 ghost use Rattle.source_laws.specs.Sources.{SameSource};
 
-use unit_laws::units::{members_of_units_agree, things_agree};
+use binding_laws::bindings::one_binding_or_refusal;
+use unit_laws::units::{
+    members_of_units_agree, one_root_of_a_text, one_tree_or_refusal, things_agree,
+};
 
 /// Declarations that are alike break L14 at the same places: the same synchronisations lead back to
 /// their events.
@@ -55,4 +66,28 @@ pub fn one_system_or_refusal()
     way_rules_agree();
     systems_agree();
     counts_agree();
+}
+
+/// The source of models that agree has one answer, where they keep the rules L1 to L5: both have sources
+/// that are alike, or both pass the same limit, or break one rule of L6 to L14 at one place.
+pub fn one_source_or_refusal()
+    ensures { (m n : RootedModel) → SameRooted m n → KeepsTextRules n
+        → (a b : Result Elaborated RuleFault) → Then Instantiates (Then Binds Flattens) m a
+        → Then Instantiates (Then Binds Flattens) n b → SameAnswer SameSource a b }
+{
+    one_tree_or_refusal();
+    one_binding_or_refusal();
+    one_system_or_refusal();
+}
+
+/// However a text that keeps the rules L1 to L5 is read, its source has one answer.
+pub fn one_source_of_a_text()
+    ensures { (text : List ℕ) (k : ℕ) (x y : Model) (main : Option (List ℕ)) (m n : RootedModel)
+        → ReadsWithin k text x → ReadsWithin k text y → IsRootedIn x main m → IsRootedIn y main n
+        → AreKept text_rules (BreaksTextRule y main n.declared)
+        → (a b : Result Elaborated RuleFault) → Then Instantiates (Then Binds Flattens) m a
+        → Then Instantiates (Then Binds Flattens) n b → SameAnswer SameSource a b }
+{
+    one_root_of_a_text();
+    one_source_or_refusal();
 }

@@ -1,0 +1,98 @@
+//! How a call is answered of whose job it is known what stands ready for it, or why a stage refuses
+//! it: with the text or the refusal, unless it is stopped.
+//!
+//! A call is stopped where a file is not read, the sink fails or memory is refused.
+
+ghost use Rattle.std.specs.Prelude.{◌≡◌, ◌⊎◌, ℕ, true, false, List, Ok, Err};
+ghost use Rattle.ar_firing.specs.Cuts.{IsConflictFree};
+ghost use Rattle.ar_io.specs.Outside.{Told};
+ghost use Rattle.cut_text.specs.Texts.{IsConflictText};
+ghost use Rattle.gts_flatten.specs.Flat.{naming_of};
+ghost use Rattle.run_words.specs.declared.jobs.Job.{Job};
+ghost use Rattle.run_words.specs.Jobs.{IsJob};
+ghost use Rattle.altarica_run.specs.Follows.{Call, Gave, IsKnown, Wrote};
+ghost use Rattle.altarica_run.specs.Nodes.{HasConflict, IsTextOfCuts};
+ghost use Rattle.altarica_run.specs.Says.{Says};
+ghost use Rattle.altarica_run.specs.Stages.{Ready, Passes, lists_cuts};
+ghost use Rattle.altarica_run.specs.Tells.{MayNeedMore, Tells, nodes_line};
+ghost use Rattle.altarica_run.specs.declared.refusals.Refusal.{Refusal};
+ghost use Rattle.altarica_run.specs.declared.status.Status.{Status};
+ghost use Rattle.altarica_run.specs.declared.status.Status.TheVariants as status;
+ghost use Rattle.job_laws.specs.Told.{IsStopped, IsAnswered, IsToldAs, IsToldWith};
+
+use crate::one_answer::{one_passing, texts_have_one_answer};
+use altarica_run::laws::one_job;
+use altarica_run::nodes::enough_nodes_suffice;
+use ready_laws::laws::texts_agree;
+
+/// A job over files of which something is told, and which a stage refuses, is answered with that
+/// refusal, its line and its status, or is stopped.
+pub fn refusals_are_told()
+    ensures { (c : Call) (s : Status) (job : Job) (r : Refusal) → Gave c s
+        → ((name : List ℕ) → IsKnown (c.files name)) → IsJob c.words job
+        → Passes c.files job (Err r) → IsToldAs c s r }
+{
+    one_job();
+    one_passing();
+}
+
+/// A job over files of which something is told, and which passes all stages, is answered with a
+/// text that it tells, whole, or is stopped. A job that does not tell of cuts has one text and one
+/// way to end: where it tells a text, it is answered with just this one.
+pub fn jobs_are_told()
+    ensures told { (c : Call) (s : Status) (job : Job) (w : Ready) → Gave c s
+        → ((name : List ℕ) → IsKnown (c.files name)) → IsJob c.words job
+        → Passes c.files job (Ok w) → IsAnswered c job w s ⊎ IsStopped c s }
+    ensures exact { (c : Call) (s : Status) (job : Job) (w : Ready) (text : List ℕ)
+        (ends : Status) → Gave c s → ((name : List ℕ) → IsKnown (c.files name)) → IsJob c.words job
+        → lists_cuts job.command ≡ false → Passes c.files job (Ok w) → Tells job w text ends
+        → ((s ≡ ends) × Wrote c text) ⊎ IsStopped c s }
+{
+    one_job();
+    one_passing();
+    texts_agree();
+    texts_have_one_answer();
+}
+
+/// A job that tells of cuts, over files of which something is told, which passes all stages, and
+/// for which no more nodes than its limit may be needed: where some set of events meets a conflict,
+/// it is answered with the line of the conflict and with Fault, or is stopped.
+pub fn conflicts_are_told()
+    ensures { (c : Call) (s : Status) (job : Job) (w : Ready) → Gave c s
+        → ((name : List ℕ) → IsKnown (c.files name)) → IsJob c.words job
+        → lists_cuts job.command ≡ true → Passes c.files job (Ok w) → HasConflict w
+        → (MayNeedMore w job.nodes → ⊥)
+        → IsToldWith c s status.Fault (λ text. IsConflictText (naming_of w.source.declarations)
+        w.source.system w.dropped text) ⊎ IsStopped c s }
+{
+    jobs_are_told();
+    enough_nodes_suffice();
+}
+
+/// The same job, where no set of events meets a conflict, is answered with the whole text that its
+/// command writes of the cuts, and with Done, or is stopped: with the whole listing, with the cuts
+/// of the model that is made counted, with what is to be said of the list, or with the modules.
+pub fn cuts_are_told()
+    ensures { (c : Call) (s : Status) (job : Job) (w : Ready) → Gave c s
+        → ((name : List ℕ) → IsKnown (c.files name)) → IsJob c.words job
+        → lists_cuts job.command ≡ true → Passes c.files job (Ok w)
+        → IsConflictFree w.source.system w.dropped → (MayNeedMore w job.nodes → ⊥)
+        → IsToldWith c s status.Done (λ text. IsTextOfCuts job.command job w text) ⊎ IsStopped c s }
+{
+    jobs_are_told();
+    enough_nodes_suffice();
+}
+
+/// Where words over files of which something is told end with Nodes, they tell of cuts, their text
+/// is the line `nodes: N` of the job's limit, and more nodes than this may be needed.
+pub fn nodes_are_told()
+    ensures { (files : List ℕ → Told) → ((name : List ℕ) → IsKnown (files name))
+        → (words : List (List ℕ)) (job : Job) (w : Ready) (text : List ℕ) → IsJob words job
+        → Passes files job (Ok w) → Says files words text status.Nodes
+        → (lists_cuts job.command ≡ true) × (text ≡ nodes_line job.nodes)
+        × MayNeedMore w job.nodes }
+{
+    one_job();
+    one_passing();
+    texts_agree();
+}

@@ -1,5 +1,7 @@
 pub mod Alike
 pub mod Asking
+pub mod CausesOfJobs
+pub mod CausesOfTexts
 pub mod Completing
 pub mod Cuts
 pub mod Demanding

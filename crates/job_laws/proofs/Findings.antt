@@ -49,26 +49,26 @@ use Rattle.job_laws.proofs.Stages.{same_ok}
 
 -- What stands ready has the source that it is made of
 
-scripted_source : (b : Bool) (texts : List (List ℕ)) (w v : Ready) → Where b (Scripted texts) w (Ok v)
+pub scripted_source : (b : Bool) (texts : List (List ℕ)) (w v : Ready) → Where b (Scripted texts) w (Ok v)
     → v.source ≡ w.source
 scripted_source true texts w v (gives i h) = refl
 scripted_source false texts w v h = ap (λ (z : Ready). z.source) (same_ok v w h)
 
-listed_source : (b : Bool) (texts : List (List ℕ)) (w v : Ready) → Where b (ListsCuts texts) w (Ok v)
+pub listed_source : (b : Bool) (texts : List (List ℕ)) (w v : Ready) → Where b (ListsCuts texts) w (Ok v)
     → v.source ≡ w.source
 listed_source true texts w v (lists i h l) = refl
 listed_source false texts w v h = ap (λ (z : Ready). z.source) (same_ok v w h)
 
-dropped_source : (list : Option (List ℕ)) (w v : Ready) → Drops list w (Ok v) → v.source ≡ w.source
+pub dropped_source : (list : Option (List ℕ)) (w v : Ready) → Drops list w (Ok v) → v.source ≡ w.source
 dropped_source list w v (no_list i) = refl
 dropped_source list w v (names i h) = refl
 
-wanted_source : (b : Bool) (observer word : Option (List ℕ)) (w v : Ready) → Where b (Wanting observer word) w (Ok v)
+pub wanted_source : (b : Bool) (observer word : Option (List ℕ)) (w v : Ready) → Where b (Wanting observer word) w (Ok v)
     → v.source ≡ w.source
 wanted_source true observer word w v (wants i h) = refl
 wanted_source false observer word w v h = ap (λ (z : Ready). z.source) (same_ok v w h)
 
-shown_source : (b : Bool) (path : Option (List ℕ)) (w v : Ready) → Where b (Showing path) w (Ok v)
+pub shown_source : (b : Bool) (path : Option (List ℕ)) (w v : Ready) → Where b (Showing path) w (Ok v)
     → v.source ≡ w.source
 shown_source true path w v (no_path i) = refl
 shown_source true path w v (shows i h) = refl

@@ -1,6 +1,8 @@
 pub mod Alike
 pub mod Answering
 pub mod Asking
+pub mod CausesOfJobs
+pub mod CausesOfTexts
 pub mod Completing
 pub mod Cuts
 pub mod Demanding

@@ -6,6 +6,7 @@
 
 pub mod alike_laws;
 pub mod answer_laws;
+pub mod causes;
 pub mod flat_laws;
 pub mod one_answer;
 pub mod told;

@@ -2,5 +2,4 @@ pub mod Definite
 pub mod Findings
 pub mod Listings
 pub mod Named
-pub mod Readings
 pub mod Told

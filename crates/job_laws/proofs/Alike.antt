@@ -77,7 +77,7 @@ module _ (pass : PassAlike) (refuse : RefuseAlike) (one_list : OneList) (definit
     (source : OneSource) where
   module _ (job : Job) (texts : List (List ℕ)) (text : List ℕ) where
     -- all stages from the text on have one answer
-    stages_alike : (a b : Result Ready Refusal) → Stages job texts text a → Stages job texts text b
+    pub stages_alike : (a b : Result Ready Refusal) → Stages job texts text a → Stages job texts text b
         → SameAnswer SameReady a b
     stages_alike _ _ (refuses {r = r} h) (refuses {r = q} k) = source job.main text (Err r) (Err q) h k
     stages_alike _ b (refuses {r = r} h) (passes y k n) = absurd (source job.main text (Err r) (Ok y) h k)

@@ -194,10 +194,10 @@ module _ (files : List ℕ → Told) (job : Job) (texts : List (List ℕ)) (text
         → Passes files job (Err (Outside (rule_number rule) (spot_path x spot)))
     of_fragment static rule spot h = subst
         (λ (z : Elaborated). IsFirstBroken z.system w.dropped rule spot
-            → Passes files job (Err (Outside (rule_number rule) (spot_path z spot))))
+        → Passes files job (Err (Outside (rule_number rule) (spot_path z spot))))
         (asked_source job texts x w asks)
         (λ k. let r = Outside (rule_number rule) (spot_path w.source spot) in
-            of_demand r (refuses (there s.Static (is_static job.command) w (Err r) static (s.outside k))))
+        of_demand r (refuses (there s.Static (is_static job.command) w (Err r) static (s.outside k))))
         h
 
     pub of_gates : has_table job.command ≡ true → KeepsAll x.system w.dropped → (wanted : Wanted) (table : Table)

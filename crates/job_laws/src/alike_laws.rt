@@ -18,7 +18,7 @@ use ready_laws::laws::{readiness_agrees, texts_agree};
 use source_laws::sources::one_source_of_a_text;
 use unit_laws::laws::{texts_are_seen_alike, texts_break_the_same_rules};
 
-/// All stages of a job that come after sources that are alike have one answer: both jobs stand
+/// All stages of a job that come after sources that are alike have at most one answer: both jobs stand
 /// ready alike, or both are refused for one reason.
 pub fn one_readiness_of_alike_sources()
     ensures { (x y : Elaborated) → SameSource x y → IsDefinite y → (job : Job)
@@ -41,7 +41,7 @@ pub fn one_answer_of_alike_sources()
     texts_agree();
 }
 
-/// However a text is read, the stages up to its source have one answer: its sources from the main
+/// However a text is read, the stages up to its source have at most one answer: its sources from the main
 /// block that is asked for are alike, or it is refused in one way.
 pub fn one_source_or_refusal()
     ensures { (main : Option (List ℕ)) (text : List ℕ) (a b : Result Elaborated Refusal)

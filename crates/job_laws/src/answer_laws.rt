@@ -44,8 +44,8 @@ use parser_laws::readings::{one_tree, trees_keep};
 use unit_laws::laws::{texts_are_seen_alike, texts_break_the_same_rules};
 use unit_laws::units::one_tree_of_a_text;
 
-/// A text has a reading or is refused, never both: two readings of it agree, and it is refused for one
-/// cause, at one place.
+/// A text is never both read and refused: two readings of it agree, and it is refused for one cause, at
+/// one place.
 pub fn one_reading_or_refusal()
     ensures { (text : List ℕ) (x y : Result Model Refusal) → Parses text x → Parses text y
         → SameAnswer SameModel x y }
@@ -53,8 +53,9 @@ pub fn one_reading_or_refusal()
     one_tree();
 }
 
-/// Where the first tokens of a text open no production inside so many others, some text of the grammar
-/// begins with them, of some nesting. So a text that is refused for its syntax is refused at the
+/// First tokens of a text fit where they open no production inside so many others and begin a text in
+/// which a production too deep is one token. Where they fit, some text of the grammar begins with them,
+/// of some nesting. So a text that is refused for its syntax is refused at the
 /// first token with which no text goes on, and its tokens before that one begin some text.
 pub fn fitting_fronts_are_viable()
     ensures { (text : List ℕ) (front rest : Tokens) (names : List (List ℕ)) (end : Place)
@@ -80,7 +81,8 @@ pub fn unread_texts_are_refused()
     causes_are_told();
 }
 
-/// A text that the grammar reads is never answered with Syntax.
+/// A text that the grammar reads, and that is loaded from files of which something is told, is never
+/// answered with Syntax.
 pub fn read_texts_are_no_syntax_errors()
     ensures { (c : Call) (s : Status) (job : Job) (texts : List (List ℕ)) (text : List ℕ) (m : Model)
         → Gave c s → ((name : List ℕ) → IsKnown (c.files name)) → IsJob c.words job
@@ -92,7 +94,7 @@ pub fn read_texts_are_no_syntax_errors()
     one_tree();
 }
 
-/// However a text is read, the stage of the rules L1 to L5 has one answer: the text is seen alike from the
+/// However a text is read, the stage of the rules L1 to L5 has at most one answer: the text is seen alike from the
 /// main block that is asked for, or it is refused with one rule at one place, never both.
 pub fn one_table_or_refusal()
     ensures { (text : List ℕ) (main : Option (List ℕ)) (x y : Model)
@@ -166,7 +168,7 @@ pub fn one_request()
     one_list();
 }
 
-/// All stages of a job that come after its source have one answer: a job that passes them is not
+/// All stages of a job that come after its source have at most one answer: a job that passes them is not
 /// refused as well, and it is refused for one reason.
 pub fn one_readiness()
     ensures { (x : Elaborated) → IsDefinite x → (job : Job) (texts : List (List ℕ))

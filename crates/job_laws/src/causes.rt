@@ -210,7 +210,7 @@ pub fn passed_limits_of_systems_are_told()
         → way_parts_counted x ≤ limit_of count.WayParts
         → limit_of count.ExpressionNodes < nodes_counted x
         → ((s ≡ status.Size) × Wrote c (line_of (Size count.ExpressionNodes)))
-            ⊎ (s ≡ status.Memory) }
+        ⊎ (s ≡ status.Memory) }
 {
     causes_are_told();
 }
@@ -239,7 +239,7 @@ pub fn bad_lines_of_scripts_are_told()
         → is_script (shape_of job.command).files ≡ true → Elaborates job.main text (Ok x)
         → IsFirstBad x (lines_of script) n why
         → ((s ≡ status.Script) × Wrote c (line_of (line_refused why (n + 1))))
-            ⊎ (s ≡ status.Memory) }
+        ⊎ (s ≡ status.Memory) }
 {
     causes_are_told();
 }
@@ -256,7 +256,7 @@ pub fn bad_lists_of_cuts_are_told()
         → is_list (shape_of job.command).files ≡ true → Elaborates job.main text (Ok x)
         → IsFirstBadCut x (lines_of list) n why
         → ((s ≡ status.Script) × Wrote c (line_of (cut_refused why (n + 1))))
-            ⊎ (s ≡ status.Memory) }
+        ⊎ (s ≡ status.Memory) }
     ensures many { (c : Call) (s : Status) (job : Job) (text list : List ℕ) (x : Elaborated)
         (cuts : List CutLine) → Gave c s → IsQuiet c → ((name : List ℕ) → IsKnown (c.files name))
         → IsJob c.words job → Loaded c.files (files_of job) (Ok (text ∷ list ∷ []))
@@ -339,8 +339,8 @@ pub fn systems_outside_are_told()
         → Elaborates job.main text (Ok x) → Asks job texts x (Ok w)
         → is_static job.command ≡ true → IsFirstBroken x.system w.dropped rule spot
         → ((s ≡ status.Outside)
-            × Wrote c (line_of (Outside (rule_number rule) (spot_path x spot))))
-            ⊎ (s ≡ status.Memory) }
+        × Wrote c (line_of (Outside (rule_number rule) (spot_path x spot))))
+        ⊎ (s ≡ status.Memory) }
 {
     causes_are_told();
 }

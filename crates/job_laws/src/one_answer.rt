@@ -9,7 +9,7 @@ ghost use Rattle.run_words.specs.Jobs.{IsJob};
 ghost use Rattle.altarica_run.specs.Follows.{Call, Gave, IsKnown, IsQuiet, Wrote};
 ghost use Rattle.altarica_run.specs.Refusals.{line_of, status_of};
 ghost use Rattle.altarica_run.specs.Says.{Says};
-ghost use Rattle.altarica_run.specs.Stages.{Ready, Passes};
+ghost use Rattle.altarica_run.specs.Stages.{Ready, Passes, Stages};
 ghost use Rattle.altarica_run.specs.Tells.{MayNeedMore};
 ghost use Rattle.altarica_run.specs.declared.refusals.Refusal.{Refusal};
 ghost use Rattle.altarica_run.specs.declared.status.Status.{Status};
@@ -26,7 +26,19 @@ use job_inputs::laws::one_list;
 use parser_laws::readings::one_tree;
 use ready_laws::laws::{conflicts_agree, readiness_agrees, texts_agree};
 
-/// The stages of a job over files of which something is told have one answer: all of them are
+/// Whatever a shelf reports: of texts that were read all stages of a job have at most one answer. All
+/// of them are passed, by jobs that stand ready alike, or they refuse in one way.
+pub fn texts_that_were_read_have_one_answer()
+    ensures { (job : Job) (texts : List (List ℕ)) (text : List ℕ) (a b : Result Ready Refusal)
+        → Stages job texts text a → Stages job texts text b → SameAnswer SameReady a b }
+{
+    one_list();
+    one_source_or_refusal();
+    sources_are_definite();
+    readiness_agrees();
+}
+
+/// The stages of a job over files of which something is told have at most one answer: all of them are
 /// passed, by jobs that stand ready alike, or they refuse in one way.
 pub fn one_passing()
     ensures { (files : List ℕ → Told) → ((name : List ℕ) → IsKnown (files name)) → (job : Job)
@@ -41,8 +53,8 @@ pub fn one_passing()
     readiness_agrees();
 }
 
-/// Words over files of which something is told say one text and end in one way, save that, where
-/// cuts are asked for, the line `nodes: N` may stand beside it.
+/// Words over files of which something is told say at most one text and end in one way, save that,
+/// where cuts are asked for, the line `nodes: N` may stand beside it.
 pub fn texts_have_one_answer()
     ensures { (files : List ℕ → Told) → ((name : List ℕ) → IsKnown (files name))
         → (words : List (List ℕ)) (s t : List ℕ) (a b : Status) → Says files words s a

@@ -66,7 +66,7 @@ pub fn requests_agree()
     agreement_opens();
 }
 
-/// Of sources that are alike the stages behind them have one answer: both jobs stand ready alike,
+/// Of sources that are alike the stages behind them have at most one answer: both jobs stand ready alike,
 /// or are refused in one way.
 pub fn readiness_agrees()
     ensures passes { (x y : Elaborated) → SameSource x y → (job : Job) (texts : List (List ℕ))

@@ -55,8 +55,8 @@ pub fn counts_agree()
     ensures nodes { (x y : Elaborated) → SameSource x y → nodes_counted x ≡ nodes_counted y }
 {}
 
-/// The system of declarations that are alike, no two of whose events have one key, has one answer:
-/// both mean systems that are the same form for form, or both break L14 at one place, or pass the
+/// The system of declarations that are alike, no two of whose events have one key, has at most one
+/// answer: both mean systems that are the same form for form, or both break L14 at one place, or pass the
 /// same limit.
 pub fn one_system_or_refusal()
     ensures { (d e : Declarations) → SameDeclarations d e → AreKeyedEvents e.events
@@ -68,7 +68,7 @@ pub fn one_system_or_refusal()
     counts_agree();
 }
 
-/// The source of models that agree has one answer, where they keep the rules L1 to L5: both have sources
+/// The source of models that agree has at most one answer, where they keep the rules L1 to L5: both have sources
 /// that are alike, or both pass the same limit, or break one rule of L6 to L14 at one place.
 pub fn one_source_or_refusal()
     ensures { (m n : RootedModel) → SameRooted m n → KeepsTextRules n
@@ -80,7 +80,7 @@ pub fn one_source_or_refusal()
     one_system_or_refusal();
 }
 
-/// However a text that keeps the rules L1 to L5 is read, its source has one answer.
+/// However a text that keeps the rules L1 to L5 is read, its source has at most one answer.
 pub fn one_source_of_a_text()
     ensures { (text : List ℕ) (k : ℕ) (x y : Model) (main : Option (List ℕ)) (m n : RootedModel)
         → ReadsWithin k text x → ReadsWithin k text y → IsRootedIn x main m → IsRootedIn y main n

@@ -1,6 +1,7 @@
 pub mod Alike
 pub mod Answering
 pub mod Asking
+pub mod Commanded
 pub mod Completing
 pub mod Cuts
 pub mod Demanding

@@ -3,6 +3,7 @@ pub mod Answering
 pub mod Asking
 pub mod CausesOfJobs
 pub mod CausesOfTexts
+pub mod Commanded
 pub mod Completing
 pub mod Cuts
 pub mod Demanding

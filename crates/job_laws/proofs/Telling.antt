@@ -58,40 +58,40 @@ use Rattle.job_laws.proofs.Stages.{same_ok, same_err, ok_err}
 -- What stands ready, by command
 
 -- a text that ends the job well
-abbrev Well : (List ℕ → Type 0) → List ℕ → Status → Type 0
+abbrev pub Well : (List ℕ → Type 0) → List ℕ → Status → Type 0
 Well P text ends = P text × (ends ≡ Done)
 
 -- a replay's text
-record Replayed (w : Ready) (text : List ℕ) (ends : Status) : Type 0 where
-  last : End
-  replay : IsReplay (naming_of w.source.declarations) w.source.system w.commands text last
-  is_status : ends ≡ status_at last
+pub record Replayed (w : Ready) (text : List ℕ) (ends : Status) : Type 0 where
+  pub last : End
+  pub replay : IsReplay (naming_of w.source.declarations) w.source.system w.commands text last
+  pub is_status : ends ≡ status_at last
 
 -- a gate table's text
-record TableTold (w : Ready) (text : List ℕ) : Type 0 where
-  wanted : Wanted
-  are : w.wanted ≡ Some wanted
-  is_text : IsTableText (variables w.source.declarations.model w.source.declarations.units)
+pub record TableTold (w : Ready) (text : List ℕ) : Type 0 where
+  pub wanted : Wanted
+  pub are : w.wanted ≡ Some wanted
+  pub is_text : IsTableText (variables w.source.declarations.model w.source.declarations.units)
       (naming_of w.source.declarations)
       w.source.system w.dropped wanted.observer wanted.value text
 
 -- an explanation, or the line of the fault in which the run ends
-abbrev Explained : Ready → List ℕ → Status → Type 0
+abbrev pub Explained : Ready → List ℕ → Status → Type 0
 Explained w text ends =
     Well (IsExplained w) text ends
     ⊎ (IsFaultLine (naming_of w.source.declarations) w.source.system w.commands text × (ends ≡ Fault))
 
 -- a conflict
-abbrev Conflicting : Ready → List ℕ → Status → Type 0
+abbrev pub Conflicting : Ready → List ℕ → Status → Type 0
 Conflicting w text ends =
     IsConflictText (naming_of w.source.declarations) w.source.system w.dropped text × (ends ≡ Fault)
 
 -- a text about cuts, a conflict, or that nodes may lack
-abbrev AboutCuts : (List ℕ → Type 0) → Job → Ready → List ℕ → Status → Type 0
+abbrev pub AboutCuts : (List ℕ → Type 0) → Job → Ready → List ℕ → Status → Type 0
 AboutCuts P job w text ends = Well P text ends ⊎ (Conflicting w text ends ⊎ SaysNodes job text ends)
 
 -- what the command tells
-abbrev Told : Verb → Job → Ready → List ℕ → Status → Type 0
+abbrev pub Told : Verb → Job → Ready → List ℕ → Status → Type 0
 Told verb.Check job w text ends = Well (λ t. t ≡ check_text w.source.declarations) text ends
 Told verb.Flat job w text ends = Well (IsFlatText w.source) text ends
 Told verb.Replay job w text ends = Replayed w text ends
@@ -135,7 +135,7 @@ module _ (job : Job) (w : Ready) where
   told_nodes verb.Modules e text ends h = inr (inr h)
 
   -- what the job tells is told by its command
-  told_by : (text : List ℕ) (ends : Status) → Tells job w text ends → Told job.command job w text ends
+  pub told_by : (text : List ℕ) (ends : Status) → Tells job w text ends → Told job.command job w text ends
   told_by text ends (told.check e) = subst (λ (v : Verb). Told v job w text ends) (sym e) (refl, refl)
   told_by text ends (told.flat e h) = subst (λ (v : Verb). Told v job w text ends) (sym e) (h, refl)
   told_by text ends (told.replay {ends = last} e h) =

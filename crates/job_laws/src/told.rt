@@ -3,17 +3,27 @@
 //!
 //! A call is stopped where a file is not read, the sink fails or memory is refused.
 
-ghost use Rattle.std.specs.Prelude.{◌≡◌, ◌⊎◌, ℕ, true, false, List, Ok, Err};
+ghost use Rattle.std.specs.Prelude.{◌≡◌, ◌⊎◌, ℕ, true, false, List, Some, Ok, Err};
 ghost use Rattle.ar_firing.specs.Cuts.{IsConflictFree};
 ghost use Rattle.ar_io.specs.Outside.{Told};
+ghost use Rattle.cut_text.specs.ForestTexts.{IsForestText};
 ghost use Rattle.cut_text.specs.Texts.{IsConflictText};
 ghost use Rattle.gts_flatten.specs.Flat.{naming_of};
+ghost use Rattle.hierarchy.specs.Listing.{variables};
+ghost use Rattle.job_inputs.specs.declared.wanting.Wanted.{Wanted};
+ghost use Rattle.replayer.specs.Replays.{IsReplay};
+ghost use Rattle.replayer.specs.Settles.{IsFaultLine};
+ghost use Rattle.replayer.specs.declared.replaying.End.{End};
 ghost use Rattle.run_words.specs.declared.jobs.Job.{Job};
+ghost use Rattle.run_words.specs.declared.verbs.Verb.TheVariants.{Check, Flat, Replay};
+ghost use Rattle.run_words.specs.declared.verbs.Verb.TheVariants.{Fragment, Equations, Explain};
 ghost use Rattle.run_words.specs.Jobs.{IsJob};
+ghost use Rattle.table_text.specs.Texts.{IsTableText};
 ghost use Rattle.altarica_run.specs.Follows.{Call, Gave, IsKnown, Wrote};
 ghost use Rattle.altarica_run.specs.Nodes.{HasConflict, IsTextOfCuts};
 ghost use Rattle.altarica_run.specs.Says.{Says};
 ghost use Rattle.altarica_run.specs.Stages.{Ready, Passes, lists_cuts};
+ghost use Rattle.altarica_run.specs.Tells.{check_text, IsFlatText, IsExplained, status_at};
 ghost use Rattle.altarica_run.specs.Tells.{MayNeedMore, Tells, nodes_line};
 ghost use Rattle.altarica_run.specs.declared.refusals.Refusal.{Refusal};
 ghost use Rattle.altarica_run.specs.declared.status.Status.{Status};
@@ -52,6 +62,53 @@ pub fn jobs_are_told()
     one_passing();
     texts_agree();
     texts_have_one_answer();
+}
+
+/// So each command that neither runs a script nor tells of cuts is answered with its text, or is
+/// stopped: `check` with how much is declared, `flat` with the flat system, `fragment` with the
+/// trees of modes, and `equations` with the gate table.
+pub fn commands_are_told()
+    ensures check { (c : Call) (s : Status) (job : Job) (w : Ready) → Gave c s
+        → ((name : List ℕ) → IsKnown (c.files name)) → IsJob c.words job → job.command ≡ Check
+        → Passes c.files job (Ok w)
+        → ((s ≡ status.Done) × Wrote c (check_text w.source.declarations)) ⊎ IsStopped c s }
+    ensures flat { (c : Call) (s : Status) (job : Job) (w : Ready) → Gave c s
+        → ((name : List ℕ) → IsKnown (c.files name)) → IsJob c.words job → job.command ≡ Flat
+        → Passes c.files job (Ok w)
+        → IsToldWith c s status.Done (IsFlatText w.source) ⊎ IsStopped c s }
+    ensures fragment { (c : Call) (s : Status) (job : Job) (w : Ready) → Gave c s
+        → ((name : List ℕ) → IsKnown (c.files name)) → IsJob c.words job → job.command ≡ Fragment
+        → Passes c.files job (Ok w)
+        → IsToldWith c s status.Done (IsForestText (naming_of w.source.declarations)
+        w.source.system w.dropped) ⊎ IsStopped c s }
+    ensures equations { (c : Call) (s : Status) (job : Job) (w : Ready) (wanted : Wanted)
+        → Gave c s → ((name : List ℕ) → IsKnown (c.files name)) → IsJob c.words job
+        → job.command ≡ Equations → Passes c.files job (Ok w) → w.wanted ≡ Some wanted
+        → IsToldWith c s status.Done (λ text. IsTableText
+        (variables w.source.declarations.model w.source.declarations.units)
+        (naming_of w.source.declarations) w.source.system w.dropped wanted.observer wanted.value
+        text) ⊎ IsStopped c s }
+{
+    jobs_are_told();
+}
+
+/// And so each command that runs a script: `replay` is answered with the trace of the run, and ends
+/// as the run does, and `explain` with why the flows have their values where the run settles, or
+/// with the fault in which it ends, unless it is stopped.
+pub fn runs_are_told()
+    ensures replay { (c : Call) (s : Status) (job : Job) (w : Ready) → Gave c s
+        → ((name : List ℕ) → IsKnown (c.files name)) → IsJob c.words job → job.command ≡ Replay
+        → Passes c.files job (Ok w)
+        → ((end : End) × IsToldWith c s (status_at end) (λ text. IsReplay
+        (naming_of w.source.declarations) w.source.system w.commands text end)) ⊎ IsStopped c s }
+    ensures explain { (c : Call) (s : Status) (job : Job) (w : Ready) → Gave c s
+        → ((name : List ℕ) → IsKnown (c.files name)) → IsJob c.words job → job.command ≡ Explain
+        → Passes c.files job (Ok w)
+        → (IsToldWith c s status.Done (IsExplained w)
+        ⊎ IsToldWith c s status.Fault (IsFaultLine (naming_of w.source.declarations)
+        w.source.system w.commands)) ⊎ IsStopped c s }
+{
+    jobs_are_told();
 }
 
 /// A job that tells of cuts, over files of which something is told, which passes all stages, and

@@ -1,5 +1,5 @@
 -- A call of a job that is answered, or stopped, by command.
-use Rattle.std.proofs.Common.{◌≡◌, ◌⊎◌, ℕ, List, Some, inl, inr, sym, subst}
+use Rattle.std.proofs.Common.{◌≡◌, ◌⊎◌, ℕ, List, Some, inl, inr, subst}
 use Rattle.replayer.specs.Replays.{IsReplay}
 use Rattle.replayer.specs.Settles.{IsFaultLine}
 use Rattle.replayer.specs.declared.replaying.End.{End}

@@ -18,7 +18,7 @@ use Rattle.ar_syntax.specs.declared.items.Model.{Model}
 use Rattle.altarica_run.specs.Elaborates.{Parses, reads, no_tokens, no_reading, too_deep}
 use Rattle.altarica_run.specs.declared.refusals.Refusal.{Refusal}
 use Rattle.altarica_run.specs.declared.refusals.Refusal.TheVariants.{Syntax}
-use Rattle.job_laws.specs.Readings.{SameAnswer}
+use Rattle.unit_laws.specs.Answers.{SameAnswer}
 
 -- a text without tokens has none that are refused, or read
 no_refusal : (text : List ℕ) (P : Tokens → Tokens → Type 0) (p q : Place) → HasFaultAt text p → IsRefusedAt P text q

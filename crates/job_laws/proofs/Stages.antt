@@ -1,6 +1,7 @@
 -- Stages that have one answer each.
 use Rattle.std.proofs.Common.{◌≡◌, Bool, true, false, Result, Ok, Err, sym, ◌∙◌, ap, subst}
 use Rattle.ar_base.specs.Stages.{Then, refuses, passes, Where}
+use Rattle.unit_laws.specs.Answers.{SameAnswer}
 
 -- the stage has one answer, where P holds of what it is given
 abbrev pub IsOne : {A B R : Type 0} → (A → Type 0) → (A → Result B R → Type 0) → Type 0
@@ -18,6 +19,11 @@ same_err x y e = cc
 
 pub ok_err : {A B C : Type 0} (x : A) (e : B) → ◌≡◌ {A = Result A B} (Ok x) (Err e) → C
 ok_err x e i = cc
+
+-- an answer that is like a refusal is that refusal
+pub refusal_of : {B R : Type 0} (Same : B → B → Type 0) (x : Result B R) (r : R) → SameAnswer Same x (Err r) → x ≡ Err r
+refusal_of Same (Ok b) r h = absurd h
+refusal_of Same (Err q) r e = ap Err e
 
 -- Two stages
 

@@ -1,28 +1,21 @@
 -- The rules L1 to L5 of a text, however it is read.
-use Rattle.std.proofs.Common.{◌≡◌, ◌↔◌, ℕ, List, Option, Result, Ok, Err, ap, ◌∙◌}
-use Rattle.ar_base.specs.Breach.{IsBroken}
+use Rattle.std.proofs.Common.{◌↔◌, ℕ, List, Option, Result, Ok, Err, ap, ◌∙◌}
+use Rattle.ar_base.specs.Breach.{IsBroken, AreKept}
 use Rattle.ar_base.specs.Counts.{limit_of}
-use Rattle.ar_base.specs.Stages.{refuses, passes}
+use Rattle.ar_base.specs.Stages.{Then, refuses, passes}
 use Rattle.ar_base.specs.declared.counts.Count.TheVariants.{Nesting}
 use Rattle.ar_base.specs.declared.faults.RuleFault.{RuleFault}
 use Rattle.ar_base.specs.declared.faults.RuleFault.TheVariants as fault
 use Rattle.ar_base.specs.declared.places.Place.{Place}
 use Rattle.ar_parser.specs.Models.{Reads, ReadsWithin}
-use Rattle.parser_laws.specs.Models.{HasOneTree}
 use Rattle.ar_syntax.specs.declared.items.Model.{Model}
+use Rattle.unit_laws.specs.Answers.{SameAnswer}
 use Rattle.unit_laws.specs.Tables.{AreSeenAlike}
 use Rattle.class_table.specs.Declaring.{Declared, IsDeclared}
 use Rattle.class_table.specs.Rules.{BreaksTextRule, text_rules}
 use Rattle.class_table.proofs.OneRefusal.{breach_one}
 use Rattle.hierarchy.specs.Models.{RootedModel, IsRootedIn}
-use Rattle.run_words.specs.declared.jobs.Job.{Job}
-use Rattle.altarica_run.specs.Elaborates.{reads, Tables, rooted, breach, breaks, exceeds}
-use Rattle.altarica_run.specs.Elaborates as e
-use Rattle.altarica_run.specs.Stages.{Ready, Stages}
-use Rattle.altarica_run.specs.declared.refusals.Refusal.{Refusal}
-use Rattle.altarica_run.specs.declared.refusals.Refusal.TheVariants.{Rule}
-use Rattle.job_laws.specs.Readings.{SameAnswer}
-use Rattle.job_laws.proofs.Readings.{parses_one}
+use Rattle.altarica_run.specs.Elaborates.{Tables, rooted, breach}
 
 -- what the laws of tables say
 abbrev pub SeenAlike : Type 0
@@ -55,24 +48,18 @@ module _ (seen : SeenAlike) (broken : BrokenAlike) (text : List ℕ) (main : Opt
       let j = breach_one text_rules (BreaksTextRule x main d) r s at there c moved in
       ap (λ (z : ℕ). fault.Rule z at) j.0 ∙ ap (λ (z : Place). fault.Rule s z) j.1
 
--- A text that breaks a rule is refused for it
-
-module _ (seen : SeenAlike) (broken : BrokenAlike) (text : List ℕ) (one : HasOneTree text) (job : Job)
-    (texts : List (List ℕ)) (m : Model) (is : Reads text m) (r : ℕ) (p : Place)
-    (table : Tables job.main m (Err (fault.Rule r p))) where
-  alike : (n : Model) → Reads text n → (a : Result RootedModel RuleFault) → Tables job.main n a
-      → SameAnswer (AreSeenAlike job.main) a (Err (fault.Rule r p))
-  alike n h a t = tables_one seen broken text job.main n m a (Err (fault.Rule r p)) h is t table
-
-  -- the rule and the place of a fault
-  same_rule : (q : ℕ) (o : Place) → fault.Rule q o ≡ fault.Rule r p → Rule q o ≡ Rule r p
-  same_rule q o i = cc
-
-  pub rule_refused : (x : Result Ready Refusal) → Stages job texts text x → x ≡ Err (Rule r p)
-  rule_refused x (refuses {r = q} (refuses h)) = absurd (parses_one text one (Ok m) (Err q) (reads is) h)
-  rule_refused x (refuses (passes n (reads h) (breaks {r = q} {p = o} (refuses t)))) =
-      ap Err (same_rule q o (alike n h (Err (fault.Rule q o)) t))
-  rule_refused x (refuses (passes n (reads h) (breaks (passes w t rest)))) = absurd (alike n h (Ok w) t)
-  rule_refused x (refuses (passes n (reads h) (exceeds {count = c} (refuses t)))) = elim t [ ]
-  rule_refused x (refuses (passes n (reads h) (exceeds (passes w t rest)))) = absurd (alike n h (Ok w) t)
-  rule_refused x (passes y (passes n (reads h) (e.passes (passes w t rest))) q) = absurd (alike n h (Ok w) t)
+  -- a stage behind them has one answer where it has one in models that agree
+  pub rooted_one : {B : Type 0} (Same : B → B → Type 0) (stage : RootedModel → Result B RuleFault → Type 0)
+      → ((x y : Model) (m n : RootedModel) → Reads text x → Reads text y → IsRootedIn x main m → IsRootedIn y main n
+      → AreKept text_rules (BreaksTextRule y main n.declared) → (a b : Result B RuleFault) → stage m a → stage n b
+      → SameAnswer Same a b)
+      → (x y : Model) (a b : Result B RuleFault) → Reads text x → Reads text y → Then (Tables main) stage x a
+      → Then (Tables main) stage y b → SameAnswer Same a b
+  rooted_one Same stage one x y _ _ h i (refuses {r = r} t) (refuses {r = s} u) =
+      tables_one x y (Err r) (Err s) h i t u
+  rooted_one Same stage one x y _ b h i (refuses {r = r} t) (passes n u k) =
+      absurd (tables_one x y (Err r) (Ok n) h i t u)
+  rooted_one Same stage one x y a _ h i (passes m t k) (refuses {r = r} u) =
+      absurd (tables_one x y (Ok m) (Err r) h i t u)
+  rooted_one Same stage one x y a b h i (passes m (rooted p g) k) (passes n (rooted q l) j) =
+      one x y m n h i p q l a b k j

@@ -1,5 +1,5 @@
--- What a call answers to a text that has no reading, and never to one that has.
-use Rattle.std.proofs.Common.{◌≡◌, ℕ, Bool, true, false, List, Option, Result, Ok, Err, refl, sym, ◌∙◌, ap, subst}
+-- What a call never answers to a text that has a reading.
+use Rattle.std.proofs.Common.{◌≡◌, ℕ, Bool, true, false, List, Option, Result, Ok, Err, refl, sym, ◌∙◌, subst}
 use Rattle.ar_base.specs.Stages.{Where, refuses, passes}
 use Rattle.ar_io.specs.Outside.{Told}
 use Rattle.ar_parser.specs.Models.{Reads}
@@ -8,7 +8,7 @@ use Rattle.ar_syntax.specs.declared.items.Model.{Model}
 use Rattle.job_inputs.specs.Scripts.{Why, IsNoCommand, LacksWay, NamesNoEvent}
 use Rattle.run_words.specs.Commands.{shape_of, is_script, is_list}
 use Rattle.run_words.specs.declared.jobs.Job.{Job}
-use Rattle.altarica_run.specs.Elaborates.{Parses, reads, breaks, exceeds as exceeds_limit}
+use Rattle.altarica_run.specs.Elaborates.{reads, breaks, exceeds as exceeds_limit}
 use Rattle.run_words.specs.Jobs.{IsJob}
 use Rattle.altarica_run.specs.Follows.{Call, Gave}
 use Rattle.altarica_run.specs.Refusals.{status_of}
@@ -89,13 +89,6 @@ module _ (text : List ℕ) (one : HasOneTree text) (job : Job) (texts : List (Li
   later_refused m is r (passes x p (passes w q (refuses h))) = of_static (is_static job.command) w r h
   later_refused m is r (passes x p (passes w q (passes v k h))) = of_table (has_table job.command) v r h
 
-  -- a text that is not read is refused by the grammar
-  pub first_refused : (r : Refusal) → Parses text (Err r) → (x : Result Ready Refusal) → Stages job texts text x
-      → x ≡ Err r
-  first_refused r p x (refuses {r = q} (refuses h)) = ap Err (parses_one text one (Err q) (Err r) h p)
-  first_refused r p x (refuses (passes m h k)) = absurd (parses_one text one (Ok m) (Err r) h p)
-  first_refused r p x (passes y (passes m h k) q) = absurd (parses_one text one (Ok m) (Err r) h p)
-
 -- The text of a job is one
 
 texts_same : (job : Job) (a b : List (List ℕ)) (s t : List ℕ) → a ≡ b → IsText job a s → IsText job b t → s ≡ t
@@ -115,10 +108,6 @@ module _ (files : List ℕ → Told)
       let e : others ≡ texts = same_ok others texts (loading (files_of job) (Ok others) (Ok texts) l is_loaded) in
       let i : other ≡ text = texts_same job others texts other text e t is_text in
       subst (λ (z : List (List ℕ)). Stages job z text x) e (subst (λ (z : List ℕ). Stages job others z x) i s)
-
-  pub unread_refused : (r : Refusal) → Parses text (Err r) → (x : Result Ready Refusal) → Passes files job x
-      → x ≡ Err r
-  unread_refused r p x h = first_refused text one job texts r p x (of_text x h)
 
   pub read_not_refused : (m : Model) → Reads text m → (r : Refusal) → Passes files job (Err r) → is_syntax r ≡ false
   read_not_refused m is r h = later_refused text one job texts m is r (of_text (Err r) h)

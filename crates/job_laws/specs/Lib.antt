@@ -2,4 +2,3 @@ pub mod Definite
 pub mod Findings
 pub mod Listings
 pub mod Named
-pub mod Readings

@@ -12,11 +12,10 @@ ghost use Rattle.source_laws.specs.Sources.{SameSource};
 ghost use Rattle.ready_laws.specs.Ready.{SameReady};
 ghost use Rattle.job_laws.specs.Definite.{IsDefinite, SaysOf, AgreeButNodes};
 
-use binding_laws::bindings::one_binding_of_a_text;
 use job_inputs::laws::one_list;
 use parser_laws::readings::one_tree;
 use ready_laws::laws::{readiness_agrees, texts_agree};
-use source_laws::sources::one_system_or_refusal;
+use source_laws::sources::one_source_of_a_text;
 use unit_laws::laws::{texts_are_seen_alike, texts_break_the_same_rules};
 
 /// All stages of a job that come after sources that are alike have one answer: both jobs stand
@@ -51,6 +50,5 @@ pub fn one_source_or_refusal()
     one_tree();
     texts_are_seen_alike();
     texts_break_the_same_rules();
-    one_binding_of_a_text();
-    one_system_or_refusal();
+    one_source_of_a_text();
 }

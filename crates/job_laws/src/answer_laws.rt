@@ -2,12 +2,17 @@
 
 ghost use Rattle.std.specs.Prelude.{◌≡◌, ◌≢◌, ◌⊎◌, ℕ, true, List, ◌++◌, Option, Result, Ok, Err};
 ghost use Rattle.ar_base.specs.Breach.{IsBroken};
+ghost use Rattle.ar_base.specs.Stages.{Then};
 ghost use Rattle.ar_base.specs.declared.faults.RuleFault.{RuleFault};
 ghost use Rattle.ar_base.specs.declared.places.Place.{Place};
+ghost use Rattle.unit_laws.specs.Answers.{SameAnswer};
 ghost use Rattle.unit_laws.specs.Tables.{AreSeenAlike};
+ghost use Rattle.unit_laws.specs.Units.{SameUnfolded};
 ghost use Rattle.class_table.specs.Declaring.{Declared, IsDeclared};
 ghost use Rattle.class_table.specs.Rules.{BreaksTextRule, text_rules};
 ghost use Rattle.hierarchy.specs.Models.{RootedModel};
+ghost use Rattle.hierarchy.specs.Listing.{Unfolded};
+ghost use Rattle.instantiate.specs.Unfolding.{Instantiates};
 ghost use Rattle.ar_grammar.specs.Texts.{FitsNesting, Viable};
 ghost use Rattle.ar_grammar.specs.Words.{Tokens};
 ghost use Rattle.ar_io.specs.Outside.{Told};
@@ -18,7 +23,7 @@ ghost use Rattle.gts_flatten.specs.Elaborating.{Elaborated};
 ghost use Rattle.run_words.specs.declared.jobs.Job.{Job};
 ghost use Rattle.run_words.specs.declared.verbs.Verb.TheVariants.{Modules};
 ghost use Rattle.run_words.specs.Jobs.{IsJob};
-ghost use Rattle.altarica_run.specs.Elaborates.{Elaborates, Parses, Tables};
+ghost use Rattle.altarica_run.specs.Elaborates.{Elaborates, Parses, Ruled, Tables};
 ghost use Rattle.altarica_run.specs.Files.{files_of, Loaded, IsText};
 ghost use Rattle.altarica_run.specs.Follows.{Call, Gave, IsKnown, IsQuiet, Wrote};
 ghost use Rattle.altarica_run.specs.Refusals.{line_of, status_of};
@@ -30,13 +35,14 @@ ghost use Rattle.altarica_run.specs.declared.status.Status.{Status};
 ghost use Rattle.altarica_run.specs.declared.status.Status.TheVariants as status;
 ghost use Rattle.job_laws.specs.Definite.{IsDefinite, SaysOf, AgreeButNodes};
 ghost use Rattle.job_laws.specs.Findings.{AreModulesOf, IsConflictOf};
-ghost use Rattle.job_laws.specs.Readings.{SameAnswer};
 
+use crate::one_answer::{causes_are_told, one_passing};
 use altarica_run::laws::{one_job, one_loading};
 use job_inputs::laws::one_list;
 use module_text::laws::combinations_are_cuts;
 use parser_laws::readings::{one_tree, trees_keep};
 use unit_laws::laws::{texts_are_seen_alike, texts_break_the_same_rules};
+use unit_laws::units::one_tree_of_a_text;
 
 /// A text has a reading or is refused, never both: two readings of it agree, and it is refused for one
 /// cause, at one place.
@@ -70,9 +76,8 @@ pub fn unread_texts_are_refused()
         → Parses text (Err r)
         → ((s ≡ status_of r) × Wrote c (line_of r)) ⊎ (s ≡ status.Memory) }
 {
-    one_job();
-    one_loading();
-    one_tree();
+    one_passing();
+    causes_are_told();
 }
 
 /// A text that the grammar reads is never answered with Syntax.
@@ -114,11 +119,42 @@ pub fn broken_rules_are_told()
         → IsDeclared m d → IsBroken text_rules (BreaksTextRule m job.main d) r p
         → ((s ≡ status.Rule) × Wrote c (line_of (Rule r p))) ⊎ (s ≡ status.Memory) }
 {
-    one_job();
-    one_loading();
-    one_tree();
+    one_passing();
+    causes_are_told();
+}
+
+/// However a text is read, the stages of the rules L1 to L5 and of its units have one answer: the text has
+/// the same units in models that agree, or it is refused for one limit, or with one rule at one place.
+pub fn one_unfolding_or_refusal()
+    ensures { (text : List ℕ) (main : Option (List ℕ)) (x y : Model)
+        (a b : Result Unfolded RuleFault) → Reads text x → Reads text y
+        → Then (Tables main) Instantiates x a → Then (Tables main) Instantiates y b
+        → SameAnswer SameUnfolded a b }
+{
     texts_are_seen_alike();
     texts_break_the_same_rules();
+    one_tree_of_a_text();
+}
+
+/// A text that is read, keeps the rules L1 to L5 and passes a limit of its units, or breaks a rule of L6 to
+/// L9, is refused for that limit, or with the least such rule at its earliest place, by the stages of each
+/// job whose text it is, and by each call of such words over files of which something is told, unless
+/// something of the outside fails or memory is refused.
+pub fn broken_unit_rules_are_told()
+    ensures stages { (files : List ℕ → Told) → ((name : List ℕ) → IsKnown (files name))
+        → (job : Job) (texts : List (List ℕ)) (text : List ℕ) (m : Model) (n : RootedModel)
+        (r : Refusal) → Loaded files (files_of job) (Ok texts) → IsText job texts text
+        → Reads text m → Tables job.main m (Ok n) → Ruled Instantiates n (Err r)
+        → (x : Result Ready Refusal) → Passes files job x → x ≡ Err r }
+    ensures call { (c : Call) (s : Status) (job : Job) (texts : List (List ℕ)) (text : List ℕ)
+        (m : Model) (n : RootedModel) (r : Refusal) → Gave c s → IsQuiet c
+        → ((name : List ℕ) → IsKnown (c.files name)) → IsJob c.words job
+        → Loaded c.files (files_of job) (Ok texts) → IsText job texts text → Reads text m
+        → Tables job.main m (Ok n) → Ruled Instantiates n (Err r)
+        → ((s ≡ status_of r) × Wrote c (line_of r)) ⊎ (s ≡ status.Memory) }
+{
+    one_passing();
+    causes_are_told();
 }
 
 /// What the words, the script and the list of cuts of a job ask of a source is one thing, or they

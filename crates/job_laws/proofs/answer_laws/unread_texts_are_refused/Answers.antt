@@ -1,14 +1,17 @@
-use Rattle.altarica_run.proofs.LawLemmas.{only_of}
-use Rattle.job_laws.proofs.Unread.{unread_refused}
+use Rattle.std.proofs.Common.{Err}
+use Rattle.ar_base.specs.Stages.{refuses}
+use Rattle.altarica_run.specs.Stages.{loaded}
+use Rattle.ready_laws.specs.Ready.{SameReady}
+use Rattle.job_laws.proofs.Stages.{refusal_of}
 use Rattle.job_laws.proofs.answer_laws.unread_texts_are_refused.Goals as goal
 
 pub returns-clause-stages : goal.returns-clause-stages
-returns-clause-stages c =
-    λ files known job texts text r l t p x h. unread_refused files (c.one_loading.ensures files known) job texts text l t
-    (c.one_tree.ensures text) r p x h
+returns-clause-stages c = λ files known job texts text r l t p x k.
+    refusal_of SameReady x r
+    (c.one_passing.ensures files known job x (Err r) k
+    (loaded texts l t (refuses (refuses p))))
 
 pub returns-clause-call : goal.returns-clause-call
-returns-clause-call c =
-    λ k s job texts text r gave quiet known is l t p. only_of k job (c.one_job.ensures k.words) is r
-    (λ x h. unread_refused k.files (c.one_loading.ensures k.files known) job texts text l t (c.one_tree.ensures text) r p
-    x h) quiet s gave
+returns-clause-call c = λ k s job texts text r gave quiet known is l t p.
+    c.causes_are_told.ensures k s job r gave quiet known is
+    (loaded texts l t (refuses (refuses p)))

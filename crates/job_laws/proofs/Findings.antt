@@ -42,9 +42,10 @@ use Rattle.altarica_run.specs.Tells as told
 use Rattle.altarica_run.specs.declared.status.Status.{Status}
 use Rattle.altarica_run.specs.declared.status.Status.TheVariants as status
 use Rattle.altarica_run.proofs.FollowLemmas.{meaning_of}
+use Rattle.source_laws.proofs.Passing.{bound_of}
 use Rattle.job_laws.specs.Findings.{AreModulesOf, IsConflictOf}
 use Rattle.job_laws.proofs.Demanding.{IsFitWhere, keyed_static, readies_on}
-use Rattle.job_laws.proofs.Sources.{text_definite, unfolded_of, bound_of, flattened_of}
+use Rattle.job_laws.proofs.Sources.{text_definite, unfolded_of, flattened_of}
 use Rattle.job_laws.proofs.Stages.{same_ok}
 
 -- What stands ready has the source that it is made of

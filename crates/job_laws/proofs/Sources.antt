@@ -39,8 +39,9 @@ use Rattle.hierarchy.specs.Units.{UnitPath, Thing}
 use Rattle.hierarchy.specs.Walks.{is_variable, is_event, is_observer}
 use Rattle.instantiate.specs.Unfolding.{Instantiates}
 use Rattle.job_inputs.specs.Reads.{has_mark}
-use Rattle.source_meaning.specs.Systems.{Declarations, AreOf, HasDeclarations, Binds, declares, IsVariable}
+use Rattle.source_meaning.specs.Systems.{Declarations, AreOf, HasDeclarations, IsVariable}
 use Rattle.source_meaning.proofs.Different.{things_different}
+use Rattle.source_laws.proofs.Passing.{bound_of}
 use Rattle.sync_expand.specs.Counting.{greatest, most_ways}
 use Rattle.unit_walks.specs.Unfolding.{whole}
 use Rattle.job_laws.specs.Named.{NamesOnce}
@@ -251,9 +252,6 @@ pub record IsFlattened (d : Declarations) (x : Elaborated) : Type 0 where
 pub flattened_of : (d : Declarations) (x : Elaborated) → Flattens d (Ok x) → IsFlattened d x
 flattened_of d x (passes a (kept k) (passes y (has i h) (passes z (fits l) (passes w (fits m) (fits n))))) =
     record { same = i; has = h; few = l }
-
-pub bound_of : (t : Unfolded) (d : Declarations) → Binds t (Ok d) → AreOf t.model t.units d
-bound_of t d (passes u (kept k) (declares of)) = of
 
 -- what unfolding passes on
 pub record IsUnfolded (m : RootedModel) (t : Unfolded) : Type 0 where

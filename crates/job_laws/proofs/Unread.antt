@@ -1,5 +1,5 @@
 -- What a call never answers to a text that has a reading.
-use Rattle.std.proofs.Common.{◌≡◌, ℕ, Bool, true, false, List, Option, Result, Ok, Err, refl, sym, ◌∙◌, ap, subst}
+use Rattle.std.proofs.Common.{◌≡◌, ℕ, Bool, true, false, List, Option, Result, Ok, Err, refl, sym, ◌∙◌, subst}
 use Rattle.ar_base.specs.Stages.{Where, refuses, passes}
 use Rattle.ar_io.specs.Outside.{Told}
 use Rattle.ar_parser.specs.Models.{Reads}
@@ -8,7 +8,7 @@ use Rattle.ar_syntax.specs.declared.items.Model.{Model}
 use Rattle.job_inputs.specs.Scripts.{Why, IsNoCommand, LacksWay, NamesNoEvent}
 use Rattle.run_words.specs.Commands.{shape_of, is_script, is_list}
 use Rattle.run_words.specs.declared.jobs.Job.{Job}
-use Rattle.altarica_run.specs.Elaborates.{Parses, reads, breaks, exceeds as exceeds_limit}
+use Rattle.altarica_run.specs.Elaborates.{reads, breaks, exceeds as exceeds_limit}
 use Rattle.run_words.specs.Jobs.{IsJob}
 use Rattle.altarica_run.specs.Follows.{Call, Gave}
 use Rattle.altarica_run.specs.Refusals.{status_of}

@@ -29,7 +29,7 @@ pub fn one_readiness_of_alike_sources()
     readiness_agrees();
 }
 
-/// Of sources that are alike the words of a job say one text and end in one way, save that, where
+/// Of sources that are alike the words of a job say at most one text and end in one way, save that, where
 /// cuts are asked for, the line `nodes: N` may stand beside it.
 pub fn one_answer_of_alike_sources()
     ensures { (x y : Elaborated) → SameSource x y → IsDefinite y → (job : Job)

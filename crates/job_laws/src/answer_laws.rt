@@ -125,8 +125,8 @@ pub fn broken_rules_are_told()
     causes_are_told();
 }
 
-/// However a text is read, the stages of the rules L1 to L5 and of its units have one answer: the text has
-/// the same units in models that agree, or it is refused for one limit, or with one rule at one place.
+/// However a text is read, the stages of the rules L1 to L5 and of its units have at most one answer: the
+/// text has the same units in models that agree, or it is refused for one limit, or with one rule at one place.
 pub fn one_unfolding_or_refusal()
     ensures { (text : List ℕ) (main : Option (List ℕ)) (x y : Model)
         (a b : Result Unfolded RuleFault) → Reads text x → Reads text y
@@ -159,8 +159,8 @@ pub fn broken_unit_rules_are_told()
     causes_are_told();
 }
 
-/// What the words, the script and the list of cuts of a job ask of a source is one thing, or they
-/// are refused in one way.
+/// What the words, the script and the list of cuts of a job ask of a source is at most one thing, or
+/// they are refused in one way.
 pub fn one_request()
     ensures { (x : Elaborated) → IsDefinite x → (job : Job) (texts : List (List ℕ))
         (a b : Result Ready Refusal) → Asks job texts x a → Asks job texts x b → a ≡ b }
@@ -177,7 +177,7 @@ pub fn one_readiness()
     one_list();
 }
 
-/// A job that has passed its stages tells one text and ends in one way, save that, where cuts are
+/// A job that has passed its stages tells at most one text and ends in one way, save that, where cuts are
 /// asked for, the line `nodes: N` may stand beside it.
 pub fn one_text()
     ensures { (x : Elaborated) → IsDefinite x → (job : Job) (texts : List (List ℕ)) (w : Ready)
@@ -185,7 +185,7 @@ pub fn one_text()
         → Tells job w s a → Tells job w t b → AgreeButNodes job s a t b }
 {}
 
-/// Of one source the words of a job say one text and end in one way, save that, where cuts are asked
+/// Of one source the words of a job say at most one text and end in one way, save that, where cuts are asked
 /// for, the line `nodes: N` may stand beside it.
 pub fn one_saying()
     ensures { (x : Elaborated) → IsDefinite x → (job : Job) (texts : List (List ℕ))

@@ -1,4 +1,4 @@
-//! What a job asks of a source, and what it says of it, is one thing: for words, flat systems and whole answers.
+//! What a job asks of a source, and what it says of it, is at most one thing: for words, flat systems and whole answers.
 //!
 //! The definitions in `specs/` say what this needs of a source; each function here has an empty body, or calls other laws,
 //! and states a law.

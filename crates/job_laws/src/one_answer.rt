@@ -1,4 +1,4 @@
-//! What words say over given files, and what a call of them answers, is one thing.
+//! What words say over given files is at most one text, and a call of them answers with it.
 
 ghost use Rattle.std.specs.Prelude.{◌≡◌, ◌⊎◌, ℕ, List, Result, Ok, Err};
 ghost use Rattle.ar_firing.specs.Cuts.{IsConflictFree};

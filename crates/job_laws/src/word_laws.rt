@@ -16,7 +16,7 @@ pub fn one_label()
     ensures { (x : Elaborated) → NamesOnce x → HaveOneMeaning x }
 {}
 
-/// A script has one reading: it gives its commands in one way, or one line of it is the first bad
+/// A script has at most one reading: it gives its commands in one way, or one line of it is the first bad
 /// one, for one reason. This rests on labels that name one way each and need no other number.
 pub fn one_script()
     ensures { (x : Elaborated) → HaveOneMeaning x → (script : List ℕ)

@@ -1,6 +1,6 @@
 -- What the stages of a job refuse behind the system: what its words, script and list ask for, and what its command
 -- demands.
-use Rattle.std.proofs.Common.{◌≡◌, ◌<◌, ◌+◌, ◌∙◌, ◌⊎◌, ℕ, Bool, true, false, List, [], ◌∷◌, length, Some, None, Result, Ok, Err, inl, inr, refl, sym, subst}
+use Rattle.std.proofs.Common.{◌≡◌, ◌<◌, ◌+◌, ◌∙◌, ℕ, Bool, true, false, List, [], ◌∷◌, length, Some, None, Result, Ok, Err, refl, sym, subst}
 use Rattle.ar_base.specs.Counts.{limit_of}
 use Rattle.ar_base.specs.Stages.{Where, refuses, passes}
 use Rattle.ar_base.specs.declared.counts.Count.TheVariants as count
@@ -28,13 +28,10 @@ use Rattle.run_words.specs.declared.verbs.Verb.TheVariants.{Check, Flat, Replay,
 use Rattle.run_words.specs.Jobs.{IsJob, OptionsFit}
 use Rattle.altarica_run.specs.Elaborates.{Elaborates}
 use Rattle.altarica_run.specs.Files.{files_of, Loaded, IsText, first}
-use Rattle.altarica_run.specs.Refusals.{status_of}
 use Rattle.altarica_run.specs.Stages as s
 use Rattle.altarica_run.specs.Stages.{Ready, bare, Asks, Demands, Readies, ListsCuts, Drops, AsksByWords, IsTableOf, line_refused, cut_refused, spot_path, has_table, observer_asked, is_static, Passes, loaded}
 use Rattle.altarica_run.specs.declared.refusals.Refusal.{Refusal}
 use Rattle.altarica_run.specs.declared.refusals.Refusal.TheVariants.{Size, NoDropped, NoObserver, NoValue, Outside}
-use Rattle.altarica_run.specs.declared.status.Status.{Status}
-use Rattle.altarica_run.specs.declared.status.Status.TheVariants as status
 use Rattle.job_laws.proofs.Findings.{scripted_source, listed_source, dropped_source, wanted_source, shown_source}
 
 -- Stages that may be left out
@@ -116,22 +113,6 @@ explaining Make e = absurd cc
 explaining Explain e = record { script = refl; no_list = refl; no_table = refl; drops_none = λ line fit. fit.dropped }
 explaining CheckCuts e = absurd cc
 explaining Modules e = absurd cc
-
--- the lines that tell of the script and of the list end in one status
-pub status_of_line : (why : Why) (n : ℕ) → status_of (line_refused why n) ≡ status.Script
-status_of_line IsNoCommand n = refl
-status_of_line LacksWay n = refl
-status_of_line NamesNoEvent n = refl
-
-pub status_of_cut : (why : Why) (n : ℕ) → status_of (cut_refused why n) ≡ status.Script
-status_of_cut IsNoCommand n = refl
-status_of_cut LacksWay n = refl
-status_of_cut NamesNoEvent n = refl
-
--- a call that ends so ends with this status
-pub in_status : {s a b : Status} {W M : Type 0} → a ≡ b → ((s ≡ a) × W) ⊎ M → ((s ≡ b) × W) ⊎ M
-in_status e (inl h) = inl (h.0 ∙ e, h.1)
-in_status e (inr h) = inr h
 
 -- What stands ready has the source that is asked
 asked_source : (job : Job) (texts : List (List ℕ)) (x : Elaborated) (w : Ready) → Asks job texts x (Ok w) → w.source ≡ x

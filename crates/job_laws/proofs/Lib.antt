@@ -14,6 +14,7 @@ pub mod Findings
 pub mod Flats
 pub mod Labels
 pub mod Lines
+pub mod ManyCuts
 pub mod Modules
 pub mod Observers
 pub mod OneSource

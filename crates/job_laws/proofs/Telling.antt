@@ -1,12 +1,9 @@
 -- What a job tells that has passed its stages is one text.
 use Rattle.std.proofs.Common.{◌≡◌, ◌⊎◌, ℕ, true, false, List, Option, Some, None, Ok, Err, length, refl, sym, ◌∙◌, ap, subst, inl, inr}
-use Rattle.ar_base.specs.Lists.{Stands}
 use Rattle.ar_base.proofs.Items.{last_one}
 use Rattle.ar_base.proofs.Standing.{stands_one}
-use Rattle.ar_firing.specs.Cuts.{Cut, IsConflictFree}
-use Rattle.ar_firing.specs.Listed.{AreListed}
+use Rattle.ar_firing.specs.Cuts.{IsConflictFree}
 use Rattle.ar_firing.specs.Static.{IsKeyedStatic}
-use Rattle.ar_firing.proofs.OneListing.{listed_same}
 use Rattle.ar_meaning.specs.Runs.{Moment}
 use Rattle.ar_meaning.specs.Systems.{System}
 use Rattle.ar_meaning.specs.TraceText.{Naming, MomentText, TraceText}
@@ -42,7 +39,7 @@ use Rattle.typed_expr.specs.declared.expr.Expr.{Expr}
 use Rattle.job_inputs.specs.declared.wanting.Wanted.{Wanted}
 use Rattle.altarica_run.specs.Refusals.{line_of, status_of}
 use Rattle.altarica_run.specs.Stages.{Ready, is_static, lists_cuts}
-use Rattle.altarica_run.specs.Tells.{Tells, check_text, IsFlatText, HasCuts, IsCutsText, IsCheckedText, IsShortText, IsObserverOf, IsExplained, make_lines, IsMakeText, status_at}
+use Rattle.altarica_run.specs.Tells.{Tells, check_text, IsFlatText, IsCutsText, IsCheckedText, IsShortText, IsObserverOf, IsExplained, make_lines, IsMakeText, status_at}
 use Rattle.altarica_run.specs.Tells as told
 use Rattle.altarica_run.specs.declared.status.Status.{Status}
 use Rattle.altarica_run.specs.declared.status.Status.TheVariants.{Done, Fault}
@@ -52,6 +49,7 @@ use Rattle.job_laws.specs.Definite as says
 use Rattle.job_laws.proofs.Asking.{OneList, same_some}
 use Rattle.job_laws.proofs.Cuts.{forest_text_one, cut_text_one, conflict_text_one, no_conflict, check_text_one}
 use Rattle.job_laws.proofs.Demanding.{IsFit, IsFitWhere, keyed_static, readies_one, readies_on}
+use Rattle.job_laws.proofs.ManyCuts.{as_asked, listing_one}
 use Rattle.job_laws.proofs.Modules.{module_text_one}
 use Rattle.job_laws.proofs.Stages.{same_ok, same_err, ok_err}
 
@@ -217,48 +215,25 @@ module _ (w : Ready) (fit : IsFit w) where
       a.is_text.is_table there.is_table in
       a.is_text.is_text ∙ ap (λ (z : Table). equations_text (naming w).events z) i ∙ sym there.is_text
 
-  -- the observer and the value that are asked for
-  record AreAsked (a b : HasCuts w) : Type 0 where
-    observed : b.observed ≡ a.observed
-    value : b.wanted.value ≡ a.wanted.value
-
-  asked_one : (a b : HasCuts w) → AreAsked a b
-  asked_one a b =
-      let same : b.wanted ≡ a.wanted = same_some w.wanted b.wanted a.wanted b.are_wanted a.are_wanted in
-      let there = subst (λ (z : Wanted). Stands (system w).observers z.observer b.observed) same b.is_observed in
-      record {
-        observed = stands_one (system w).observers a.wanted.observer b.observed a.observed there a.is_observed;
-        value = ap (λ (z : Wanted). z.value) same;
-      }
-
-  -- a property of the observer and the value
-  moved : (P : Expr Thing → Value → Type 0) (a b : HasCuts w) → P b.observed b.wanted.value
-      → P a.observed a.wanted.value
-  moved P a b h =
-      let e = asked_one a b in
-      subst (P a.observed) e.value (subst (λ (z : Expr Thing). P z b.wanted.value) e.observed h)
-
   cuts_one : (limit : ℕ) (s t : List ℕ) → IsCutsText w limit s → IsCutsText w limit t → s ≡ t
   cuts_one limit s t a b =
       cut_text_one (naming w) (system w) w.dropped static a.has.observed a.has.wanted.value s t a.is_text
-      (moved (λ o v. IsCutText (naming w) (system w) w.dropped o v t) a.has b.has b.is_text)
+      (as_asked w (λ o v. IsCutText (naming w) (system w) w.dropped o v t) a.has b.has b.is_text)
 
   checked_one : (limit : ℕ) (s t : List ℕ) → IsCheckedText w limit s → IsCheckedText w limit t → s ≡ t
   checked_one limit s t a b =
       check_text_one (naming w) (system w) w.dropped static a.has.observed a.has.wanted.value w.lines s t a.is_text
-      (moved (λ o v. IsCheckText (naming w) (system w) w.dropped o v w.lines t) a.has b.has b.is_text)
+      (as_asked w (λ o v. IsCheckText (naming w) (system w) w.dropped o v w.lines t) a.has b.has b.is_text)
 
   short_one : (limit : ℕ) (s t : List ℕ) → IsShortText w limit s → IsShortText w limit t → s ≡ t
   short_one limit s t a b =
       module_text_one w.source w.dropped static a.has.observed a.has.wanted.value s t a.is_text
-      (moved (λ o v. IsModuleText w.source w.dropped o v t) a.has b.has b.is_text)
+      (as_asked w (λ o v. IsModuleText w.source w.dropped o v t) a.has b.has b.is_text)
 
   made_one : (number limit : ℕ) (s t : List ℕ) → IsMakeText w number limit s → IsMakeText w number limit t → s ≡ t
   made_one number limit s t a b =
       let d = w.source.declarations in
-      let there = moved (λ o v. AreListed (Cut (system w) w.dropped o v) b.sets) a.has b.has b.are_listed in
-      let e : a.sets ≡ b.sets = listed_same a.sets b.sets
-      (Cut (system w) w.dropped a.has.observed a.has.wanted.value) a.are_listed there in
+      let e : a.sets ≡ b.sets = listing_one w a.has b.has a.sets b.sets a.are_listed b.are_listed in
       a.is_text
       ∙ ap (λ (z : List (List ℕ)). make_lines number (length d.units) (length (events d.model d.units)) (count z)
       (largest z)) e

@@ -3,8 +3,9 @@
 //!
 //! Each law is of a call whose words give a job, over files of which something is told and which
 //! are not longer than they may be: the model's, and the script or the list where the job has one.
+//! A call is stopped where a file is not read, the sink fails or memory is refused.
 
-ghost use Rattle.std.specs.Prelude.{◌≡◌, ◌⊎◌, ◌<◌, ◌≤◌, ◌+◌, ℕ, true, List, [], ◌∷◌, length, Some};
+ghost use Rattle.std.specs.Prelude.{◌≡◌, ◌<◌, ◌≤◌, ◌+◌, ℕ, true, List, [], ◌∷◌, length, Some};
 ghost use Rattle.std.specs.Prelude.{Ok, Err};
 ghost use Rattle.ar_base.specs.Breach.{IsBroken, AreKept};
 ghost use Rattle.ar_base.specs.Counts.{limit_of};
@@ -43,8 +44,7 @@ ghost use Rattle.unit_rules.specs.Limits.{unfolded_nodes};
 ghost use Rattle.unit_walks.specs.Unfolding.{Unfolds, IsFirstOver};
 ghost use Rattle.altarica_run.specs.Elaborates.{Elaborates, Systems, Tables};
 ghost use Rattle.altarica_run.specs.Files.{files_of, Loaded, IsText};
-ghost use Rattle.altarica_run.specs.Follows.{Call, Gave, IsKnown, IsQuiet, Wrote};
-ghost use Rattle.altarica_run.specs.Refusals.{line_of, status_of};
+ghost use Rattle.altarica_run.specs.Follows.{Call, Gave, IsKnown};
 ghost use Rattle.altarica_run.specs.Stages.{Ready, bare, Asks, ListsCuts, Drops, IsTableOf};
 ghost use Rattle.altarica_run.specs.Stages.{line_refused, cut_refused, spot_path};
 ghost use Rattle.altarica_run.specs.Stages.{has_table, observer_asked, is_static};
@@ -53,311 +53,296 @@ ghost use Rattle.altarica_run.specs.declared.refusals.Refusal.TheVariants.{Rule,
 ghost use Rattle.altarica_run.specs.declared.refusals.Refusal.TheVariants.{NoObserver, NoValue};
 ghost use Rattle.altarica_run.specs.declared.refusals.Refusal.TheVariants.{Outside};
 ghost use Rattle.altarica_run.specs.declared.status.Status.{Status};
-ghost use Rattle.altarica_run.specs.declared.status.Status.TheVariants as status;
+ghost use Rattle.job_laws.specs.Told.{IsToldAs};
 
-use crate::one_answer::causes_are_told;
+use crate::told::refusals_are_told;
 
 /// A text that is read, and whose model is refused on its way to a system, is answered with the
-/// rule and its place, or with the limit, unless something of the outside fails or memory is
-/// refused.
+/// rule and its place, or with the limit, or the call is stopped.
 pub fn refused_models_are_told()
     ensures rule { (c : Call) (s : Status) (job : Job) (texts : List (List ℕ)) (text : List ℕ)
-        (m : Model) (r : ℕ) (p : Place) → Gave c s → IsQuiet c
+        (m : Model) (r : ℕ) (p : Place) → Gave c s
         → ((name : List ℕ) → IsKnown (c.files name)) → IsJob c.words job
         → Loaded c.files (files_of job) (Ok texts) → IsText job texts text → Reads text m
         → Systems job.main m (Err (fault.Rule r p))
-        → ((s ≡ status.Rule) × Wrote c (line_of (Rule r p))) ⊎ (s ≡ status.Memory) }
+        → IsToldAs c s (Rule r p) }
     ensures limit { (c : Call) (s : Status) (job : Job) (texts : List (List ℕ)) (text : List ℕ)
-        (m : Model) (count : Count) → Gave c s → IsQuiet c
+        (m : Model) (count : Count) → Gave c s
         → ((name : List ℕ) → IsKnown (c.files name)) → IsJob c.words job
         → Loaded c.files (files_of job) (Ok texts) → IsText job texts text → Reads text m
         → Systems job.main m (Err (fault.Limit count))
-        → ((s ≡ status.Size) × Wrote c (line_of (Size count))) ⊎ (s ≡ status.Memory) }
+        → IsToldAs c s (Size count) }
 {
-    causes_are_told();
+    refusals_are_told();
 }
 
 /// A text that is read, that keeps the rules L1 to L5, whose main block unfolds into units,
 /// variables, events and nodes within their limits, and that breaks a rule of L6 to L9, is answered
-/// with the least such rule at its earliest place, unless something of the outside fails or memory
-/// is refused.
+/// with the least such rule at its earliest place, or the call is stopped.
 pub fn broken_rules_of_units_are_told()
     ensures { (c : Call) (s : Status) (job : Job) (texts : List (List ℕ)) (text : List ℕ)
-        (m : Model) (root : RootedModel) (t : Unfolded) (r : ℕ) (p : Place) → Gave c s → IsQuiet c
+        (m : Model) (root : RootedModel) (t : Unfolded) (r : ℕ) (p : Place) → Gave c s
         → ((name : List ℕ) → IsKnown (c.files name)) → IsJob c.words job
         → Loaded c.files (files_of job) (Ok texts) → IsText job texts text → Reads text m
         → Tables job.main m (Ok root) → Unfolds root (Ok t) → FitsLimits t (Ok t)
         → IsBroken unit_rules (unit_breaks t) r p
-        → ((s ≡ status.Rule) × Wrote c (line_of (Rule r p))) ⊎ (s ≡ status.Memory) }
+        → IsToldAs c s (Rule r p) }
 {
-    causes_are_told();
+    refusals_are_told();
 }
 
 /// A text that is read, that keeps the rules L1 to L9 within the limits of its units, and that
-/// breaks a rule of L10 to L13, is answered with the least such rule at its earliest place, unless
-/// something of the outside fails or memory is refused.
+/// breaks a rule of L10 to L13, is answered with the least such rule at its earliest place, or the
+/// call is stopped.
 pub fn broken_rules_of_names_are_told()
     ensures { (c : Call) (s : Status) (job : Job) (texts : List (List ℕ)) (text : List ℕ)
-        (m : Model) (root : RootedModel) (t : Unfolded) (r : ℕ) (p : Place) → Gave c s → IsQuiet c
+        (m : Model) (root : RootedModel) (t : Unfolded) (r : ℕ) (p : Place) → Gave c s
         → ((name : List ℕ) → IsKnown (c.files name)) → IsJob c.words job
         → Loaded c.files (files_of job) (Ok texts) → IsText job texts text → Reads text m
         → Tables job.main m (Ok root) → Instantiates root (Ok t)
         → IsBroken name_rules (name_breaks t) r p
-        → ((s ≡ status.Rule) × Wrote c (line_of (Rule r p))) ⊎ (s ≡ status.Memory) }
+        → IsToldAs c s (Rule r p) }
 {
-    causes_are_told();
+    refusals_are_told();
 }
 
 /// A text that is read, that keeps the rules L1 to L13 within the limits of its units, and that has
 /// a synchronisation of an event from which that event is reached again, is answered with L14 at
-/// the earliest such one, unless something of the outside fails or memory is refused.
+/// the earliest such one, or the call is stopped.
 pub fn broken_rules_of_ways_are_told()
     ensures { (c : Call) (s : Status) (job : Job) (texts : List (List ℕ)) (text : List ℕ)
         (m : Model) (root : RootedModel) (t : Unfolded) (d : Declarations) (p : Place) → Gave c s
-        → IsQuiet c → ((name : List ℕ) → IsKnown (c.files name)) → IsJob c.words job
+        → ((name : List ℕ) → IsKnown (c.files name)) → IsJob c.words job
         → Loaded c.files (files_of job) (Ok texts) → IsText job texts text → Reads text m
         → Tables job.main m (Ok root) → Instantiates root (Ok t) → Binds t (Ok d)
         → IsBroken way_rules (BreaksWayRule d) 14 p
-        → ((s ≡ status.Rule) × Wrote c (line_of (Rule 14 p))) ⊎ (s ≡ status.Memory) }
+        → IsToldAs c s (Rule 14 p) }
 {
-    causes_are_told();
+    refusals_are_told();
 }
 
 /// A text that is read, that keeps the rules L1 to L5, and whose main block has a unit that is too
 /// deep, or more units than there may be, is answered with the limit that its units, in their
-/// order, pass first, unless something of the outside fails or memory is refused.
+/// order, pass first, or the call is stopped.
 pub fn passed_limits_of_units_are_told()
     ensures { (c : Call) (s : Status) (job : Job) (texts : List (List ℕ)) (text : List ℕ)
         (m : Model) (root : RootedModel) (units : List UnitPath) (count : Count) → Gave c s
-        → IsQuiet c → ((name : List ℕ) → IsKnown (c.files name)) → IsJob c.words job
+        → ((name : List ℕ) → IsKnown (c.files name)) → IsJob c.words job
         → Loaded c.files (files_of job) (Ok texts) → IsText job texts text → Reads text m
         → Tables job.main m (Ok root) → AreFirstUnits root units → IsFirstOver count units
-        → ((s ≡ status.Size) × Wrote c (line_of (Size count))) ⊎ (s ≡ status.Memory) }
+        → IsToldAs c s (Size count) }
 {
-    causes_are_told();
+    refusals_are_told();
 }
 
 /// A text that is read, that keeps the rules L1 to L5, whose main block unfolds into units within
 /// their limits, and that has more variables, events or nodes than there may be, is answered with
-/// the first of these limits, in this order, that it passes, unless something of the outside fails
-/// or memory is refused.
+/// the first of these limits, in this order, that it passes, or the call is stopped.
 pub fn passed_limits_of_things_are_told()
     ensures variables { (c : Call) (s : Status) (job : Job) (texts : List (List ℕ)) (text : List ℕ)
-        (m : Model) (root : RootedModel) (t : Unfolded) → Gave c s → IsQuiet c
+        (m : Model) (root : RootedModel) (t : Unfolded) → Gave c s
         → ((name : List ℕ) → IsKnown (c.files name)) → IsJob c.words job
         → Loaded c.files (files_of job) (Ok texts) → IsText job texts text → Reads text m
         → Tables job.main m (Ok root) → Unfolds root (Ok t)
         → limit_of count.Variables < variables_counted t
-        → ((s ≡ status.Size) × Wrote c (line_of (Size count.Variables))) ⊎ (s ≡ status.Memory) }
+        → IsToldAs c s (Size count.Variables) }
     ensures events { (c : Call) (s : Status) (job : Job) (texts : List (List ℕ)) (text : List ℕ)
-        (m : Model) (root : RootedModel) (t : Unfolded) → Gave c s → IsQuiet c
+        (m : Model) (root : RootedModel) (t : Unfolded) → Gave c s
         → ((name : List ℕ) → IsKnown (c.files name)) → IsJob c.words job
         → Loaded c.files (files_of job) (Ok texts) → IsText job texts text → Reads text m
         → Tables job.main m (Ok root) → Unfolds root (Ok t)
         → variables_counted t ≤ limit_of count.Variables
         → limit_of count.Events < events_counted t
-        → ((s ≡ status.Size) × Wrote c (line_of (Size count.Events))) ⊎ (s ≡ status.Memory) }
+        → IsToldAs c s (Size count.Events) }
     ensures nodes { (c : Call) (s : Status) (job : Job) (texts : List (List ℕ)) (text : List ℕ)
-        (m : Model) (root : RootedModel) (t : Unfolded) → Gave c s → IsQuiet c
+        (m : Model) (root : RootedModel) (t : Unfolded) → Gave c s
         → ((name : List ℕ) → IsKnown (c.files name)) → IsJob c.words job
         → Loaded c.files (files_of job) (Ok texts) → IsText job texts text → Reads text m
         → Tables job.main m (Ok root) → Unfolds root (Ok t)
         → variables_counted t ≤ limit_of count.Variables
         → events_counted t ≤ limit_of count.Events
         → limit_of count.TreeNodes < unfolded_nodes t
-        → ((s ≡ status.Size) × Wrote c (line_of (Size count.TreeNodes))) ⊎ (s ≡ status.Memory) }
+        → IsToldAs c s (Size count.TreeNodes) }
 {
-    causes_are_told();
+    refusals_are_told();
 }
 
 /// A text that is read, that keeps the rules L1 to L14, and whose system has an event with more
-/// ways than there may be, is answered with that limit, unless something of the outside fails or
-/// memory is refused.
+/// ways than there may be, is answered with that limit, or the call is stopped.
 pub fn passed_limits_of_ways_are_told()
     ensures { (c : Call) (s : Status) (job : Job) (texts : List (List ℕ)) (text : List ℕ)
         (m : Model) (root : RootedModel) (t : Unfolded) (d : Declarations) (x : Elaborated)
-        → Gave c s → IsQuiet c → ((name : List ℕ) → IsKnown (c.files name)) → IsJob c.words job
+        → Gave c s → ((name : List ℕ) → IsKnown (c.files name)) → IsJob c.words job
         → Loaded c.files (files_of job) (Ok texts) → IsText job texts text → Reads text m
         → Tables job.main m (Ok root) → Instantiates root (Ok t) → Binds t (Ok d)
         → AreKept way_rules (BreaksWayRule d) → HasSystem d (Ok x)
         → limit_of count.Ways < most_ways_counted x
-        → ((s ≡ status.Size) × Wrote c (line_of (Size count.Ways))) ⊎ (s ≡ status.Memory) }
+        → IsToldAs c s (Size count.Ways) }
 {
-    causes_are_told();
+    refusals_are_told();
 }
 
 /// A text that is read, that keeps the rules L1 to L14, whose system has no event with too many
 /// ways, but more parts of ways, or more nodes of expressions, than there may be, is answered with
-/// the first of these limits, in this order, that it passes, unless something of the outside fails
-/// or memory is refused.
+/// the first of these limits, in this order, that it passes, or the call is stopped.
 pub fn passed_limits_of_systems_are_told()
     ensures parts { (c : Call) (s : Status) (job : Job) (texts : List (List ℕ)) (text : List ℕ)
         (m : Model) (root : RootedModel) (t : Unfolded) (d : Declarations) (x : Elaborated)
-        → Gave c s → IsQuiet c → ((name : List ℕ) → IsKnown (c.files name)) → IsJob c.words job
+        → Gave c s → ((name : List ℕ) → IsKnown (c.files name)) → IsJob c.words job
         → Loaded c.files (files_of job) (Ok texts) → IsText job texts text → Reads text m
         → Tables job.main m (Ok root) → Instantiates root (Ok t) → Binds t (Ok d)
         → AreKept way_rules (BreaksWayRule d) → HasSystem d (Ok x)
         → most_ways_counted x ≤ limit_of count.Ways
         → limit_of count.WayParts < way_parts_counted x
-        → ((s ≡ status.Size) × Wrote c (line_of (Size count.WayParts))) ⊎ (s ≡ status.Memory) }
+        → IsToldAs c s (Size count.WayParts) }
     ensures nodes { (c : Call) (s : Status) (job : Job) (texts : List (List ℕ)) (text : List ℕ)
         (m : Model) (root : RootedModel) (t : Unfolded) (d : Declarations) (x : Elaborated)
-        → Gave c s → IsQuiet c → ((name : List ℕ) → IsKnown (c.files name)) → IsJob c.words job
+        → Gave c s → ((name : List ℕ) → IsKnown (c.files name)) → IsJob c.words job
         → Loaded c.files (files_of job) (Ok texts) → IsText job texts text → Reads text m
         → Tables job.main m (Ok root) → Instantiates root (Ok t) → Binds t (Ok d)
         → AreKept way_rules (BreaksWayRule d) → HasSystem d (Ok x)
         → most_ways_counted x ≤ limit_of count.Ways
         → way_parts_counted x ≤ limit_of count.WayParts
         → limit_of count.ExpressionNodes < nodes_counted x
-        → ((s ≡ status.Size) × Wrote c (line_of (Size count.ExpressionNodes)))
-        ⊎ (s ≡ status.Memory) }
+        → IsToldAs c s (Size count.ExpressionNodes) }
 {
-    causes_are_told();
+    refusals_are_told();
 }
 
 /// Words over a text that means a system, which ask it, by themselves, by their script or by their
-/// list, for what it has not, are answered with that refusal, unless something of the outside fails
-/// or memory is refused.
+/// list, for what it has not, are answered with that refusal, or the call is stopped.
 pub fn refused_requests_are_told()
     ensures { (c : Call) (s : Status) (job : Job) (texts : List (List ℕ)) (text : List ℕ)
-        (x : Elaborated) (r : Refusal) → Gave c s → IsQuiet c
+        (x : Elaborated) (r : Refusal) → Gave c s
         → ((name : List ℕ) → IsKnown (c.files name)) → IsJob c.words job
         → Loaded c.files (files_of job) (Ok texts) → IsText job texts text
         → Elaborates job.main text (Ok x) → Asks job texts x (Err r)
-        → ((s ≡ status_of r) × Wrote c (line_of r)) ⊎ (s ≡ status.Memory) }
+        → IsToldAs c s r }
 {
-    causes_are_told();
+    refusals_are_told();
 }
 
 /// Words with a script over a text that means a system, where a line of the script is no command,
 /// needs a way or names no event, are answered with the number of the first such line, counted from
-/// 1, and with what is wrong with it, unless something of the outside fails or memory is refused.
+/// 1, and with what is wrong with it, or the call is stopped.
 pub fn bad_lines_of_scripts_are_told()
     ensures { (c : Call) (s : Status) (job : Job) (text script : List ℕ) (x : Elaborated) (n : ℕ)
-        (why : Why) → Gave c s → IsQuiet c → ((name : List ℕ) → IsKnown (c.files name))
+        (why : Why) → Gave c s → ((name : List ℕ) → IsKnown (c.files name))
         → IsJob c.words job → Loaded c.files (files_of job) (Ok (text ∷ script ∷ []))
         → is_script (shape_of job.command).files ≡ true → Elaborates job.main text (Ok x)
         → IsFirstBad x (lines_of script) n why
-        → ((s ≡ status.Script) × Wrote c (line_of (line_refused why (n + 1))))
-        ⊎ (s ≡ status.Memory) }
+        → IsToldAs c s (line_refused why (n + 1)) }
 {
-    causes_are_told();
+    refusals_are_told();
 }
 
 /// Words with a list of cuts over a text that means a system, where a line of the list is no cut,
 /// needs a way or names no event, are answered with the number of the first such line, counted from
 /// 1, and with what is wrong with it. Where no line is bad, but there are more cuts than there may
-/// be, they are answered with that limit. Both hold unless something of the outside fails or memory
-/// is refused.
+/// be, they are answered with that limit. Both hold unless the call is stopped.
 pub fn bad_lists_of_cuts_are_told()
     ensures line { (c : Call) (s : Status) (job : Job) (text list : List ℕ) (x : Elaborated) (n : ℕ)
-        (why : Why) → Gave c s → IsQuiet c → ((name : List ℕ) → IsKnown (c.files name))
+        (why : Why) → Gave c s → ((name : List ℕ) → IsKnown (c.files name))
         → IsJob c.words job → Loaded c.files (files_of job) (Ok (text ∷ list ∷ []))
         → is_list (shape_of job.command).files ≡ true → Elaborates job.main text (Ok x)
         → IsFirstBadCut x (lines_of list) n why
-        → ((s ≡ status.Script) × Wrote c (line_of (cut_refused why (n + 1))))
-        ⊎ (s ≡ status.Memory) }
+        → IsToldAs c s (cut_refused why (n + 1)) }
     ensures many { (c : Call) (s : Status) (job : Job) (text list : List ℕ) (x : Elaborated)
-        (cuts : List CutLine) → Gave c s → IsQuiet c → ((name : List ℕ) → IsKnown (c.files name))
+        (cuts : List CutLine) → Gave c s → ((name : List ℕ) → IsKnown (c.files name))
         → IsJob c.words job → Loaded c.files (files_of job) (Ok (text ∷ list ∷ []))
         → is_list (shape_of job.command).files ≡ true → Elaborates job.main text (Ok x)
         → ListsCutLines x 1 (lines_of list) cuts → limit_of count.CutLines < length cuts
-        → ((s ≡ status.Size) × Wrote c (line_of (Size count.CutLines))) ⊎ (s ≡ status.Memory) }
+        → IsToldAs c s (Size count.CutLines) }
 {
-    causes_are_told();
+    refusals_are_told();
 }
 
 /// Words over a text that means a system, and over a list of cuts, if they have one, that is
-/// passed, where a part of the list of dropped events names no event, are answered with that,
-/// unless something of the outside fails or memory is refused.
+/// passed, where a part of the list of dropped events names no event, are answered with that, or
+/// the call is stopped.
 pub fn unknown_dropped_events_are_told()
     ensures { (c : Call) (s : Status) (job : Job) (texts : List (List ℕ)) (text dropped : List ℕ)
-        (x : Elaborated) (w : Ready) → Gave c s → IsQuiet c
+        (x : Elaborated) (w : Ready) → Gave c s
         → ((name : List ℕ) → IsKnown (c.files name)) → IsJob c.words job
         → Loaded c.files (files_of job) (Ok texts) → IsText job texts text
         → Elaborates job.main text (Ok x)
         → Where (is_list (shape_of job.command).files) (ListsCuts texts) (bare x) (Ok w)
         → job.dropped ≡ Some dropped → HasUnknown x dropped
-        → ((s ≡ status.Script) × Wrote c (line_of NoDropped)) ⊎ (s ≡ status.Memory) }
+        → IsToldAs c s NoDropped }
 {
-    causes_are_told();
+    refusals_are_told();
 }
 
 /// Words over a text that means a system, where the path of the observer names none, are answered
-/// with that, unless something of the outside fails or memory is refused: where they ask for a
-/// value, and the list of cuts and the dropped events are passed, and where they explain, and the
-/// script is passed.
+/// with that, or the call is stopped: where they ask for a value, and the list of cuts and the
+/// dropped events are passed, and where they explain, and the script is passed.
 pub fn unknown_observers_are_told()
     ensures asked { (c : Call) (s : Status) (job : Job) (texts : List (List ℕ)) (text path : List ℕ)
-        (x : Elaborated) (w v : Ready) → Gave c s → IsQuiet c
+        (x : Elaborated) (w v : Ready) → Gave c s
         → ((name : List ℕ) → IsKnown (c.files name)) → IsJob c.words job
         → Loaded c.files (files_of job) (Ok texts) → IsText job texts text
         → Elaborates job.main text (Ok x)
         → Where (is_list (shape_of job.command).files) (ListsCuts texts) (bare x) (Ok w)
         → Drops job.dropped w (Ok v) → has_table job.command ≡ true
         → observer_asked job ≡ Some path → NamesNone x path
-        → ((s ≡ status.Script) × Wrote c (line_of NoObserver)) ⊎ (s ≡ status.Memory) }
+        → IsToldAs c s NoObserver }
     ensures shown { (c : Call) (s : Status) (job : Job) (text script path : List ℕ)
-        (x : Elaborated) (commands : List Command) → Gave c s → IsQuiet c
+        (x : Elaborated) (commands : List Command) → Gave c s
         → ((name : List ℕ) → IsKnown (c.files name)) → IsJob c.words job
         → Loaded c.files (files_of job) (Ok (text ∷ script ∷ []))
         → (shape_of job.command).explains ≡ true → Elaborates job.main text (Ok x)
         → GivesCommands x (lines_of script) commands → job.observer ≡ Some path
         → NamesNone x path
-        → ((s ≡ status.Script) × Wrote c (line_of NoObserver)) ⊎ (s ≡ status.Memory) }
+        → IsToldAs c s NoObserver }
 {
-    causes_are_told();
+    refusals_are_told();
 }
 
 /// Words over a text that means a system, which ask for a value of an observer, where the list of
 /// cuts and the dropped events are passed and the path names an observer, but the word writes no
-/// value of its type, or is missing where the type is not Boolean, are answered with that, unless
-/// something of the outside fails or memory is refused.
+/// value of its type, or is missing where the type is not Boolean, are answered with that, or the
+/// call is stopped.
 pub fn unknown_values_are_told()
     ensures { (c : Call) (s : Status) (job : Job) (texts : List (List ℕ)) (text path : List ℕ)
-        (x : Elaborated) (w v : Ready) → Gave c s → IsQuiet c
+        (x : Elaborated) (w v : Ready) → Gave c s
         → ((name : List ℕ) → IsKnown (c.files name)) → IsJob c.words job
         → Loaded c.files (files_of job) (Ok texts) → IsText job texts text
         → Elaborates job.main text (Ok x)
         → Where (is_list (shape_of job.command).files) (ListsCuts texts) (bare x) (Ok w)
         → Drops job.dropped w (Ok v) → has_table job.command ≡ true
         → observer_asked job ≡ Some path → WantsNone x path job.value
-        → ((s ≡ status.Script) × Wrote c (line_of NoValue)) ⊎ (s ≡ status.Memory) }
+        → IsToldAs c s NoValue }
 {
-    causes_are_told();
+    refusals_are_told();
 }
 
 /// A command for the static fragment, over a text that means a system which has what the words ask
 /// for, but which, without the dropped events, breaks a rule of S1 to S8, is answered with the
-/// least such rule and the path of the first thing that shows it, unless something of the outside
-/// fails or memory is refused.
+/// least such rule and the path of the first thing that shows it, or the call is stopped.
 pub fn systems_outside_are_told()
     ensures { (c : Call) (s : Status) (job : Job) (texts : List (List ℕ)) (text : List ℕ)
-        (x : Elaborated) (w : Ready) (rule : StaticRule) (spot : Spot) → Gave c s → IsQuiet c
+        (x : Elaborated) (w : Ready) (rule : StaticRule) (spot : Spot) → Gave c s
         → ((name : List ℕ) → IsKnown (c.files name)) → IsJob c.words job
         → Loaded c.files (files_of job) (Ok texts) → IsText job texts text
         → Elaborates job.main text (Ok x) → Asks job texts x (Ok w)
         → is_static job.command ≡ true → IsFirstBroken x.system w.dropped rule spot
-        → ((s ≡ status.Outside)
-        × Wrote c (line_of (Outside (rule_number rule) (spot_path x spot))))
-        ⊎ (s ≡ status.Memory) }
+        → IsToldAs c s (Outside (rule_number rule) (spot_path x spot)) }
 {
-    causes_are_told();
+    refusals_are_told();
 }
 
 /// A command about the gate table, over a text that means a system which has what the words ask for
 /// and which, without the dropped events, keeps the rules S1 to S8, but whose table has more gates
-/// than there may be, is answered with that limit, unless something of the outside fails or memory
-/// is refused.
+/// than there may be, is answered with that limit, or the call is stopped.
 pub fn passed_limits_of_gates_are_told()
     ensures { (c : Call) (s : Status) (job : Job) (texts : List (List ℕ)) (text : List ℕ)
-        (x : Elaborated) (w : Ready) (wanted : Wanted) (table : Table) → Gave c s → IsQuiet c
+        (x : Elaborated) (w : Ready) (wanted : Wanted) (table : Table) → Gave c s
         → ((name : List ℕ) → IsKnown (c.files name)) → IsJob c.words job
         → Loaded c.files (files_of job) (Ok texts) → IsText job texts text
         → Elaborates job.main text (Ok x) → Asks job texts x (Ok w)
         → has_table job.command ≡ true → KeepsAll x.system w.dropped → w.wanted ≡ Some wanted
         → IsTableOf x w.dropped wanted table → limit_of count.Gates < length table.gates
-        → ((s ≡ status.Size) × Wrote c (line_of (Size count.Gates))) ⊎ (s ≡ status.Memory) }
+        → IsToldAs c s (Size count.Gates) }
 {
-    causes_are_told();
+    refusals_are_told();
 }

@@ -4,7 +4,8 @@
 //! A call is stopped where a file is not read, the sink fails or memory is refused.
 
 ghost use Rattle.std.specs.Prelude.{◌≡◌, ◌⊎◌, ℕ, true, false, List, Some, Ok, Err};
-ghost use Rattle.ar_firing.specs.Cuts.{IsConflictFree};
+ghost use Rattle.ar_firing.specs.Cuts.{Cut, IsConflictFree};
+ghost use Rattle.ar_firing.specs.Listed.{AreListed};
 ghost use Rattle.ar_io.specs.Outside.{Told};
 ghost use Rattle.cut_text.specs.ForestTexts.{IsForestText};
 ghost use Rattle.cut_text.specs.Texts.{IsConflictText};
@@ -19,12 +20,13 @@ ghost use Rattle.run_words.specs.declared.verbs.Verb.TheVariants.{Check, Flat, R
 ghost use Rattle.run_words.specs.declared.verbs.Verb.TheVariants.{Fragment, Equations, Explain};
 ghost use Rattle.run_words.specs.Jobs.{IsJob};
 ghost use Rattle.table_text.specs.Texts.{IsTableText};
+ghost use Rattle.zdd_families.specs.Sections.{IsCounted, IsMoreThan};
 ghost use Rattle.altarica_run.specs.Follows.{Call, Gave, IsKnown, Wrote};
 ghost use Rattle.altarica_run.specs.Nodes.{HasConflict, IsTextOfCuts};
 ghost use Rattle.altarica_run.specs.Says.{Says};
 ghost use Rattle.altarica_run.specs.Stages.{Ready, Passes, lists_cuts};
 ghost use Rattle.altarica_run.specs.Tells.{check_text, IsFlatText, IsExplained, status_at};
-ghost use Rattle.altarica_run.specs.Tells.{MayNeedMore, Tells, nodes_line};
+ghost use Rattle.altarica_run.specs.Tells.{HasCuts, MayNeedMore, Tells, nodes_line};
 ghost use Rattle.altarica_run.specs.declared.refusals.Refusal.{Refusal};
 ghost use Rattle.altarica_run.specs.declared.status.Status.{Status};
 ghost use Rattle.altarica_run.specs.declared.status.Status.TheVariants as status;
@@ -152,4 +154,20 @@ pub fn nodes_are_told()
     one_job();
     one_passing();
     texts_agree();
+}
+
+/// A job that tells of cuts, over files of which something is told, which passes all stages, and in
+/// which an observer's value is asked for and no set of events meets a conflict: where the family
+/// of the cuts itself has more counted sections than the job's limit of nodes, it is answered with
+/// the line `nodes: N` and with Nodes, or is stopped.
+pub fn too_many_cuts_are_told()
+    ensures { (c : Call) (s : Status) (job : Job) (w : Ready) → Gave c s
+        → ((name : List ℕ) → IsKnown (c.files name)) → IsJob c.words job
+        → lists_cuts job.command ≡ true → Passes c.files job (Ok w) → (has : HasCuts w)
+        (sets : List (List ℕ))
+        → AreListed (Cut w.source.system w.dropped has.observed has.wanted.value) sets
+        → IsMoreThan job.nodes (IsCounted sets)
+        → ((s ≡ status.Nodes) × Wrote c (nodes_line job.nodes)) ⊎ IsStopped c s }
+{
+    jobs_are_told();
 }

@@ -1,4 +1,4 @@
-//! Laws of the binding of models that agree: it has one answer.
+//! Laws of the binding of models that agree: it has at most one answer.
 
 ghost use Rattle.std.specs.Prelude.{ℕ, List, Option, Result};
 ghost use Rattle.ar_base.specs.Breach.{AreKept};
@@ -25,8 +25,8 @@ pub fn one_list_of_declarations()
         → (d e : Declarations) → AreOf m us d → AreOf m us e → SameDeclarations d e }
 {}
 
-/// The binding of models that agree has one answer, where they have the same units and keep the
-/// rules L1 to L5: both have declarations that are alike, or both break one rule at one place.
+/// The binding of models that agree has at most one answer, where they have the same units and keep
+/// the rules L1 to L5: both have declarations that are alike, or both break one rule at one place.
 pub fn one_binding_or_refusal()
     ensures { (t u : Unfolded) → SameUnfolded t u → KeepsTextRules u.model
         → AreUnits u.model u.units → (a b : Result Declarations RuleFault) → Binds t a
@@ -36,7 +36,7 @@ pub fn one_binding_or_refusal()
 }
 
 /// However a text that keeps the rules L1 to L5 is read, the unfolding and the binding of its main
-/// block have one answer.
+/// block have at most one answer.
 pub fn one_binding_of_a_text()
     ensures { (text : List ℕ) (k : ℕ) (x y : Model) (main : Option (List ℕ)) (m n : RootedModel)
         → ReadsWithin k text x → ReadsWithin k text y → IsRootedIn x main m → IsRootedIn y main n

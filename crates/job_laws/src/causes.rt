@@ -167,7 +167,8 @@ pub fn passed_limits_of_things_are_told()
     refusals_are_told();
 }
 
-/// A text that is read, that keeps the rules L1 to L14, and whose system has an event with more
+/// A text that is read, that keeps the rules L1 to L14 within the limits of its units, and whose system
+/// has an event with more
 /// ways than there may be, is answered with that limit, or the call is stopped.
 pub fn passed_limits_of_ways_are_told()
     ensures { (c : Call) (s : Status) (job : Job) (texts : List (List ℕ)) (text : List ℕ)
@@ -182,7 +183,8 @@ pub fn passed_limits_of_ways_are_told()
     refusals_are_told();
 }
 
-/// A text that is read, that keeps the rules L1 to L14, whose system has no event with too many
+/// A text that is read, that keeps the rules L1 to L14 within the limits of its units, whose system has
+/// no event with too many
 /// ways, but more parts of ways, or more nodes of expressions, than there may be, is answered with
 /// the first of these limits, in this order, that it passes, or the call is stopped.
 pub fn passed_limits_of_systems_are_told()
@@ -317,7 +319,8 @@ pub fn unknown_values_are_told()
 }
 
 /// A command for the static fragment, over a text that means a system which has what the words ask
-/// for, but which, without the dropped events, breaks a rule of S1 to S8, is answered with the
+/// for, but which breaks a rule of S1 to S8, S1 and S7 with the dropped events and the others without
+/// them, is answered with the
 /// least such rule and the path of the first thing that shows it, or the call is stopped.
 pub fn systems_outside_are_told()
     ensures { (c : Call) (s : Status) (job : Job) (texts : List (List ℕ)) (text : List ℕ)
@@ -332,7 +335,8 @@ pub fn systems_outside_are_told()
 }
 
 /// A command about the gate table, over a text that means a system which has what the words ask for
-/// and which, without the dropped events, keeps the rules S1 to S8, but whose table has more gates
+/// and which keeps the rules S1 to S8, S1 and S7 with the dropped events and the others without them,
+/// but whose table has more gates
 /// than there may be, is answered with that limit, or the call is stopped.
 pub fn passed_limits_of_gates_are_told()
     ensures { (c : Call) (s : Status) (job : Job) (texts : List (List ℕ)) (text : List ℕ)

@@ -167,9 +167,9 @@ pub fn passed_limits_of_things_are_told()
     refusals_are_told();
 }
 
-/// A text that is read, that keeps the rules L1 to L14 within the limits of its units, and whose system
-/// has an event with more
-/// ways than there may be, is answered with that limit, or the call is stopped.
+/// A text that is read, that keeps the rules L1 to L14 within the limits of its units, and whose
+/// system has an event with more ways than there may be, is answered with that limit, or the call
+/// is stopped.
 pub fn passed_limits_of_ways_are_told()
     ensures { (c : Call) (s : Status) (job : Job) (texts : List (List ℕ)) (text : List ℕ)
         (m : Model) (root : RootedModel) (t : Unfolded) (d : Declarations) (x : Elaborated)
@@ -183,10 +183,10 @@ pub fn passed_limits_of_ways_are_told()
     refusals_are_told();
 }
 
-/// A text that is read, that keeps the rules L1 to L14 within the limits of its units, whose system has
-/// no event with too many
-/// ways, but more parts of ways, or more nodes of expressions, than there may be, is answered with
-/// the first of these limits, in this order, that it passes, or the call is stopped.
+/// A text that is read, that keeps the rules L1 to L14 within the limits of its units, whose system
+/// has no event with too many ways, but more parts of ways, or more nodes of expressions, than
+/// there may be, is answered with the first of these limits, in this order, that it passes, or the
+/// call is stopped.
 pub fn passed_limits_of_systems_are_told()
     ensures parts { (c : Call) (s : Status) (job : Job) (texts : List (List ℕ)) (text : List ℕ)
         (m : Model) (root : RootedModel) (t : Unfolded) (d : Declarations) (x : Elaborated)
@@ -319,9 +319,9 @@ pub fn unknown_values_are_told()
 }
 
 /// A command for the static fragment, over a text that means a system which has what the words ask
-/// for, but which breaks a rule of S1 to S8, S1 and S7 with the dropped events and the others without
-/// them, is answered with the
-/// least such rule and the path of the first thing that shows it, or the call is stopped.
+/// for, but which breaks a rule of S1 to S8, S1 and S7 with the dropped events and the others
+/// without them, is answered with the least such rule and the path of the first thing that shows
+/// it, or the call is stopped.
 pub fn systems_outside_are_told()
     ensures { (c : Call) (s : Status) (job : Job) (texts : List (List ℕ)) (text : List ℕ)
         (x : Elaborated) (w : Ready) (rule : StaticRule) (spot : Spot) → Gave c s
@@ -335,9 +335,9 @@ pub fn systems_outside_are_told()
 }
 
 /// A command about the gate table, over a text that means a system which has what the words ask for
-/// and which keeps the rules S1 to S8, S1 and S7 with the dropped events and the others without them,
-/// but whose table has more gates
-/// than there may be, is answered with that limit, or the call is stopped.
+/// and which keeps the rules S1 to S8, S1 and S7 with the dropped events and the others without
+/// them, but whose table has more gates than there may be, is answered with that limit, or the call
+/// is stopped.
 pub fn passed_limits_of_gates_are_told()
     ensures { (c : Call) (s : Status) (job : Job) (texts : List (List ℕ)) (text : List ℕ)
         (x : Elaborated) (w : Ready) (wanted : Wanted) (table : Table) → Gave c s

@@ -9,7 +9,6 @@ use Rattle.domains.specs.declared.Value.{Value}
 use Rattle.domains.specs.declared.Value.TheVariants.{Truth, Whole}
 use Rattle.domains.proofs.Members.{contains-head, contains-cons, contains-cases, nothing-in, contains-one}
 use Rattle.domains.proofs.Order.{ascends-from, ascends-length}
-use Rattle.typed_expr.specs.Values.{is_related}
 use Rattle.typed_expr.specs.Folds.{next_of}
 use Rattle.typed_expr.specs.Sets.{HasExactly, AtLimit, KeepsLimit, Gathers, Stopped, AddsValue, Inserts, RefusesValue}
 use Rattle.typed_expr.specs.Sizes.{HasMoreThan}

@@ -15,7 +15,7 @@ use Rattle.typed_expr.specs.Sizes.{HasMoreThan}
 use Rattle.typed_expr.specs.Yields.{Level, Yields, Some_yields, All_yield, Picks, Picks_parts}
 use Rattle.typed_expr.specs.Yields as y
 use Rattle.typed_expr.specs.Possible.{IsWide}
-use Rattle.typed_expr.specs.Evaluating.{Evaluates, IsNext, SomeWide, Tallied, Tallies, FoldYields, SomeStep, Folds, SumYields, PartWide, Sums, CaseWide, Took, PassesAll, Chosen, Chooses, BranchYields, Joins}
+use Rattle.typed_expr.specs.Evaluating.{Told, Tells, Evaluates, IsNext, SomeWide, Tallied, Tallies, FoldYields, SomeStep, Folds, SumYields, PartWide, Sums, CaseWide, Took, PassesAll, Chosen, Chooses, BranchYields, Joins}
 use Rattle.typed_expr.specs.declared.expr.Expr.{Expr, out-Expr}
 use Rattle.typed_expr.specs.declared.fold.Step.{Step}
 use Rattle.typed_expr.specs.declared.fold.Step.TheVariants.{Part}
@@ -113,28 +113,26 @@ module _ {V : Type 0} (facts : V → Value → Type 0) where
   pub tallied-start : (b : Bool) → Tallied facts b false true []
   tallied-start b = record { one = ((λ h. cc), (λ d. elim d [ ])); all = ((λ h. y.none), (λ d. refl)) }
 
-  pub tallied-more : (b one each one_more each_more other same : Bool) (es : List (Expr V)) (i : ℕ) (e : Expr V) (set : List Value)
-      → i < length es → e ≡ get_or es i e
-      → HasExactly set (Yields facts (out-Expr V e)) → IsTrue other ↔ Contains set (Truth (not b))
-      → IsTrue same ↔ Contains set (Truth b)
+  pub tallied-more : (b one each one_more each_more other same : Bool) (es : List (Expr V)) (i : ℕ) (e : Expr V)
+      → i < length es → e ≡ get_or es i e → Told facts b other same (out-Expr V e)
       → IsTrue one_more ↔ (IsTrue one ⊎ IsTrue other) → IsTrue each_more ↔ (IsTrue each × IsTrue same)
       → Tallied facts b one each (take i es) → Tallied facts b one_more each_more (take (i + 1) es)
-  tallied-more b one each one_more each_more other same es i e set h is k p q o a t =
+  tallied-more b one each one_more each_more other same es i e h is told o a t =
       let T : List (Expr V) → Type 0 = λ l. Tallied facts b one_more each_more l in
       subst T (sym (take_item es i e h is)) (record {
         one = (
           (λ g. elim (o.0 g) [
             | inl m ↦ some-left (take i es) (e ∷ []) (Truth (not b)) (t.one.0 m)
-            | inr m ↦ some-right (take i es) (e ∷ []) (Truth (not b)) (y.here (k.sound (Truth (not b)) (p.0 m)))
+            | inr m ↦ some-right (take i es) (e ∷ []) (Truth (not b)) (y.here (told.opposite.0 m))
           ]),
           (λ d. elim (some-append (take i es) (e ∷ []) (Truth (not b)) d) [
             | inl m ↦ o.1 (inl (t.one.1 m))
-            | inr m ↦ o.1 (inr (p.1 (k.complete (Truth (not b)) (some_one e (Truth (not b)) m))))
+            | inr m ↦ o.1 (inr (told.opposite.1 (some_one e (Truth (not b)) m)))
           ]),
         );
         all = (
-          (λ g. let m = a.0 g in all-append (take i es) (e ∷ []) (Truth b) (t.all.0 m.0) (y.one_and (k.sound (Truth b) (q.0 m.1)) y.none)),
-          (λ d. a.1 (t.all.1 (all-left (take i es) (e ∷ []) (Truth b) d), q.1 (k.complete (Truth b) (all_one e (Truth b) (all-right (take i es) (e ∷ []) (Truth b) d))))),
+          (λ g. let m = a.0 g in all-append (take i es) (e ∷ []) (Truth b) (t.all.0 m.0) (y.one_and (told.same.0 m.1) y.none)),
+          (λ d. a.1 (t.all.1 (all-left (take i es) (e ∷ []) (Truth b) d), told.same.1 (all_one e (Truth b) (all-right (take i es) (e ∷ []) (Truth b) d)))),
         );
       })
 
@@ -559,16 +557,27 @@ module _ {V : Type 0} (facts : V → Value → Type 0) (most : Option ℕ) where
   pub tally-begins : (b : Bool) (es : List (Expr V)) → TallySoFar facts most b false true es 0
   tally-begins b es = record { tallied = tallied-start facts b; narrow = narrow-start facts most }
 
-  pub tally-goes-on : (b one each one_more each_more other same : Bool) (es : List (Expr V)) (i : ℕ) (e : Expr V) (set : List Value)
+  pub tally-goes-on : (b one each one_more each_more other same : Bool) (es : List (Expr V)) (i : ℕ) (e : Expr V)
       → i < length es → e ≡ get_or es i e
-      → TallySoFar facts most b one each es i → Evaluates facts most (Ok set) (out-Expr V e)
-      → IsTrue other ↔ Contains set (Truth (not b)) → IsTrue same ↔ Contains set (Truth b)
+      → TallySoFar facts most b one each es i → Tells facts most b (Ok (other, same)) (out-Expr V e)
       → IsTrue one_more ↔ (IsTrue one ⊎ IsTrue other) → IsTrue each_more ↔ (IsTrue each × IsTrue same)
       → TallySoFar facts most b one_more each_more es (i + 1)
-  tally-goes-on b one each one_more each_more other same es i e set h is f q p o k a = record {
-    tallied = tallied-more facts b one each one_more each_more other same es i e set h is q.0 p o k a f.tallied;
-    narrow = narrow-more facts most es i e h is f.narrow q.2;
+  tally-goes-on b one each one_more each_more other same es i e h is f q k a = record {
+    tallied = tallied-more facts b one each one_more each_more other same es i e h is q.0 k a f.tallied;
+    narrow = narrow-more facts most es i e h is f.narrow q.1;
   }
+
+  -- what an operand yields, as its set has it
+  pub tell-of-set : (b other same : Bool) (set : List Value) (e : Level V) → Evaluates facts most (Ok set) e
+      → IsTrue other ↔ Contains set (Truth (not b)) → IsTrue same ↔ Contains set (Truth b)
+      → Tells facts most b (Ok (other, same)) e
+  tell-of-set b other same set e h p q = (
+    record {
+      opposite = ((λ m. h.0.sound (Truth (not b)) (p.0 m)), (λ d. p.1 (h.0.complete (Truth (not b)) d)));
+      same = ((λ m. h.0.sound (Truth b) (q.0 m)), (λ d. q.1 (h.0.complete (Truth b) d)));
+    },
+    h.2,
+  )
 
   pub tally-ends : (b one each : Bool) (es : List (Expr V)) (i : ℕ) → length es ≤ i
       → TallySoFar facts most b one each es i → Tallies facts most b (Ok (one, each)) es

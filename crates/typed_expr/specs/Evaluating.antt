@@ -46,6 +46,15 @@ pub record SomeWide {V : Type 0} (facts : V → Value → Type 0) (es : List (Ex
   pub in_list : Contains es expr
   pub wide : IsWide facts most (out-Expr V expr)
 
+-- whether the expression yields the one truth value, and whether it yields the other
+pub record Told {V : Type 0} (facts : V → Value → Type 0) (b other this : Bool) (e : Level V) : Type 0 where
+  pub opposite : IsTrue other ↔ Yields facts e (Truth (not b))
+  pub same : IsTrue this ↔ Yields facts e (Truth b)
+
+abbrev pub Tells : {V : Type 0} → (V → Value → Type 0) → Option ℕ → Bool → Result (Bool × Bool) Stop → Level V → Type 0
+Tells facts most b (Ok r) e = Told facts b r.0 r.1 e × (AtLimit most (λ n. IsWide facts n e) → ⊥)
+Tells facts most b (Err stop) e = Stopped most (λ n. IsWide facts n e) stop
+
 -- one of the operands yields the one truth value, each yields the other
 pub record Tallied {V : Type 0} (facts : V → Value → Type 0) (b one_other each : Bool)
     (es : List (Expr V)) : Type 0 where

@@ -1,5 +1,5 @@
 -- What the operators make of the values of their operands.
-use Rattle.std.specs.Prelude.{ℤ, pos, ◌+ℤ◌, ◌-ℤ◌, ◌*ℤ◌, Bool, false, not, ◌&&◌, ◌||◌, if◌then◌else◌, List, [], ◌∷◌, fold}
+use Rattle.std.specs.Prelude.{ℤ, pos, ◌+ℤ◌, ◌-ℤ◌, ◌*ℤ◌, Bool, not, ◌&&◌, ◌||◌, if◌then◌else◌, List, [], ◌∷◌, fold}
 use Rattle.std.specs.Int.{saturate_signed, w64, int_min, int_max}
 use Rattle.domains.specs.Values.{is_before, truth_of, whole_of}
 use Rattle.domains.specs.declared.Value.{Value}

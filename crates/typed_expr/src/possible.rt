@@ -6,14 +6,14 @@ ghost use Rattle.typed_expr.specs.declared.expr.Expr.{out-Expr};
 ghost use Rattle.typed_expr.specs.Sets.{HasExactly, KeepsLimit};
 ghost use Rattle.typed_expr.specs.Yields.{Yields, facts_of};
 ghost use Rattle.typed_expr.specs.Possible.{IsWide};
-ghost use Rattle.typed_expr.specs.Evaluating.{Evaluates, Tallies, Folds, Sums, Chooses, Joins};
+ghost use Rattle.typed_expr.specs.Evaluating.{Evaluates, Tells, Tallies, Folds, Sums, Chooses, Joins};
 
 use crate::env::Env;
 use crate::expr::Expr;
 use crate::fold::{Step, start_value};
 use crate::relations::some_related;
 use crate::sets::{both, either, gathered, joined_where, stepped, truth_set};
-use crate::value_set::{Stop, ValueSet};
+use crate::value_set::{Stop, ValueSet, has_value};
 use ar_base::Memory;
 use domains::Value;
 use std::alloc::Global;
@@ -124,14 +124,39 @@ fn tally<V, E: Env<V>>(
     let mut one_other = false;
     let mut each = true;
     for e in es {
-        let set = yielded(alloc, e, env, most)?;
-        one_other = either(one_other, set.has(Value::Truth(!b)));
-        each = both(each, set.has(Value::Truth(b)));
+        let (other, this) = truths(alloc, e, env, most, b)?;
+        one_other = either(one_other, other);
+        each = both(each, this);
         if one_other && !each && most.is_none() {
             return Ok((true, false));
         }
     }
     Ok((one_other, each))
+}
+
+// Whether an operand yields the opposite truth value, and whether it yields this one. The facts of a variable are looked at
+// where they stand, and no set is made of them.
+#[cycle(yielded)]
+fn truths<V, E: Env<V>>(
+    alloc: Global,
+    e: &Expr<V>,
+    env: &E,
+    most: Option<u32>,
+    b: bool,
+) -> Result<(bool, bool), Stop>
+    ensures { Tells (facts_of (E.facts_at env.now)) most b result (out-Expr V e.now) }
+{
+    if most.is_none() {
+        if let Expr::Variable(x) = e {
+            let facts = env.facts(x);
+            return Ok((
+                has_value(facts, Value::Truth(!b)),
+                has_value(facts, Value::Truth(b)),
+            ));
+        }
+    }
+    let set = yielded(alloc, e, env, most)?;
+    Ok((set.has(Value::Truth(!b)), set.has(Value::Truth(b))))
 }
 
 // The fold over one value for each operand.

@@ -71,7 +71,7 @@ impl ValueSet {
     pub(crate) fn has(&self, v: Value) -> bool
         ensures { IsTrue result ↔ Contains self.now v }
     {
-        self.items.as_slice().contains(&v)
+        has_value(self.items.as_slice(), v)
     }
 
     // Puts a value in, within the limit where there is one.
@@ -90,6 +90,13 @@ impl ValueSet {
             Err(failed) => Err(Stop::NoMemory(Memory::from(failed))),
         }
     }
+}
+
+// Whether the value is one of these.
+pub(crate) fn has_value(values: &[Value], v: Value) -> bool
+    ensures { IsTrue result ↔ Contains values.now v }
+{
+    values.contains(&v)
 }
 
 // Where the value goes in, unless it is there.

@@ -114,6 +114,25 @@ clone_own n g i e = is_own (subst (λ f. IsFormOf f g.kind) e i.form)
     is_own : {p : _} {m : MemberKind} → IsFormOf (form.Clone p) m → is_inner m ≡ true
     is_own (f.clone q) = refl
 
+-- the clone of a path that leads to nothing makes no unit
+pub clone_lost : (s : RootedModel) (t : Table) (a : ℕ) (u : UnitPath) (n : UnitName) (g : NamedMember) {p : _}
+    → IsTable s [] t → Stands (paths_of t) a u → IsUnitName n g → kind_at s u g.name ≡ Some g.kind
+    → n.form ≡ form.Clone p → (kind_at s u g.name ≡ Some (Clone p.now) → EndsNowhere s u g.name)
+    → IsMadeBy s t t u g None
+clone_lost s t a u n g {p} k stands i kind e lost =
+    made_nothing s t t a g.name c.Nothing u g
+    (record {
+      table = k;
+      extends = extends_none t;
+      known = λ v q. subst (λ (z : UnitPath). EndsNowhere s z g.name) (stands_one (paths_of t) a u v stands q) nowhere;
+    }) stands refl kind (clone_own n g i e) refl
+  where
+    path_of : {m : MemberKind} → IsFormOf (form.Clone p) m → m ≡ Clone p.now
+    path_of (f.clone q) = ap Clone (sym q)
+
+    nowhere : EndsNowhere s u g.name
+    nowhere = lost (kind ∙ ap Some (path_of (subst (λ f. IsFormOf f g.kind) e i.form)))
+
 -- Nodes
 
 owner_more : (all more : List UnitPath) (u : UnitPath) (o : Option UnitId) → IsOwner all u o → IsOwner (all ++ more) u o

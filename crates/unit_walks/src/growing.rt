@@ -1,13 +1,13 @@
 //! The units depth first, within the limits.
 
-ghost use Rattle.std.specs.Prelude.{◌≡◌, ◌+◌, ◌≤◌, ◌++◌, ◌∷◌, length, List, [], map, true, Some, IfOk, IfErr, OnOk};
+ghost use Rattle.std.specs.Prelude.{◌≡◌, ◌+◌, ◌≤◌, ◌++◌, ◌∷◌, ℕ, length, List, [], map, true, Some, IfOk, IfErr, OnOk};
 ghost use Rattle.ar_base.specs.Lists.{Stands};
-ghost use Rattle.class_table.specs.Members.{NamedMember};
+ghost use Rattle.class_table.specs.Members.{NamedMember, Clone};
 ghost use Rattle.hierarchy.specs.Models.{RootedModel, IsKeptTable};
 ghost use Rattle.hierarchy.specs.Units.{UnitPath, body_of, kind_at};
 ghost use Rattle.hierarchy.specs.Listing.{is_inner};
 ghost use Rattle.unit_walks.specs.Forms.{IsFormsFor, IsUnitName};
-ghost use Rattle.unit_walks.specs.Tables.{paths_of, IsTable};
+ghost use Rattle.unit_walks.specs.Tables.{paths_of, IsTable, EndsNowhere};
 ghost use Rattle.unit_walks.specs.Unfolding.{RefusesUnits};
 ghost use Rattle.unit_walks.specs.Growing.{IsMadeBy, HasGrown, HasGrownInside, HasPassed, HasPassedInside, IsUnfolded};
 ghost use Rattle.unit_walks.specs.declared.growing.Node.{Node as NodeOf};
@@ -17,6 +17,7 @@ use crate::indexing::forms_of;
 use crate::tables::{Known, Table, start_table};
 use crate::walking::known;
 use ar_base::{Count, Memory, NameId, RuleFault, UnitId};
+use ar_syntax::{Path, PathStart};
 use class_table::Classes;
 use hierarchy::Outline;
 use std::alloc::Global;
@@ -76,7 +77,34 @@ fn made(
     match named.form {
         UnitForm::Alias(_) => Ok(None),
         UnitForm::Inner(_, _) => inner_unit(alloc, forms, table, unit, named.name),
-        UnitForm::Clone(_) => inner_unit(alloc, forms, table, unit, named.name),
+        UnitForm::Clone(path) => {
+            if is_lost(forms, table, unit, path) {
+                return Ok(None);
+            }
+            inner_unit(alloc, forms, table, unit, named.name)
+        }
+    }
+}
+
+// Whether the path of a clone begins in the clone's own unit with a name that is no unit there, so that no walk is needed:
+// such a clone may stand in far more units than a tree has nodes.
+fn is_lost(forms: &Forms, table: &Table, unit: u32, path: &Path) -> bool
+    ensures { result ≡ true → (m : RootedModel) (u : UnitPath) (x : ℕ) → IsFormsFor m forms.now
+        → IsTable m [] table.now → Stands (paths_of table.now) unit u
+        → kind_at m u x ≡ Some (Clone path.now) → EndsNowhere m u x }
+{
+    let PathStart::Here = path.start else {
+        return false;
+    };
+    let Some(first) = path.names.first() else {
+        return false;
+    };
+    let Some(here) = table.unit(unit) else {
+        return false;
+    };
+    match forms.form(here.body, *first) {
+        None => true,
+        Some(_) => false,
     }
 }
 

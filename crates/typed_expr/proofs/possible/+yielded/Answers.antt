@@ -1,9 +1,12 @@
-use Rattle.std.proofs.Common.{◌+◌, ◌↔◌, List, Bool, Contains, Result, Ok, Err, IsTrue, refl, subst, true, false}
+use Rattle.std.proofs.Common.{◌≡◌, ◌+◌, ◌↔◌, ℕ, List, Bool, not, Contains, Option, Some, None, Result, Ok, Err, IsTrue, refl, sym, subst, true, false}
+use Rattle.std.specs.Option.{is_some}
 use Rattle.domains.specs.declared.Value.{Value}
+use Rattle.domains.specs.declared.Value.TheVariants.{Truth}
 use Rattle.typed_expr.specs.Sets.{Gathers}
 use Rattle.typed_expr.specs.Yields.{facts_of}
-use Rattle.typed_expr.specs.Evaluating.{Evaluates, Tallies, Folds, Sums, Chooses, Joins, SomeRelated, IsNext}
-use Rattle.typed_expr.specs.declared.expr.Expr.{out-Expr}
+use Rattle.typed_expr.specs.Evaluating.{Evaluates, Tells, Tallies, Folds, Sums, Chooses, Joins, SomeRelated, IsNext}
+use Rattle.typed_expr.specs.declared.expr.Expr.{Expr, out-Expr}
+use Rattle.typed_expr.specs.declared.expr.Expr as plain
 use Rattle.typed_expr.specs.declared.fold.Step.TheVariants.{Part}
 use Rattle.typed_expr.specs.declared.value_set.Stop.{Stop}
 use Rattle.typed_expr.proofs.Gathering.{err-same, keeps-nothing}
@@ -171,14 +174,14 @@ yielded-returns-in_err-set-in-Choose g t c =
     c.in-Choose.cases c.in-Choose.other c.in-Choose.is c.deref-in-Choose.ensures.value
     c.in_err-set-in-Choose.ensures)
 
-pub tally-returns-in_err-set : goal.tally-returns-in_err-set
-tally-returns-in_err-set g t c =
+pub tally-returns-in_err-other : goal.tally-returns-in_err-other
+tally-returns-in_err-other g t c =
     let facts = facts_of (g.E.Env.facts_at c.args.env.now) in
     err-same
     (λ (r : Result (Bool × Bool) Stop). Tallies facts c.args.most c.args.b r c.args.es.now) c.from_residual.result
-    c.in_err-set.field-0.0 c.from_residual.ensures.1
-    (loop.wide-here facts c.args.most c.args.es.now c.loop-e.e-index c.e-item.result c.in_err-set.field-0.0
-    c.loop-e-test.true c.e-item.is c.in_err-set.ensures)
+    c.in_err-other.field-0.0 c.from_residual.ensures.1
+    (loop.wide-here facts c.args.most c.args.es.now c.loop-e.e-index c.e-item.result c.in_err-other.field-0.0
+    c.loop-e-test.true c.e-item.is c.in_err-other.ensures)
 
 pub tally-loop-e-init : goal.tally-loop-e-init
 tally-loop-e-init g t c =
@@ -189,9 +192,8 @@ pub tally-loop-e-preserved : goal.tally-loop-e-preserved
 tally-loop-e-preserved g t c =
     let facts = facts_of (g.E.Env.facts_at c.args.env.now) in
     loop.tally-goes-on facts c.args.most c.args.b c.loop-e.one_other c.loop-e.each c.either-one_other.result
-    c.both-each.result c.has.result c.has-in-loop-e.result c.args.es.now c.loop-e.e-index c.e-item.result
-    c.in_ok-set.set
-    c.loop-e-test.true c.e-item.is c.loop-e.invariant c.in_ok-set.ensures c.has.ensures c.has-in-loop-e.ensures
+    c.both-each.result c.in_ok-other.other c.in_ok-other.this c.args.es.now c.loop-e.e-index c.e-item.result
+    c.loop-e-test.true c.e-item.is c.loop-e.invariant c.in_ok-other.ensures
     c.either-one_other.ensures c.both-each.ensures
 
 pub tally-returns-then-is_none : goal.tally-returns-then-is_none
@@ -199,13 +201,36 @@ tally-returns-then-is_none g t c =
     let facts = facts_of (g.E.Env.facts_at c.args.env.now) in
     let next =
     loop.tally-goes-on facts c.args.most c.args.b c.loop-e.one_other c.loop-e.each c.either-one_other.result
-    c.both-each.result c.has.result c.has-in-loop-e.result c.args.es.now c.loop-e.e-index c.e-item.result
-    c.in_ok-set.set
-    c.loop-e-test.true c.e-item.is c.loop-e.invariant c.in_ok-set.ensures c.has.ensures c.has-in-loop-e.ensures
+    c.both-each.result c.in_ok-other.other c.in_ok-other.this c.args.es.now c.loop-e.e-index c.e-item.result
+    c.loop-e-test.true c.e-item.is c.loop-e.invariant c.in_ok-other.ensures
     c.either-one_other.ensures c.both-each.ensures in
     loop.tally-stops-early facts c.args.most c.args.b c.either-one_other.result c.both-each.result c.args.es.now
     (c.loop-e.e-index + 1) c.if-one_other.true c.if-not-each.true
     (loop.none-there _ c.is_none.result c.is_none.ensures c.if-is_none.true) next
+
+-- what a variable yields, as its facts have it
+told-of-facts : {V : Type 0} (values_of : V → List Value) (most : Option ℕ) (e : Expr V) (x : V) (values : List Value)
+    (b other same : Bool) → is_some most ≡ false → e ≡ plain.Variable x → values ≡ values_of x
+    → IsTrue other ↔ Contains values (Truth (not b)) → IsTrue same ↔ Contains values (Truth b)
+    → Tells (facts_of values_of) most b (Ok (other, same)) (out-Expr V e)
+told-of-facts {V} values_of None e x values b other same none is at p q =
+    let facts = facts_of values_of in
+    loop.tell-of-set facts None b other same values (out-Expr V e)
+    (arm.variable-arm facts None (Ok values) e x is (
+      record {
+        sound = λ v m. subst (λ (z : List Value). Contains z v) at m;
+        complete = λ v m. subst (λ (z : List Value). Contains z v) (sym at) m;
+      },
+      tt,
+    )) p q
+told-of-facts values_of (Some n) e x values b other same none is at p q = cc
+
+pub truths-returns-in-Variable : goal.truths-returns-in-Variable
+truths-returns-in-Variable g t c =
+    told-of-facts (g.E.Env.facts_at c.args.env.now) c.args.most c.args.e.now c.in-Variable.x c.facts-facts.result.now
+    c.args.b c.has_value.result c.has_value-in-Variable.result
+    (loop.none-there _ c.is_none.result c.is_none.ensures c.if-is_none.true) c.in-Variable.is c.facts-facts.ensures
+    c.has_value.ensures c.has_value-in-Variable.ensures
 
 pub folded-returns-in_err-so_far : goal.folded-returns-in_err-so_far
 folded-returns-in_err-so_far g t c =

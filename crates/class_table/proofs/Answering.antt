@@ -1,8 +1,9 @@
 -- The answer of the stage.
 use Rattle.std.proofs.Common.{◌≡◌, ℕ, suc, List, map, Option, Some, None, Result, Ok, Err, IfNone, Vec, Global, refl, sym, ap, subst, arith}
+use Rattle.ar_base.specs.Breach.{IsBroken}
 use Rattle.ar_base.specs.Lists.{IsOneOf, Along}
 use Rattle.ar_base.specs.Numbers.{NameId, BodyId}
-use Rattle.ar_base.specs.Stages.{Meets, kept_rule}
+use Rattle.ar_base.specs.Stages.{Meets, kept_rule, IsRefusal, rule_told}
 use Rattle.ar_base.specs.declared.faults.RuleFault.{RuleFault}
 use Rattle.ar_base.specs.declared.faults.RuleFault.TheVariants.{Rule, Limit, Memory}
 use Rattle.ar_base.specs.declared.places.Place.{Place}
@@ -15,10 +16,12 @@ use Rattle.class_table.specs.Tables.{IsBodyOf, IsNamedType, IsTableOfModel, IsMa
 use Rattle.class_table.specs.Tabling.{Tabulates, table, breach}
 use Rattle.class_table.specs.Rules.{BreaksItems, BreaksTypes, BreaksContainment, BreaksNames, BreaksTextRule, l1, l2, l3, l4, l5, text_rules}
 use Rattle.class_table.specs.Earliest.{IsEarliest}
+use Rattle.class_table.specs.Testing.{KeptBelow, TestsBelow, kept, broken, TakesApart, parts, wrong, KeepsDeclared}
 use Rattle.class_table.specs.Laying.{AreParts}
 use Rattle.class_table.specs.Shown.{Shows, IsListed}
 use Rattle.class_table.specs.Kinds.{KnowsTypes}
 use Rattle.class_table.specs.declared.types.TypeKinds.{TypeKinds}
+use Rattle.class_table.specs.declared.tables.Body.{Body}
 use Rattle.class_table.specs.declared.tables.TypeBody.{TypeBody}
 use Rattle.class_table.specs.declared.declaring.Declared.{Declared as Parts}
 use Rattle.class_table.specs.declared.tables.Classes.{Classes}
@@ -28,7 +31,7 @@ use Rattle.class_table.specs.Rows.{AreInside}
 use Rattle.class_table.proofs.Acyclic.{is_complete}
 use Rattle.class_table.proofs.Listed.{classes_named}
 use Rattle.class_table.proofs.FirstPlaces.{earliest_same}
-use Rattle.class_table.proofs.Broken.{KeptBelow, none_below, next_below, all_kept, broken_at, kept_none, is_l1, is_l2, is_l3, is_l4, is_l5}
+use Rattle.class_table.proofs.Broken.{none_below, next_below, all_kept, broken_at, kept_none, is_l1, is_l2, is_l3, is_l4, is_l5}
 
 -- what the parts declare
 unfoldable pub declared_of : (items : List Item) (p : Parts) → AreParts items p → Declared
@@ -85,44 +88,82 @@ module _ (model : Model) (main : Option (List ℕ)) (d : Declared) where
   passes_test n f e k h = kept_none model main d n k (subst (IsEarliest (BreaksTextRule model main d n)) e h)
 
   -- a test that refuses
-  pub refuses_test : (n : ℕ) (f : Option Place) (x : RuleFault) → IsDeclared model d → IsOneOf text_rules n
+  pub refuses_test : (n : ℕ) (f : Option Place) (x : RuleFault) (m : ℕ) → IsOneOf text_rules n
       → KeptBelow model main d n → IsEarliest (BreaksTextRule model main d n) f
-      → (p : Place) × (f ≡ Some p) × (x ≡ Rule n p) → Tabulates main model (Err x)
-  refuses_test n f x i o k h w =
-      subst (λ (y : RuleFault). Tabulates main model (Err y)) (sym w.2)
-      (breach d i (broken_at model main d n w.0 o k (subst (IsEarliest (BreaksTextRule model main d n)) w.1 h)))
+      → (p : Place) × (f ≡ Some p) × (x ≡ Rule n p) → IsRefusal (TestsBelow m model main d) (rule_told x)
+  refuses_test n f x m o k h w =
+      subst (λ (y : RuleFault). IsRefusal (TestsBelow m model main d) (rule_told y)) (sym w.2)
+      (broken (broken_at model main d n w.0 o k (subst (IsEarliest (BreaksTextRule model main d n)) w.1 h)))
 
-  pub refuses1 : (f : Option Place) (x : RuleFault) → IsDeclared model d → IsEarliest (BreaksItems model.items.items) f
-      → Err x ≡ kept_rule 1 f → Tabulates main model (Err x)
-  refuses1 f x i h e = refuses_test 1 f x i one1 (none_below model main d) (tests1 f h) (kept_err 1 f x e)
+  -- the test of rule L1
+  pub first_kept : IsEarliest (BreaksItems model.items.items) None → KeptBelow model main d 2
+  first_kept h = kept_none model main d 1 (none_below model main d) (tests1 None h)
 
-  pub passes1 : (f : Option Place) (x : Unit {0}) → IsEarliest (BreaksItems model.items.items) f → Ok x ≡ kept_rule 1 f
-      → KeptBelow model main d 2
-  passes1 f x h e = passes_test 1 f (kept_ok 1 f x e) (none_below model main d) (tests1 f h)
+  pub first_broken : (p : Place) → IsEarliest (BreaksItems model.items.items) (Some p)
+      → IsBroken text_rules (BreaksTextRule model main d) 1 p
+  first_broken p h = broken_at model main d 1 p one1 (none_below model main d) (tests1 (Some p) h)
 
-  pub refuses2 : (f : Option Place) (x : RuleFault) → IsDeclared model d → KeptBelow model main d 2
-      → IsEarliest (BreaksTypes d) f → Err x ≡ kept_rule 2 f → Tabulates main model (Err x)
-  refuses2 f x i k h e = refuses_test 2 f x i one2 k (tests2 f h) (kept_err 2 f x e)
+  -- the tests of rules L2 to L4
+  pub refuses2 : (f : Option Place) (x : RuleFault) (m : ℕ) → KeptBelow model main d 2 → IsEarliest (BreaksTypes d) f
+      → Err x ≡ kept_rule 2 f → IsRefusal (TestsBelow m model main d) (rule_told x)
+  refuses2 f x m k h e = refuses_test 2 f x m one2 k (tests2 f h) (kept_err 2 f x e)
 
   pub passes2 : (f : Option Place) (x : Unit {0}) → KeptBelow model main d 2 → IsEarliest (BreaksTypes d) f
       → Ok x ≡ kept_rule 2 f → KeptBelow model main d 3
   passes2 f x k h e = passes_test 2 f (kept_ok 2 f x e) k (tests2 f h)
 
-  pub refuses3 : (f : Option Place) (x : RuleFault) → IsDeclared model d → KeptBelow model main d 3
-      → IsEarliest (BreaksContainment d) f → Err x ≡ kept_rule 3 f → Tabulates main model (Err x)
-  refuses3 f x i k h e = refuses_test 3 f x i one3 k (tests3 f h) (kept_err 3 f x e)
+  pub refuses3 : (f : Option Place) (x : RuleFault) (m : ℕ) → KeptBelow model main d 3
+      → IsEarliest (BreaksContainment d) f → Err x ≡ kept_rule 3 f → IsRefusal (TestsBelow m model main d) (rule_told x)
+  refuses3 f x m k h e = refuses_test 3 f x m one3 k (tests3 f h) (kept_err 3 f x e)
 
   pub passes3 : (f : Option Place) (x : Unit {0}) → KeptBelow model main d 3 → IsEarliest (BreaksContainment d) f
       → Ok x ≡ kept_rule 3 f → KeptBelow model main d 4
   passes3 f x k h e = passes_test 3 f (kept_ok 3 f x e) k (tests3 f h)
 
-  pub refuses4 : (f : Option Place) (x : RuleFault) → IsDeclared model d → KeptBelow model main d 4
-      → IsEarliest (BreaksNames d) f → Err x ≡ kept_rule 4 f → Tabulates main model (Err x)
-  refuses4 f x i k h e = refuses_test 4 f x i one4 k (tests4 f h) (kept_err 4 f x e)
+  pub refuses4 : (f : Option Place) (x : RuleFault) (m : ℕ) → KeptBelow model main d 4 → IsEarliest (BreaksNames d) f
+      → Err x ≡ kept_rule 4 f → IsRefusal (TestsBelow m model main d) (rule_told x)
+  refuses4 f x m k h e = refuses_test 4 f x m one4 k (tests4 f h) (kept_err 4 f x e)
 
   pub passes4 : (f : Option Place) (x : Unit {0}) → KeptBelow model main d 4 → IsEarliest (BreaksNames d) f
       → Ok x ≡ kept_rule 4 f → KeptBelow model main d 5
   passes4 f x k h e = passes_test 4 f (kept_ok 4 f x e) k (tests4 f h)
+
+  -- the tests that passed
+  kept_all : (n : ℕ) (e : Declared) → TestsBelow n model main d (Ok e) → KeptBelow model main e n
+  kept_all n e (kept k) = k
+
+  same_declared : (n : ℕ) (e : Declared) → TestsBelow n model main d (Ok e) → e ≡ d
+  same_declared n e (kept k) = refl
+
+  pub passed : {A : Type 0} (holds : Declared → List A → Type 0) (n : ℕ) (e : Declared) (xs : List A)
+      → TestsBelow n model main d (Ok e) → holds e xs → KeptBelow model main d n × holds d xs
+  passed holds n e xs t h = subst (λ (f : Declared). KeptBelow model main f n × holds f xs) (same_declared n e t)
+      (kept_all n e t, h)
+
+  -- a refusal of earlier tests is one of later tests too
+  later_answer : (n m : ℕ) (a : Result Declared RuleFault) (x : RuleFault) → a ≡ Err x → TestsBelow n model main d a
+      → TestsBelow m model main d (Err x)
+  later_answer n m a x e (kept k) = absurd (cc)
+  later_answer n m a x e (broken b) = subst (TestsBelow m model main d) e (broken b)
+
+  pub refused_later : (n m : ℕ) (x : RuleFault) → IsRefusal (TestsBelow n model main d) (rule_told x)
+      → IsRefusal (TestsBelow m model main d) (rule_told x)
+  refused_later n m (Rule r p) h = later_answer n m (Err (Rule r p)) (Rule r p) refl h
+  refused_later n m (Limit c) h = later_answer n m (Err (Limit c)) (Limit c) refl h
+  refused_later n m Memory h = tt
+
+  -- and one of the table
+  table_answer : (n : ℕ) (a : Result Declared RuleFault) (x : RuleFault) → IsDeclared model d → a ≡ Err x
+      → TestsBelow n model main d a → Tabulates main model (Err x)
+  table_answer n a x i e (kept k) = absurd (cc)
+  table_answer n a x i e (broken {r = r} {p = p} b) = subst (λ (y : RuleFault). Tabulates main model (Err y))
+      (let s : Rule r p ≡ x = cc in s) (breach d i b)
+
+  pub refused_table : (n : ℕ) (x : RuleFault) → IsDeclared model d → IsRefusal (TestsBelow n model main d) (rule_told x)
+      → IsRefusal (Tabulates main model) (rule_told x)
+  refused_table n (Rule r p) i h = table_answer n (Err (Rule r p)) (Rule r p) i refl h
+  refused_table n (Limit c) i h = table_answer n (Err (Limit c)) (Limit c) i refl h
+  refused_table n Memory i h = tt
 
   -- members can be listed in an order
   pub can_list : (rows : List (Vec ℕ Global)) (order : List ℕ) → IsDeclared model d → KeptBelow model main d 4
@@ -169,6 +210,9 @@ module _ (model : Model) (p : Parts) (h : AreParts model.items.items p) where
   unfolding declared_of
   blocks_parts = refl
 
+  pub keeps_parts : KeepsDeclared model (declared_of model.items.items p h) p.bodies.items p.types.items
+  keeps_parts = record { declared = declares; as_text = bodies_parts; as_types = types_parts }
+
   -- the table
   pub table_of : (main : Option (List ℕ)) (c : Classes) → c.names ≡ model.names → c.types.items ≡ p.types.items
       → c.symbols.items ≡ p.symbols.items → IsListed (declared_of model.items.items p h) c.bodies.items
@@ -188,18 +232,60 @@ module _ (model : Model) (p : Parts) (h : AreParts model.items.items p) where
     members = l.members;
   }
 
+module _ (items : List Item) where
+  -- the items taken apart
+  apart_refused : (p : Parts) (f : Option Place) (x : RuleFault) → AreParts items p → IsEarliest (BreaksItems items) f
+      → (q : Place) × (f ≡ Some q) × (x ≡ Rule 1 q) → IsRefusal (TakesApart items) (rule_told x)
+  apart_refused p f x a h w = subst (λ (y : RuleFault). IsRefusal (TakesApart items) (rule_told y)) (sym w.2)
+      (wrong {p = p} a (subst (IsEarliest (BreaksItems items)) w.1 h))
+
+  pub refuses1 : (p : Parts) (f : Option Place) (x : RuleFault) → AreParts items p → IsEarliest (BreaksItems items) f
+      → Err x ≡ kept_rule 1 f → IsRefusal (TakesApart items) (rule_told x)
+  refuses1 p f x a h e = apart_refused p f x a h (kept_err 1 f x e)
+
+  pub passes1 : (p : Parts) (f : Option Place) (x : Unit {0}) → AreParts items p → IsEarliest (BreaksItems items) f
+      → Ok x ≡ kept_rule 1 f → Meets {X = Parts} TakesApart (λ q answer. answer ≡ q) items (Ok p)
+  passes1 p f x a h e = (p, parts a (subst (IsEarliest (BreaksItems items)) (kept_ok 1 f x e) h), refl)
+
+  apart_parts : (p : Parts) → TakesApart items (Ok p) → AreParts items p
+  apart_parts p (parts a h) = a
+
+  apart_kept : (p : Parts) → TakesApart items (Ok p) → IsEarliest (BreaksItems items) None
+  apart_kept p (parts a h) = h
+
+  pub given_parts : (p : Parts) → Meets {X = Parts} TakesApart (λ q answer. answer ≡ q) items (Ok p)
+      → AreParts items p
+  given_parts p h = subst (AreParts items) (sym h.2) (apart_parts h.0 h.1)
+
+  pub given_kept : (p : Parts) → Meets {X = Parts} TakesApart (λ q answer. answer ≡ q) items (Ok p)
+      → IsEarliest (BreaksItems items) None
+  given_kept p h = apart_kept h.0 h.1
+
+module _ (model : Model) (main : Option (List ℕ)) where
+  -- items that are refused
+  apart_answer : (a : Result Parts RuleFault) (x : RuleFault) → a ≡ Err x → TakesApart model.items.items a
+      → Tabulates main model (Err x)
+  apart_answer a x e (parts h k) = absurd (cc)
+  apart_answer a x e (wrong {p = p} {at = at} h k) = subst (λ (y : RuleFault). Tabulates main model (Err y))
+      (let s : Rule 1 at ≡ x = cc in s)
+      (breach (declared_of model.items.items p h) (declares model p h)
+      (first_broken model main (declared_of model.items.items p h) at k))
+
+  pub refused_apart : (x : RuleFault) → IsRefusal (TakesApart model.items.items) (rule_told x)
+      → IsRefusal (Tabulates main model) (rule_told x)
+  refused_apart (Rule r p) h = apart_answer (Err (Rule r p)) (Rule r p) refl h
+  refused_apart (Limit c) h = apart_answer (Err (Limit c)) (Limit c) refl h
+  refused_apart Memory h = tt
+
+-- bodies and types as declared, with the kinds of the types
+pub shows_kept : (model : Model) (d : Declared) (bodies : List Body) (types : List (NameId × TypeBody))
+    → KeepsDeclared model d bodies types → (k : TypeKinds) → KnowsTypes d k → Shows d bodies k
+shows_kept model d bodies types h k n = record { as_text = h.as_text; known = n }
+
 -- an answer by its equation
-pub meets_err : (model : Model) (main : Option (List ℕ)) (r : Result Classes RuleFault) (x : RuleFault) → r ≡ Err x
-    → Tabulates main model (Err x) → Meets {X = Classes} (Tabulates main) (λ c answer. answer ≡ c) model r
-meets_err model main r x e t = subst
-    (λ (z : Result Classes RuleFault). Meets {X = Classes} (Tabulates main) (λ c answer. answer ≡ c) model z) (sym e)
-    (by x t)
-  where
-    by : (y : RuleFault) → Tabulates main model (Err y)
-        → Meets {X = Classes} (Tabulates main) (λ c answer. answer ≡ c) model (Err y)
-    by (Rule n p) h = h
-    by (Limit n) h = h
-    by Memory h = tt
+pub meets_err : {A B X : Type 0} (stage : A → Result B RuleFault → Type 0) (stands : B → X → Type 0) (a : A)
+    (r : Result X RuleFault) (x : RuleFault) → r ≡ Err x → IsRefusal (stage a) (rule_told x) → Meets stage stands a r
+meets_err {X = X} stage stands a r x e t = subst (λ (z : Result X RuleFault). Meets stage stands a z) (sym e) t
 
 pub meets_ok : (model : Model) (main : Option (List ℕ)) (c : Classes) → Tabulates main model (Ok c)
     → Meets {X = Classes} (Tabulates main) (λ c answer. answer ≡ c) model (Ok c)

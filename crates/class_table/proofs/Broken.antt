@@ -9,6 +9,7 @@ use Rattle.ar_syntax.specs.declared.items.Model.{Model}
 use Rattle.class_table.specs.Declaring.{Declared}
 use Rattle.class_table.specs.Rules.{BreaksItems, BreaksTypes, BreaksContainment, BreaksNames, LacksMain, BreaksTextRule, l1, l2, l3, l4, l5, text_rules}
 use Rattle.class_table.specs.Earliest.{IsEarliest, nowhere, there}
+use Rattle.class_table.specs.Testing.{KeptBelow}
 
 module _ (model : Model) (main : Option (List ℕ)) (d : Declared) where
   -- the tests of the rules, each with what it found
@@ -51,11 +52,7 @@ module _ (model : Model) (main : Option (List ℕ)) (d : Declared) where
       by1 (inl e) = inl (sym e)
       by1 (inr o) = inr (by2 (one_cases 2 _ r o))
 
-  -- each rule below n is kept
-  pub record KeptBelow (n : ℕ) : Type 0 where
-    pub kept : (s : ℕ) (q : Place) → IsOneOf text_rules s → s < n → BreaksTextRule model main d s q → ⊥
-
-  pub none_below : KeptBelow 1
+  pub none_below : KeptBelow model main d 1
   none_below = record { kept = λ s q o l b. by s q o l b }
     where
       by : (s : ℕ) (q : Place) → IsOneOf text_rules s → s < 1 → BreaksTextRule model main d s q → ⊥
@@ -70,7 +67,8 @@ module _ (model : Model) (main : Option (List ℕ)) (d : Declared) where
         ]
       ]
 
-  pub next_below : (n : ℕ) → KeptBelow n → ((q : Place) → BreaksTextRule model main d n q → ⊥) → KeptBelow (suc n)
+  pub next_below : (n : ℕ) → KeptBelow model main d n → ((q : Place) → BreaksTextRule model main d n q → ⊥)
+      → KeptBelow model main d (suc n)
   next_below n h k = record { kept = λ s q o l b. by s q o l b (cases s l) }
     where
       cases : (s : ℕ) → s < suc n → (s < n) ⊎ (s ≡ n)
@@ -81,7 +79,7 @@ module _ (model : Model) (main : Option (List ℕ)) (d : Declared) where
       by s q o l b (inl m) = h.kept s q o m b
       by s q o l b (inr e) = k q (subst (λ (r : ℕ). BreaksTextRule model main d r q) e b)
 
-  pub all_kept : KeptBelow 6 → AreKept text_rules (BreaksTextRule model main d)
+  pub all_kept : KeptBelow model main d 6 → AreKept text_rules (BreaksTextRule model main d)
   all_kept h = record { kept = λ r p o b. h.kept r p o (below r o) b }
     where
       below : (r : ℕ) → IsOneOf text_rules r → r < 6
@@ -97,9 +95,10 @@ module _ (model : Model) (main : Option (List ℕ)) (d : Declared) where
       ]
 
   -- the rule is broken first at the place that is found
-  pub broken_at : (n : ℕ) (p : Place) → IsOneOf text_rules n → KeptBelow n → IsEarliest (BreaksTextRule model main d n)
-      (Some p) → IsBroken text_rules (BreaksTextRule model main d) n p
+  pub broken_at : (n : ℕ) (p : Place) → IsOneOf text_rules n → KeptBelow model main d n
+      → IsEarliest (BreaksTextRule model main d n) (Some p) → IsBroken text_rules (BreaksTextRule model main d) n p
   broken_at n p o h (there b e) = record { is_one = o; breaks_there = b; no_lesser = h.kept; no_earlier = e }
 
-  pub kept_none : (n : ℕ) → KeptBelow n → IsEarliest (BreaksTextRule model main d n) None → KeptBelow (suc n)
+  pub kept_none : (n : ℕ) → KeptBelow model main d n → IsEarliest (BreaksTextRule model main d n) None
+      → KeptBelow model main d (suc n)
   kept_none n h (nowhere e) = next_below n h e

@@ -19,3 +19,4 @@ pub mod Misnaming
 pub mod Rows
 pub mod Ordering
 pub mod Retested
+pub mod Testing

@@ -1,11 +1,13 @@
 //! The table of a model.
 
-ghost use Rattle.std.specs.Prelude.{◌≡◌, ◌≤◌, ℕ, Vec, List, length, option_map};
+ghost use Rattle.std.specs.Prelude.{◌≡◌, ◌≤◌, ℕ, Vec, List, Option, length, option_map};
 ghost use Rattle.std.specs.Global.{Global};
 ghost use Rattle.ar_base.specs.Stages.{Meets};
 ghost use Rattle.class_table.specs.Tabling.{Tabulates};
 ghost use Rattle.std.specs.Prelude.{IfOk};
-ghost use Rattle.class_table.specs.Declaring.{Declared as Declaration};
+ghost use Rattle.class_table.specs.Declaring.{Declared as Declaration, IsDeclared};
+ghost use Rattle.class_table.specs.Testing.{KeptBelow, TestsBelow, TakesApart, KeepsDeclared};
+ghost use Rattle.ar_syntax.specs.declared.items.Model.{Model as Tree};
 ghost use Rattle.class_table.specs.Earliest.{IsEarliest};
 ghost use Rattle.class_table.specs.Rules.{BreaksContainment};
 ghost use Rattle.class_table.specs.Rows.{AreInside};
@@ -22,10 +24,10 @@ use crate::members::list_members;
 use crate::misnaming::first_misnamed;
 use crate::naming::first_named_twice;
 use crate::order::put_in_order;
-use crate::tables::{Body, Classes};
+use crate::tables::{Body, Classes, TypeBody};
 use crate::types::TypeKinds;
-use ar_base::{Memory, Place, RuleFault, keep};
-use ar_syntax::Model;
+use ar_base::{Memory, NameId, Place, RuleFault, keep};
+use ar_syntax::{Item, Model};
 use std::alloc::Global;
 
 // The earliest type name in a body whose class has that body inside it. An order of all bodies shows that there is none.
@@ -61,6 +63,53 @@ fn list_all(
     Ok(bodies)
 }
 
+// The items taken apart, where rule L1 is kept.
+fn taken_apart(alloc: Global, items: Vec<Item>) -> Result<Declared, RuleFault>
+    ensures parts { Meets TakesApart (λ parts answer. answer ≡ parts) items.items result }
+    ensures few { IfOk result (λ d. length d.bodies.items ≤ 16777216) }
+{
+    let wrong_item = first_wrong_item(alloc, &items)?;
+    let declared = declare(alloc, items)?;
+    keep(1, wrong_item)?;
+    Ok(declared)
+}
+
+// An order of the bodies in which their members can be listed, where rules L2 and L3 are kept.
+fn ordered(alloc: Global, bodies: &[Body], kinds: &TypeKinds) -> Result<Vec<u32>, RuleFault>
+    requires few { length bodies.now ≤ 16777216 }
+    requires shown { (model : Tree) × (d : Declaration) × IsDeclared model d
+        × Shows d bodies.now kinds.now }
+    ensures { (model : Tree) (main : Option (List ℕ)) (d : Declaration) → IsDeclared model d
+        → Shows d bodies.now kinds.now → KeptBelow model main d 2
+        → Meets (TestsBelow 4 model main) (λ d order. CanList d order.items) d result }
+{
+    keep(2, first_misnamed(bodies, kinds))?;
+    let rows = all_inside(alloc, bodies, kinds)?;
+    let order = put_in_order(alloc, rows)?;
+    keep(3, first_inside_itself(alloc, bodies, kinds, &order)?)?;
+    Ok(order)
+}
+
+// The bodies with their members listed, where rules L2 to L4 are kept.
+fn listed(
+    alloc: Global,
+    bodies: Vec<Body>,
+    types: &[(NameId, TypeBody)],
+) -> Result<Vec<Body>, RuleFault>
+    requires few { length bodies.items ≤ 16777216 }
+    requires declared { (model : Tree) × (main : Option (List ℕ)) × (d : Declaration)
+        × KeepsDeclared model d bodies.items types.now × KeptBelow model main d 2 }
+    ensures { (model : Tree) (main : Option (List ℕ)) (d : Declaration)
+        → KeepsDeclared model d bodies.items types.now → KeptBelow model main d 2
+        → Meets (TestsBelow 5 model main) (λ d answer. IsListed d answer.items) d result }
+{
+    let kinds = TypeKinds::new(alloc, types)?;
+    let order = ordered(alloc, &bodies, &kinds)?;
+    let with_members = list_all(alloc, bodies, &kinds, &order)?;
+    keep(4, first_named_twice(alloc, &with_members, &kinds)?)?;
+    Ok(with_members)
+}
+
 /// The table of a model, whose main block is the top-level block of the name `main`, else the last one. Refused with
 /// the least broken rule of L1 to L5, at the earliest place where it is broken; never for a limit.
 pub fn table(alloc: Global, model: Model, main: Option<&str>) -> Result<Classes, RuleFault>
@@ -68,27 +117,19 @@ pub fn table(alloc: Global, model: Model, main: Option<&str>) -> Result<Classes,
         result }
 {
     let Model { names, items, end } = model;
-    let wrong_item = first_wrong_item(alloc, &items)?;
     let Declared {
         bodies,
         types,
         symbols,
         blocks,
-    } = declare(alloc, items)?;
-    keep(1, wrong_item)?;
-    let kinds = TypeKinds::new(alloc, &types)?;
-    keep(2, first_misnamed(&bodies, &kinds))?;
-    let rows = all_inside(alloc, &bodies, &kinds)?;
-    let order = put_in_order(alloc, rows)?;
-    keep(3, first_inside_itself(alloc, &bodies, &kinds, &order)?)?;
-    let listed = list_all(alloc, bodies, &kinds, &order)?;
-    keep(4, first_named_twice(alloc, &listed, &kinds)?)?;
-    let Some(main) = main_block(&names, &listed, &blocks, main) else {
+    } = taken_apart(alloc, items)?;
+    let bodies = listed(alloc, bodies, &types)?;
+    let Some(main) = main_block(&names, &bodies, &blocks, main) else {
         return Err(RuleFault::Rule(5, end));
     };
     Ok(Classes {
         names,
-        bodies: listed,
+        bodies,
         types,
         symbols,
         main,

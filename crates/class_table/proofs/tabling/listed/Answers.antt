@@ -1,0 +1,56 @@
+use Rattle.std.proofs.Common.{Vec, Global, ◌∙◌, ap, sym, subst, Err}
+use Rattle.std.proofs.lemmas.Result.{err_from_is_err_and}
+use Rattle.class_table.specs.Declaring.{Declared}
+use Rattle.class_table.specs.Listing.{CanList}
+use Rattle.class_table.specs.Shown.{IsListed}
+use Rattle.class_table.specs.Testing.{TestsBelow, kept}
+use Rattle.class_table.specs.declared.tables.Body.{Body}
+use Rattle.class_table.proofs.Answering.{refuses4, passes4, refused_later, passed, shows_kept, meets_err}
+use Rattle.class_table.proofs.tabling.listed.Goals as goal
+
+pub ordered-requires : goal.ordered-requires
+ordered-requires c =
+    let h = c.requires.declared in
+    let s = shows_kept h.0 h.2 _ _ h.3 _ (c.in_ok-kinds.ensures h.2 h.3.as_types) in
+    record {
+      few = rw c.deref.ensures.value c.requires.few;
+      shown = (h.0, h.2, h.3.declared, rw c.deref.ensures.value s);
+    }
+
+pub list_all-requires : goal.list_all-requires
+list_all-requires c =
+    let h = c.requires.declared in
+    let s = shows_kept h.0 h.2 _ _ h.3 _ (c.in_ok-kinds.ensures h.2 h.3.as_types) in
+    let o = (rw c.deref.ensures.value at c.in_ok-order.ensures) h.0 h.1 h.2 h.3.declared s h.4 in
+    let p = passed h.0 h.1 h.2 CanList 4 o.0 _ o.1 o.2 in
+    (h.2, s, subst (CanList h.2) (sym c.deref-2.ensures.value) p.1)
+
+pub returns-in_err-order : goal.returns-in_err-order
+returns-in_err-order c = λ model main d h below.
+    let s = shows_kept model d _ _ h _ (c.in_ok-kinds.ensures d h.as_types) in
+    let o = (rw c.deref.ensures.value at c.in_err-order.ensures) model main d h.declared s below in
+    let r = err_from_is_err_and c.from_residual-in_err-order.result c.from_residual-in_err-order.ensures.1 in
+    meets_err (TestsBelow 5 model main) (λ (e : Declared) (bs : Vec Body Global). IsListed e bs.items) d _ _
+    (r.1 ∙ ap (λ e. Err e) r.2) (refused_later model main d 4 5 _ o)
+
+pub returns-in_err-keep : goal.returns-in_err-keep
+returns-in_err-keep c = λ model main d h below.
+    let n = c.in_ok-kinds.ensures d h.as_types in
+    let s = shows_kept model d _ _ h _ n in
+    let o = (rw c.deref.ensures.value at c.in_ok-order.ensures) model main d h.declared s below in
+    let p = passed model main d CanList 4 o.0 _ o.1 o.2 in
+    let listed = c.in_ok-with_members.ensures d s (subst (CanList d) (sym c.deref-2.ensures.value) p.1) in
+    let f = (rw c.deref-3.ensures.value at c.in_ok-first_named_twice.ensures) d n listed in
+    let r = err_from_is_err_and c.from_residual-in_err-keep.result c.from_residual-in_err-keep.ensures.1 in
+    meets_err (TestsBelow 5 model main) (λ (e : Declared) (bs : Vec Body Global). IsListed e bs.items) d _ _
+    (r.1 ∙ ap (λ e. Err e) r.2) (refuses4 model main d _ _ 5 p.0 f c.in_err-keep.ensures)
+
+pub returns : goal.returns
+returns c = λ model main d h below.
+    let n = c.in_ok-kinds.ensures d h.as_types in
+    let s = shows_kept model d _ _ h _ n in
+    let o = (rw c.deref.ensures.value at c.in_ok-order.ensures) model main d h.declared s below in
+    let p = passed model main d CanList 4 o.0 _ o.1 o.2 in
+    let listed = c.in_ok-with_members.ensures d s (subst (CanList d) (sym c.deref-2.ensures.value) p.1) in
+    let f = (rw c.deref-3.ensures.value at c.in_ok-first_named_twice.ensures) d n listed in
+    (d, kept (passes4 model main d _ _ p.0 f c.in_ok-keep.ensures), listed)

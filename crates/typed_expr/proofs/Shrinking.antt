@@ -16,6 +16,16 @@ list_falls m n t h e = omega arith
 pub item_falls : (m n t : ℕ) → m ≤ n → 2 * n + 1 ≡ t → 2 * m + 0 < t
 item_falls m n t h e = omega arith
 
+-- the same where calls of three ranks are in the cycle: by the size, or by the rank at no greater size
+pub size_falls : (r up m n t : ℕ) → r + up ≡ 2 → m < n → 3 * n + 0 ≡ t → 3 * m + r < t
+size_falls r up m n t p h e = omega arith
+
+pub rank_falls : (r s up m n t : ℕ) → r + up + 1 ≡ s → m ≤ n → 3 * n + s ≡ t → 3 * m + r < t
+rank_falls r s up m n t p h e = omega arith
+
+pub no_more : (n : ℕ) → n ≤ n
+no_more n = omega arith
+
 module _ {V : Type 0} where
   -- the sizes of a part of a sum and of a case of a choice
   abbrev pub part_size : Bool × Expr V → ℕ

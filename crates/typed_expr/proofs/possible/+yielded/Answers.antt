@@ -1,5 +1,6 @@
 use Rattle.std.proofs.Common.{◌≡◌, ◌+◌, ◌↔◌, ℕ, List, Bool, not, Contains, Option, Some, None, Result, Ok, Err, IsTrue, refl, sym, subst, true, false}
 use Rattle.std.specs.Option.{is_some}
+use borrow.Author.Count.{falls}
 use Rattle.domains.specs.declared.Value.{Value}
 use Rattle.domains.specs.declared.Value.TheVariants.{Truth}
 use Rattle.typed_expr.specs.Sets.{Gathers}
@@ -13,6 +14,7 @@ use Rattle.typed_expr.proofs.Gathering.{err-same, keeps-nothing}
 use Rattle.typed_expr.proofs.Arms as arm
 use Rattle.typed_expr.proofs.Forms as form
 use Rattle.typed_expr.proofs.Loops as loop
+use Rattle.typed_expr.proofs.Shrinking as smaller
 use Rattle.typed_expr.proofs.possible.+yielded.Goals as goal
 
 pub yielded-returns-in-Constant : goal.yielded-returns-in-Constant
@@ -448,3 +450,242 @@ with_branch-returns-in_err-values g t c =
     c.from_residual.ensures.1
     (form.branch-stop facts c.args.most (out-Expr g.row.V.Denot c.args.value.now) c.args.set c.args.takes
     c.in_err-values.field-0.0 c.in_err-values.ensures)
+
+pub chosen-offset_bounds-cases-test-index : goal.chosen-offset_bounds-cases-test-index
+chosen-offset_bounds-cases-test-index g t c =
+    c.loop-test.auto.test-index-end
+
+pub chosen-yielded-requires : goal.chosen-yielded-requires
+chosen-yielded-requires g t c =
+    λ κs within. (
+      smaller.rank_falls 0 2 1 _ _ t refl
+      (smaller.up-test c.args.cases.now c.loop-test.test-index c.loop-test-item.result c.loop-test-test.true
+      c.loop-test-item.is) c.decreases,
+      within,
+    )
+
+pub chosen-with_branch-requires : goal.chosen-with_branch-requires
+chosen-with_branch-requires g t c =
+    λ κs within. (
+      smaller.rank_falls 1 2 0 _ _ t refl
+      (smaller.up-value c.args.cases.now c.loop-test.test-index c.loop-test-item.result c.loop-test-test.true
+      c.loop-test-item.is) c.decreases,
+      (within.0, (within.1, c.loop-test.invariant.keeps)),
+    )
+
+pub chosen-loop-test-smaller : goal.chosen-loop-test-smaller
+chosen-loop-test-smaller g t c =
+    falls _ c.loop-test.test-index c.loop-test-test.true
+
+pub folded-offset_bounds-es-e-index : goal.folded-offset_bounds-es-e-index
+folded-offset_bounds-es-e-index g t c =
+    c.loop-e.auto.e-index-end
+
+pub folded-yielded-requires : goal.folded-yielded-requires
+folded-yielded-requires g t c =
+    λ κs within. (
+      smaller.rank_falls 0 1 0 _ _ t refl
+      (smaller.up-item c.args.es.now c.loop-e.e-index c.e-item.result c.loop-e-test.true
+      c.e-item.is) c.decreases,
+      within,
+    )
+
+pub folded-loop-e-smaller : goal.folded-loop-e-smaller
+folded-loop-e-smaller g t c =
+    falls _ c.loop-e.e-index c.loop-e-test.true
+
+pub summed-offset_bounds-parts-plus-index : goal.summed-offset_bounds-parts-plus-index
+summed-offset_bounds-parts-plus-index g t c =
+    c.loop-plus.auto.plus-index-end
+
+pub summed-yielded-requires : goal.summed-yielded-requires
+summed-yielded-requires g t c =
+    λ κs within. (
+      smaller.rank_falls 0 1 0 _ _ t refl
+      (smaller.up-part c.args.parts.now c.loop-plus.plus-index c.loop-plus-item.result c.loop-plus-test.true
+      c.loop-plus-item.is) c.decreases,
+      within,
+    )
+
+pub summed-loop-plus-smaller : goal.summed-loop-plus-smaller
+summed-loop-plus-smaller g t c =
+    falls _ c.loop-plus.plus-index c.loop-plus-test.true
+
+pub tally-offset_bounds-es-e-index : goal.tally-offset_bounds-es-e-index
+tally-offset_bounds-es-e-index g t c =
+    c.loop-e.auto.e-index-end
+
+pub tally-truths-requires : goal.tally-truths-requires
+tally-truths-requires g t c =
+    λ κs within. (
+      smaller.rank_falls 1 2 0 _ _ t refl
+      (smaller.up-item c.args.es.now c.loop-e.e-index c.e-item.result c.loop-e-test.true
+      c.e-item.is) c.decreases,
+      within,
+    )
+
+pub tally-loop-e-smaller : goal.tally-loop-e-smaller
+tally-loop-e-smaller g t c =
+    falls _ c.loop-e.e-index c.loop-e-test.true
+
+pub tally-returns : goal.tally-returns
+tally-returns g t c =
+    let facts = facts_of (g.E.Env.facts_at c.args.env.now) in
+    loop.tally-ends facts c.args.most c.args.b c.loop-e.one_other c.loop-e.each c.args.es.now c.loop-e.e-index
+    c.loop-e-test.false c.loop-e.invariant
+
+pub truths-yielded-requires : goal.truths-yielded-requires
+truths-yielded-requires g t c =
+    λ κs within. (
+      smaller.rank_falls 0 1 0 _ _ t refl
+      (smaller.no_more _) c.decreases,
+      within,
+    )
+
+pub truths-returns-in_err-set : goal.truths-returns-in_err-set
+truths-returns-in_err-set g t c =
+    let facts = facts_of (g.E.Env.facts_at c.args.env.now) in
+    err-same
+    (λ (r : Result (Bool × Bool) Stop). Tells facts c.args.most c.args.b r (out-Expr g.row.V.Denot c.args.e.now))
+    c.from_residual.result c.in_err-set.field-0.0 c.from_residual.ensures.1 c.in_err-set.ensures
+
+pub truths-returns : goal.truths-returns
+truths-returns g t c =
+    let facts = facts_of (g.E.Env.facts_at c.args.env.now) in
+    loop.tell-of-set facts c.args.most c.args.b c.has.result c.has-2.result c.in_ok-set.set
+    (out-Expr g.row.V.Denot c.args.e.now) c.in_ok-set.ensures c.has.ensures c.has-2.ensures
+
+pub with_branch-yielded-requires : goal.with_branch-yielded-requires
+with_branch-yielded-requires g t c =
+    λ κs within. (
+      smaller.rank_falls 0 1 0 _ _ t refl
+      (smaller.no_more _) c.decreases,
+      within,
+    )
+
+pub with_branch-joined_where-requires : goal.with_branch-joined_where-requires
+with_branch-joined_where-requires g t c =
+    c.requires
+
+pub yielded-yielded-requires : goal.yielded-yielded-requires
+yielded-yielded-requires g t c =
+    λ κs within. (
+      smaller.size_falls 0 2 _ _ t refl
+      (smaller.less-not c.args.expr.now c.deref.result.now c.in-Not.a c.in-Not.is c.deref.ensures) c.decreases,
+      within,
+    )
+
+pub yielded-tally-requires : goal.yielded-tally-requires
+yielded-tally-requires g t c =
+    λ κs within. (
+      smaller.size_falls 2 0 _ _ t refl
+      (smaller.less-all c.args.expr.now c.in-All.es c.deref-in-All.result.now c.in-All.is
+      c.deref-in-All.ensures.value) c.decreases,
+      within,
+    )
+
+pub yielded-tally-requires-in-Any : goal.yielded-tally-requires-in-Any
+yielded-tally-requires-in-Any g t c =
+    λ κs within. (
+      smaller.size_falls 2 0 _ _ t refl
+      (smaller.less-any c.args.expr.now c.in-Any.es c.deref-in-Any.result.now c.in-Any.is
+      c.deref-in-Any.ensures.value) c.decreases,
+      within,
+    )
+
+pub yielded-folded-requires : goal.yielded-folded-requires
+yielded-folded-requires g t c =
+    λ κs within. (
+      smaller.size_falls 1 1 _ _ t refl
+      (smaller.less-product c.args.expr.now c.in-Product.es c.deref-in-Product.result.now c.in-Product.is
+      c.deref-in-Product.ensures.value) c.decreases,
+      within,
+    )
+
+pub yielded-folded-requires-in-Least : goal.yielded-folded-requires-in-Least
+yielded-folded-requires-in-Least g t c =
+    λ κs within. (
+      smaller.size_falls 1 1 _ _ t refl
+      (smaller.less-least c.args.expr.now c.in-Least.es c.deref-in-Least.result.now c.in-Least.is
+      c.deref-in-Least.ensures.value) c.decreases,
+      within,
+    )
+
+pub yielded-folded-requires-in-Greatest : goal.yielded-folded-requires-in-Greatest
+yielded-folded-requires-in-Greatest g t c =
+    λ κs within. (
+      smaller.size_falls 1 1 _ _ t refl
+      (smaller.less-greatest c.args.expr.now c.in-Greatest.es c.deref-in-Greatest.result.now c.in-Greatest.is
+      c.deref-in-Greatest.ensures.value) c.decreases,
+      within,
+    )
+
+pub yielded-folded-requires-in-Count : goal.yielded-folded-requires-in-Count
+yielded-folded-requires-in-Count g t c =
+    λ κs within. (
+      smaller.size_falls 1 1 _ _ t refl
+      (smaller.less-count c.args.expr.now c.in-Count.es c.deref-in-Count.result.now c.in-Count.is
+      c.deref-in-Count.ensures.value) c.decreases,
+      within,
+    )
+
+pub yielded-yielded-requires-in-Compare : goal.yielded-yielded-requires-in-Compare
+yielded-yielded-requires-in-Compare g t c =
+    λ κs within. (
+      smaller.size_falls 0 2 _ _ t refl
+      (smaller.less-left c.args.expr.now c.deref-in-Compare.result.now c.in-Compare.relation c.in-Compare.a
+      c.in-Compare.b c.in-Compare.is c.deref-in-Compare.ensures) c.decreases,
+      within,
+    )
+
+pub yielded-yielded-requires-in-Compare-2 : goal.yielded-yielded-requires-in-Compare-2
+yielded-yielded-requires-in-Compare-2 g t c =
+    λ κs within. (
+      smaller.size_falls 0 2 _ _ t refl
+      (smaller.less-right c.args.expr.now c.deref-in-Compare-2.result.now c.in-Compare.relation c.in-Compare.a
+      c.in-Compare.b c.in-Compare.is c.deref-in-Compare-2.ensures) c.decreases,
+      within,
+    )
+
+pub yielded-some_related-can_be_false-requires-clause-left : goal.yielded-some_related-can_be_false-requires-clause-left
+yielded-some_related-can_be_false-requires-clause-left g t c =
+    c.values.ensures.ascending
+
+pub yielded-some_related-can_be_false-requires-clause-right : goal.yielded-some_related-can_be_false-requires-clause-right
+yielded-some_related-can_be_false-requires-clause-right g t c =
+    c.values-in-Compare.ensures.ascending
+
+pub yielded-some_related-can_be_true-requires-clause-left : goal.yielded-some_related-can_be_true-requires-clause-left
+yielded-some_related-can_be_true-requires-clause-left g t c =
+    c.values-in-Compare-2.ensures.ascending
+
+pub yielded-some_related-can_be_true-requires-clause-right : goal.yielded-some_related-can_be_true-requires-clause-right
+yielded-some_related-can_be_true-requires-clause-right g t c =
+    c.values-in-Compare-3.ensures.ascending
+
+pub yielded-summed-requires : goal.yielded-summed-requires
+yielded-summed-requires g t c =
+    λ κs within. (
+      smaller.size_falls 1 1 _ _ t refl
+      (smaller.less-parts c.args.expr.now c.in-Sum.parts c.deref-in-Sum.result.now c.in-Sum.is
+      c.deref-in-Sum.ensures.value) c.decreases,
+      within,
+    )
+
+pub yielded-chosen-requires : goal.yielded-chosen-requires
+yielded-chosen-requires g t c =
+    λ κs within. (
+      smaller.size_falls 2 0 _ _ t refl
+      (smaller.less-cases c.args.expr.now c.in-Choose.cases c.in-Choose.other c.deref-in-Choose.result.now
+      c.in-Choose.is c.deref-in-Choose.ensures.value) c.decreases,
+      within,
+    )
+
+pub yielded-with_branch-requires : goal.yielded-with_branch-requires
+yielded-with_branch-requires g t c =
+    λ κs within. (
+      smaller.size_falls 1 1 _ _ t refl
+      (smaller.less-other c.args.expr.now c.deref-in-Choose-2.result.now c.in-Choose.cases c.in-Choose.other
+      c.in-Choose.is c.deref-in-Choose-2.ensures) c.decreases,
+      (within.0, (within.1, c.in_ok-set-in-Choose.ensures.1)),
+    )

@@ -1,5 +1,5 @@
 -- The loops of the evaluation of sets, an operand at a time.
-use Rattle.std.proofs.Common.{◌≡◌, ℕ, ◌+◌, ◌<◌, ◌≤◌, ◌↔◌, ℤ, pos, Bool, true, false, not, IsTrue, List, [], ◌∷◌, ◌++◌, length, take, drop, Contains, get_or, is_some, Option, Some, None, Ok, Err, zero, suc, refl, sym, ap, ◌∙◌, subst, ◌⊎◌, inl, inr, arith}
+use Rattle.std.proofs.Common.{◌≡◌, ℕ, ◌+◌, ◌<◌, ◌≤◌, ◌↔◌, ℤ, pos, Bool, true, false, not, IsTrue, List, [], ◌∷◌, ◌++◌, length, take, drop, Contains, get_or, is_some, Option, Some, None, Result, Ok, Err, zero, suc, refl, sym, ap, ◌∙◌, subst, ◌⊎◌, inl, inr, arith}
 use Rattle.std.proofs.lemmas.List.{take_all, take-append-drop}
 use Rattle.std.proofs.lemmas.List.Sums.{fold_push}
 use Rattle.std.proofs.lemmas.Bool.{cases_lt}
@@ -15,7 +15,8 @@ use Rattle.typed_expr.specs.Sizes.{HasMoreThan}
 use Rattle.typed_expr.specs.Yields.{Level, Yields, Some_yields, All_yield, Picks, Picks_parts}
 use Rattle.typed_expr.specs.Yields as y
 use Rattle.typed_expr.specs.Possible.{IsWide}
-use Rattle.typed_expr.specs.Evaluating.{Told, Tells, Evaluates, IsNext, SomeWide, Tallied, Tallies, FoldYields, SomeStep, Folds, SumYields, PartWide, Sums, CaseWide, Took, PassesAll, Chosen, Chooses, BranchYields, Joins}
+use Rattle.typed_expr.specs.Evaluating.{Told, Tells, Evaluates, IsNext, Steps, SomeWide, Tallied, Tallies, FoldYields, SomeStep, Folds, SumYields, PartWide, Sums, CaseWide, Took, PassesAll, Chosen, Chooses, BranchYields, Joins}
+use Rattle.typed_expr.specs.Evaluating as ev
 use Rattle.typed_expr.specs.declared.expr.Expr.{Expr, out-Expr}
 use Rattle.typed_expr.specs.declared.fold.Step.{Step}
 use Rattle.typed_expr.specs.declared.fold.Step.TheVariants.{Part}
@@ -635,6 +636,22 @@ module _ {V : Type 0} (facts : V → Value → Type 0) (most : Option ℕ) where
       (λ n. SomeWide facts es n ⊎ SomeStep (FoldYields facts s es) n)
       (λ n m. inr (record { place = i + 1; wide = more-than (fold-up facts s first es i e set values h is f.starts f.exact q.0) m })) stop g
 
+  pub fold-steps : (s : Step) (first : Bool) (es : List (Expr V)) (i : ℕ) (e : Expr V) (set new : List Value)
+      → i < length es → e ≡ get_or es i e → FoldSoFar facts most s first set es i
+      → Steps facts most s first set (Ok new) (out-Expr V e) → FoldSoFar facts most s false new es (i + 1)
+  fold-steps s first es i e set new h is f (ev.stepped {values = values} q g) =
+      fold-goes-on s first es i e set values new h is f q g
+  fold-steps s first es i e set new h is f (ev.operand_stopped q same) = cc
+
+  pub fold-stops : (s : Step) (first : Bool) (es : List (Expr V)) (i : ℕ) (e : Expr V) (set : List Value) (stop : Stop)
+      → i < length es → e ≡ get_or es i e → FoldSoFar facts most s first set es i
+      → Steps facts most s first set (Err stop) (out-Expr V e) → Folds facts most s (Err stop) es
+  fold-stops s first es i e set stop h is f (ev.stepped {values = values} q g) =
+      fold-step-stop s first es i e set values stop h is f q g
+  fold-stops s first es i e set stop h is f (ev.operand_stopped {stop = first_stop} q same) =
+      let P : Result (List Value) Stop → Type 0 = λ r. Folds facts most s r es in
+      subst P (sym same) (fold-operand-stop s es i e first_stop h is q)
+
   pub fold-ends : (s : Step) (first : Bool) (es : List (Expr V)) (i : ℕ) (set : List Value) → length es ≤ i
       → FoldSoFar facts most s first set es i → Folds facts most s (Ok set) es
   fold-ends s first es i set h f = folds-end facts most s es i set h f.exact f.keeps f.narrow f.steps
@@ -684,6 +701,20 @@ module _ {V : Type 0} (facts : V → Value → Type 0) (most : Option ℕ) where
       stopped-up most (λ n. HasMoreThan n (IsNext (Part p.0) false set values))
       (λ n. PartWide facts ps n ⊎ SomeStep (SumYields facts ps) n)
       (λ n m. inr (record { place = i + 1; wide = more-than (sum-up facts ps i p set values h is f.exact q.0) m })) stop g
+
+  pub sum-steps : (ps : List (Bool × Expr V)) (i : ℕ) (p : Bool × Expr V) (set new : List Value)
+      → i < length ps → p ≡ get_or ps i p → SumSoFar facts most set ps i
+      → Steps facts most (Part p.0) false set (Ok new) (out-Expr V p.1) → SumSoFar facts most new ps (i + 1)
+  sum-steps ps i p set new h is f (ev.stepped {values = values} q g) = sum-goes-on ps i p set values new h is f q g
+  sum-steps ps i p set new h is f (ev.operand_stopped q same) = cc
+
+  pub sum-stops : (ps : List (Bool × Expr V)) (i : ℕ) (p : Bool × Expr V) (set : List Value) (stop : Stop)
+      → i < length ps → p ≡ get_or ps i p → SumSoFar facts most set ps i
+      → Steps facts most (Part p.0) false set (Err stop) (out-Expr V p.1) → Sums facts most (Err stop) ps
+  sum-stops ps i p set stop h is f (ev.stepped {values = values} q g) = sum-step-stop ps i p set values stop h is f q g
+  sum-stops ps i p set stop h is f (ev.operand_stopped {stop = first_stop} q same) =
+      let P : Result (List Value) Stop → Type 0 = λ r. Sums facts most r ps in
+      subst P (sym same) (sum-operand-stop ps i p first_stop h is q)
 
   pub sum-ends : (ps : List (Bool × Expr V)) (i : ℕ) (set : List Value) → length ps ≤ i → SumSoFar facts most set ps i
       → Sums facts most (Ok set) ps

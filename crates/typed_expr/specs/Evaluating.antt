@@ -5,7 +5,7 @@ use Rattle.domains.specs.declared.Value.TheVariants.{Truth, Whole}
 use Rattle.domains.specs.Values.{whole_of}
 use Rattle.typed_expr.specs.Values.{sum_of, is_related}
 use Rattle.typed_expr.specs.Folds.{fold_of, next_of}
-use Rattle.typed_expr.specs.Sets.{HasExactly, AtLimit, KeepsLimit, Stopped}
+use Rattle.typed_expr.specs.Sets.{HasExactly, AtLimit, KeepsLimit, Stopped, Gathers}
 use Rattle.typed_expr.specs.Sizes.{HasMoreThan}
 use Rattle.typed_expr.specs.Yields.{Level, Yields, Some_yields, All_yield, Picks, Picks_parts}
 use Rattle.typed_expr.specs.Possible.{IsWide}
@@ -39,6 +39,14 @@ pub record IsNext (s : Step) (first : Bool) (numbers values : List Value) (v : V
   pub in_numbers : Contains numbers number
   pub in_values : Contains values value
   pub is : v ≡ Whole (next_of s first (whole_of number) value)
+
+-- the numbers with each value that the operand yields as the next one; or its evaluation stopped, and so does the step
+pub data Steps {V : Type 0} (facts : V → Value → Type 0) (most : Option ℕ) (s : Step) (first : Bool)
+    (numbers : List Value) (r : Result (List Value) Stop) (e : Level V) : Type 0 where
+  stepped : {values : List Value} → Evaluates facts most (Ok values) e
+      → Gathers most r (IsNext s first numbers values) → Steps facts most s first numbers r e
+  operand_stopped : {stop : Stop} → Evaluates facts most (Err stop) e → r ≡ Err stop
+      → Steps facts most s first numbers r e
 
 -- one of the expressions is too wide
 pub record SomeWide {V : Type 0} (facts : V → Value → Type 0) (es : List (Expr V)) (most : ℕ) : Type 0 where

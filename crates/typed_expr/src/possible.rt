@@ -6,7 +6,7 @@ ghost use Rattle.typed_expr.specs.declared.expr.Expr.{out-Expr};
 ghost use Rattle.typed_expr.specs.Sets.{HasExactly, KeepsLimit};
 ghost use Rattle.typed_expr.specs.Yields.{Yields, facts_of};
 ghost use Rattle.typed_expr.specs.Possible.{IsWide};
-ghost use Rattle.typed_expr.specs.Evaluating.{Evaluates, Tells, Tallies, Folds, Sums, Chooses, Joins};
+ghost use Rattle.typed_expr.specs.Evaluating.{Evaluates, Tells, Tallies, Steps, Folds, Sums, Chooses, Joins};
 
 use crate::env::Env;
 use crate::expr::Expr;
@@ -173,8 +173,7 @@ fn folded<V, E: Env<V>>(
     let mut so_far = gathered(alloc, &[start_value(step)], most)?;
     let mut first = true;
     for e in es {
-        let set = yielded(alloc, e, env, most)?;
-        let more = stepped(alloc, step, first, so_far.values(), set.values(), most)?;
+        let more = with_operand(alloc, e, env, most, step, first, so_far)?;
         so_far = more;
         first = false;
     }
@@ -193,18 +192,27 @@ fn summed<V, E: Env<V>>(
 {
     let mut so_far = gathered(alloc, &[Value::Whole(0)], most)?;
     for (plus, e) in parts {
-        let set = yielded(alloc, e, env, most)?;
-        let more = stepped(
-            alloc,
-            Step::Part(*plus),
-            false,
-            so_far.values(),
-            set.values(),
-            most,
-        )?;
+        let more = with_operand(alloc, e, env, most, Step::Part(*plus), false, so_far)?;
         so_far = more;
     }
     Ok(so_far)
+}
+
+// What a fold comes to with one more operand, from the set of what it came to before.
+#[cycle(yielded)]
+fn with_operand<V, E: Env<V>>(
+    alloc: Global,
+    e: &Expr<V>,
+    env: &E,
+    most: Option<u32>,
+    step: Step,
+    first: bool,
+    so_far: ValueSet,
+) -> Result<ValueSet, Stop>
+    ensures { Steps (facts_of (E.facts_at env.now)) most step first so_far result (out-Expr V e.now) }
+{
+    let set = yielded(alloc, e, env, most)?;
+    stepped(alloc, step, first, so_far.values(), set.values(), most)
 }
 
 // What the cases yield that their tests take, and whether the tests pass them all.

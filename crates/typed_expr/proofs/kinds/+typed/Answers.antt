@@ -192,8 +192,8 @@ pub each_case-typed-requires : goal.each_case-typed-requires
 each_case-typed-requires g t c =
     λ κs within. (
       smaller.item_falls _ _ t
-      (smaller.up-test c.args.cases.now c.loop-test.test-index c.loop-test-item.result c.loop-test-test.true
-      c.loop-test-item.is) c.decreases,
+          (smaller.up-test c.args.cases.now c.loop-test.test-index c.loop-test-item.result c.loop-test-test.true
+          c.loop-test-item.is) c.decreases,
       within,
     )
 
@@ -201,8 +201,8 @@ pub each_case-typed-requires-in-loop-test : goal.each_case-typed-requires-in-loo
 each_case-typed-requires-in-loop-test g t c =
     λ κs within. (
       smaller.item_falls _ _ t
-      (smaller.up-value c.args.cases.now c.loop-test.test-index c.loop-test-item.result c.loop-test-test.true
-      c.loop-test-item.is) c.decreases,
+          (smaller.up-value c.args.cases.now c.loop-test.test-index c.loop-test-item.result c.loop-test-test.true
+          c.loop-test-item.is) c.decreases,
       within,
     )
 
@@ -222,8 +222,8 @@ pub each_has-typed-requires : goal.each_has-typed-requires
 each_has-typed-requires g t c =
     λ κs within. (
       smaller.item_falls _ _ t
-      (smaller.up-item c.args.es.now c.loop-e.e-index c.e-item.result c.loop-e-test.true
-      c.e-item.is) c.decreases,
+          (smaller.up-item c.args.es.now c.loop-e.e-index c.e-item.result c.loop-e-test.true
+          c.e-item.is) c.decreases,
       within,
     )
 
@@ -243,8 +243,8 @@ pub each_part-typed-requires : goal.each_part-typed-requires
 each_part-typed-requires g t c =
     λ κs within. (
       smaller.item_falls _ _ t
-      (smaller.up-part c.args.parts.now c.loop-e.e-index c.loop-e-item.result c.loop-e-test.true
-      c.loop-e-item.is) c.decreases,
+          (smaller.up-part c.args.parts.now c.loop-e.e-index c.loop-e-item.result c.loop-e-test.true
+          c.loop-e-item.is) c.decreases,
       within,
     )
 
@@ -256,7 +256,7 @@ pub typed-typed-requires : goal.typed-typed-requires
 typed-typed-requires g t c =
     λ κs within. (
       smaller.one_falls _ _ t
-      (smaller.less-not c.args.expr.now c.deref.result.now c.in-Not.a c.in-Not.is c.deref.ensures) c.decreases,
+          (smaller.less-not c.args.expr.now c.deref.result.now c.in-Not.a c.in-Not.is c.deref.ensures) c.decreases,
       within,
     )
 
@@ -264,8 +264,8 @@ pub typed-each_has-requires : goal.typed-each_has-requires
 typed-each_has-requires g t c =
     λ κs within. (
       smaller.list_falls _ _ t
-      (smaller.less-all c.args.expr.now c.in-All.es c.deref-in-All.result.now c.in-All.is
-      c.deref-in-All.ensures.value) c.decreases,
+          (smaller.less-all c.args.expr.now c.in-All.es c.deref-in-All.result.now c.in-All.is
+          c.deref-in-All.ensures.value) c.decreases,
       within,
     )
 
@@ -273,8 +273,8 @@ pub typed-each_has-requires-in-Any : goal.typed-each_has-requires-in-Any
 typed-each_has-requires-in-Any g t c =
     λ κs within. (
       smaller.list_falls _ _ t
-      (smaller.less-any c.args.expr.now c.in-Any.es c.deref-in-Any.result.now c.in-Any.is
-      c.deref-in-Any.ensures.value) c.decreases,
+          (smaller.less-any c.args.expr.now c.in-Any.es c.deref-in-Any.result.now c.in-Any.is
+          c.deref-in-Any.ensures.value) c.decreases,
       within,
     )
 
@@ -282,8 +282,8 @@ pub typed-each_has-requires-in-Product : goal.typed-each_has-requires-in-Product
 typed-each_has-requires-in-Product g t c =
     λ κs within. (
       smaller.list_falls _ _ t
-      (smaller.less-product c.args.expr.now c.in-Product.es c.deref-in-Product.result.now c.in-Product.is
-      c.deref-in-Product.ensures.value) c.decreases,
+          (smaller.less-product c.args.expr.now c.in-Product.es c.deref-in-Product.result.now c.in-Product.is
+          c.deref-in-Product.ensures.value) c.decreases,
       within,
     )
 
@@ -291,8 +291,8 @@ pub typed-each_has-requires-in-Least : goal.typed-each_has-requires-in-Least
 typed-each_has-requires-in-Least g t c =
     λ κs within. (
       smaller.list_falls _ _ t
-      (smaller.less-least c.args.expr.now c.in-Least.es c.deref-in-Least.result.now c.in-Least.is
-      c.deref-in-Least.ensures.value) c.decreases,
+          (smaller.less-least c.args.expr.now c.in-Least.es c.deref-in-Least.result.now c.in-Least.is
+          c.deref-in-Least.ensures.value) c.decreases,
       within,
     )
 
@@ -300,8 +300,8 @@ pub typed-each_has-requires-in-Greatest : goal.typed-each_has-requires-in-Greate
 typed-each_has-requires-in-Greatest g t c =
     λ κs within. (
       smaller.list_falls _ _ t
-      (smaller.less-greatest c.args.expr.now c.in-Greatest.es c.deref-in-Greatest.result.now c.in-Greatest.is
-      c.deref-in-Greatest.ensures.value) c.decreases,
+          (smaller.less-greatest c.args.expr.now c.in-Greatest.es c.deref-in-Greatest.result.now c.in-Greatest.is
+          c.deref-in-Greatest.ensures.value) c.decreases,
       within,
     )
 
@@ -309,8 +309,8 @@ pub typed-each_has-requires-in-Count : goal.typed-each_has-requires-in-Count
 typed-each_has-requires-in-Count g t c =
     λ κs within. (
       smaller.list_falls _ _ t
-      (smaller.less-count c.args.expr.now c.in-Count.es c.deref-in-Count.result.now c.in-Count.is
-      c.deref-in-Count.ensures.value) c.decreases,
+          (smaller.less-count c.args.expr.now c.in-Count.es c.deref-in-Count.result.now c.in-Count.is
+          c.deref-in-Count.ensures.value) c.decreases,
       within,
     )
 
@@ -318,8 +318,8 @@ pub typed-typed-requires-in-Compare : goal.typed-typed-requires-in-Compare
 typed-typed-requires-in-Compare g t c =
     λ κs within. (
       smaller.one_falls _ _ t
-      (smaller.less-left c.args.expr.now c.deref-in-Compare.result.now c.in-Compare.relation c.in-Compare.a
-      c.in-Compare.b c.in-Compare.is c.deref-in-Compare.ensures) c.decreases,
+          (smaller.less-left c.args.expr.now c.deref-in-Compare.result.now c.in-Compare.relation c.in-Compare.a
+          c.in-Compare.b c.in-Compare.is c.deref-in-Compare.ensures) c.decreases,
       within,
     )
 
@@ -327,8 +327,8 @@ pub typed-typed-requires-in-Some : goal.typed-typed-requires-in-Some
 typed-typed-requires-in-Some g t c =
     λ κs within. (
       smaller.one_falls _ _ t
-      (smaller.less-right c.args.expr.now c.deref-in-Some.result.now c.in-Compare.relation c.in-Compare.a
-      c.in-Compare.b c.in-Compare.is c.deref-in-Some.ensures) c.decreases,
+          (smaller.less-right c.args.expr.now c.deref-in-Some.result.now c.in-Compare.relation c.in-Compare.a
+          c.in-Compare.b c.in-Compare.is c.deref-in-Some.ensures) c.decreases,
       within,
     )
 
@@ -336,8 +336,8 @@ pub typed-each_part-requires : goal.typed-each_part-requires
 typed-each_part-requires g t c =
     λ κs within. (
       smaller.list_falls _ _ t
-      (smaller.less-parts c.args.expr.now c.in-Sum.parts c.deref-in-Sum.result.now c.in-Sum.is
-      c.deref-in-Sum.ensures.value) c.decreases,
+          (smaller.less-parts c.args.expr.now c.in-Sum.parts c.deref-in-Sum.result.now c.in-Sum.is
+          c.deref-in-Sum.ensures.value) c.decreases,
       within,
     )
 
@@ -345,8 +345,8 @@ pub typed-typed-requires-in-Choose : goal.typed-typed-requires-in-Choose
 typed-typed-requires-in-Choose g t c =
     λ κs within. (
       smaller.one_falls _ _ t
-      (smaller.less-other c.args.expr.now c.deref-in-Choose.result.now c.in-Choose.cases c.in-Choose.other
-      c.in-Choose.is c.deref-in-Choose.ensures) c.decreases,
+          (smaller.less-other c.args.expr.now c.deref-in-Choose.result.now c.in-Choose.cases c.in-Choose.other
+          c.in-Choose.is c.deref-in-Choose.ensures) c.decreases,
       within,
     )
 
@@ -354,7 +354,7 @@ pub typed-each_case-requires : goal.typed-each_case-requires
 typed-each_case-requires g t c =
     λ κs within. (
       smaller.list_falls _ _ t
-      (smaller.less-cases c.args.expr.now c.in-Choose.cases c.in-Choose.other c.deref-in-Some-typed.result.now
-      c.in-Choose.is c.deref-in-Some-typed.ensures.value) c.decreases,
+          (smaller.less-cases c.args.expr.now c.in-Choose.cases c.in-Choose.other c.deref-in-Some-typed.result.now
+          c.in-Choose.is c.deref-in-Some-typed.ensures.value) c.decreases,
       within,
     )

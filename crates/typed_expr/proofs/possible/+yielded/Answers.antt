@@ -1,14 +1,13 @@
-use Rattle.std.proofs.Common.{◌≡◌, ◌+◌, ◌↔◌, ℕ, List, Bool, not, Contains, Option, Some, None, Result, Ok, Err, IsTrue, refl, sym, subst, true, false}
+use Rattle.std.proofs.Common.{◌≡◌, ◌+◌, ◌↔◌, ℕ, List, Bool, not, Contains, Option, Some, None, Result, Ok, IsTrue, refl, sym, subst, true, false}
 use Rattle.std.specs.Option.{is_some}
 use borrow.Author.Count.{falls}
 use Rattle.domains.specs.declared.Value.{Value}
 use Rattle.domains.specs.declared.Value.TheVariants.{Truth}
 use Rattle.typed_expr.specs.Sets.{Gathers}
 use Rattle.typed_expr.specs.Yields.{facts_of}
-use Rattle.typed_expr.specs.Evaluating.{Evaluates, Tells, Tallies, Folds, Sums, Chooses, Joins, SomeRelated, IsNext}
+use Rattle.typed_expr.specs.Evaluating.{Evaluates, Tells, Tallies, Steps, stepped, operand_stopped, Folds, Sums, Chooses, Joins, SomeRelated, IsNext}
 use Rattle.typed_expr.specs.declared.expr.Expr.{Expr, out-Expr}
 use Rattle.typed_expr.specs.declared.expr.Expr as plain
-use Rattle.typed_expr.specs.declared.fold.Step.TheVariants.{Part}
 use Rattle.typed_expr.specs.declared.value_set.Stop.{Stop}
 use Rattle.typed_expr.proofs.Gathering.{err-same, keeps-nothing}
 use Rattle.typed_expr.proofs.Arms as arm
@@ -252,46 +251,17 @@ folded-loop-e-init g t c =
 pub folded-loop-e-preserved : goal.folded-loop-e-preserved
 folded-loop-e-preserved g t c =
     let facts = facts_of (g.E.Env.facts_at c.args.env.now) in
-    let step1 =
-    subst
-    (λ (l : List Value). Gathers c.args.most (Ok c.in_ok-more.more)
-    (IsNext c.args.step c.loop-e.first l c.values-in-loop-e.result.now)) c.values.ensures.values
-    c.in_ok-more.ensures in
-    let step2 =
-    subst
-    (λ (l : List Value). Gathers c.args.most (Ok c.in_ok-more.more)
-    (IsNext c.args.step c.loop-e.first c.loop-e.so_far l)) c.values-in-loop-e.ensures.values step1 in
-    loop.fold-goes-on facts c.args.most c.args.step c.loop-e.first c.args.es.now c.loop-e.e-index c.e-item.result
-    c.loop-e.so_far c.in_ok-set.set c.in_ok-more.more c.loop-e-test.true c.e-item.is c.loop-e.invariant
-    c.in_ok-set.ensures step2
-
-pub folded-returns-in_err-set : goal.folded-returns-in_err-set
-folded-returns-in_err-set g t c =
-    let facts = facts_of (g.E.Env.facts_at c.args.env.now) in
-    err-same
-    (λ (r : Result (List Value) Stop). Folds facts c.args.most c.args.step r c.args.es.now)
-    c.from_residual-in_err-set.result c.in_err-set.field-0.0 c.from_residual-in_err-set.ensures.1
-    (loop.fold-operand-stop facts c.args.most c.args.step c.args.es.now c.loop-e.e-index c.e-item.result
-    c.in_err-set.field-0.0 c.loop-e-test.true c.e-item.is c.in_err-set.ensures)
+    loop.fold-steps facts c.args.most c.args.step c.loop-e.first c.args.es.now c.loop-e.e-index c.e-item.result
+    c.loop-e.so_far c.in_ok-more.more c.loop-e-test.true c.e-item.is c.loop-e.invariant c.in_ok-more.ensures
 
 pub folded-returns-in_err-more : goal.folded-returns-in_err-more
 folded-returns-in_err-more g t c =
     let facts = facts_of (g.E.Env.facts_at c.args.env.now) in
-    let step1 =
-    subst
-    (λ (l : List Value). Gathers c.args.most (Err c.in_err-more.field-0.0)
-    (IsNext c.args.step c.loop-e.first l c.values-in-loop-e.result.now)) c.values.ensures.values
-    c.in_err-more.ensures in
-    let step2 =
-    subst
-    (λ (l : List Value). Gathers c.args.most (Err c.in_err-more.field-0.0)
-    (IsNext c.args.step c.loop-e.first c.loop-e.so_far l)) c.values-in-loop-e.ensures.values step1 in
     err-same
     (λ (r : Result (List Value) Stop). Folds facts c.args.most c.args.step r c.args.es.now)
     c.from_residual-in_err-more.result c.in_err-more.field-0.0 c.from_residual-in_err-more.ensures.1
-    (loop.fold-step-stop facts c.args.most c.args.step c.loop-e.first c.args.es.now c.loop-e.e-index c.e-item.result
-    c.loop-e.so_far c.in_ok-set.set c.in_err-more.field-0.0 c.loop-e-test.true c.e-item.is c.loop-e.invariant
-    c.in_ok-set.ensures step2)
+    (loop.fold-stops facts c.args.most c.args.step c.loop-e.first c.args.es.now c.loop-e.e-index c.e-item.result
+    c.loop-e.so_far c.in_err-more.field-0.0 c.loop-e-test.true c.e-item.is c.loop-e.invariant c.in_err-more.ensures)
 
 pub folded-returns : goal.folded-returns
 folded-returns g t c =
@@ -315,48 +285,19 @@ summed-loop-plus-init g t c =
 pub summed-loop-plus-preserved : goal.summed-loop-plus-preserved
 summed-loop-plus-preserved g t c =
     let facts = facts_of (g.E.Env.facts_at c.args.env.now) in
-    let step1 =
-    subst
-    (λ (l : List Value). Gathers c.args.most (Ok c.in_ok-more.more)
-    (IsNext (Part c.loop-plus-item.result.0) false l c.values-in-loop-plus.result.now)) c.values.ensures.values
-    c.in_ok-more.ensures in
-    let step2 =
-    subst
-    (λ (l : List Value). Gathers c.args.most (Ok c.in_ok-more.more)
-    (IsNext (Part c.loop-plus-item.result.0) false c.loop-plus.so_far l)) c.values-in-loop-plus.ensures.values
-    step1 in
-    loop.sum-goes-on facts c.args.most c.args.parts.now c.loop-plus.plus-index c.loop-plus-item.result
-    c.loop-plus.so_far c.in_ok-set.set c.in_ok-more.more c.loop-plus-test.true c.loop-plus-item.is
-    c.loop-plus.invariant c.in_ok-set.ensures step2
-
-pub summed-returns-in_err-set : goal.summed-returns-in_err-set
-summed-returns-in_err-set g t c =
-    let facts = facts_of (g.E.Env.facts_at c.args.env.now) in
-    err-same
-    (λ (r : Result (List Value) Stop). Sums facts c.args.most r c.args.parts.now) c.from_residual-in_err-set.result
-    c.in_err-set.field-0.0 c.from_residual-in_err-set.ensures.1
-    (loop.sum-operand-stop facts c.args.most c.args.parts.now c.loop-plus.plus-index c.loop-plus-item.result
-    c.in_err-set.field-0.0 c.loop-plus-test.true c.loop-plus-item.is c.in_err-set.ensures)
+    loop.sum-steps facts c.args.most c.args.parts.now c.loop-plus.plus-index c.loop-plus-item.result
+    c.loop-plus.so_far c.in_ok-more.more c.loop-plus-test.true c.loop-plus-item.is c.loop-plus.invariant
+    c.in_ok-more.ensures
 
 pub summed-returns-in_err-more : goal.summed-returns-in_err-more
 summed-returns-in_err-more g t c =
     let facts = facts_of (g.E.Env.facts_at c.args.env.now) in
-    let step1 =
-    subst
-    (λ (l : List Value). Gathers c.args.most (Err c.in_err-more.field-0.0)
-    (IsNext (Part c.loop-plus-item.result.0) false l c.values-in-loop-plus.result.now)) c.values.ensures.values
-    c.in_err-more.ensures in
-    let step2 =
-    subst
-    (λ (l : List Value). Gathers c.args.most (Err c.in_err-more.field-0.0)
-    (IsNext (Part c.loop-plus-item.result.0) false c.loop-plus.so_far l)) c.values-in-loop-plus.ensures.values
-    step1 in
     err-same
     (λ (r : Result (List Value) Stop). Sums facts c.args.most r c.args.parts.now) c.from_residual-in_err-more.result
     c.in_err-more.field-0.0 c.from_residual-in_err-more.ensures.1
-    (loop.sum-step-stop facts c.args.most c.args.parts.now c.loop-plus.plus-index c.loop-plus-item.result
-    c.loop-plus.so_far c.in_ok-set.set c.in_err-more.field-0.0 c.loop-plus-test.true c.loop-plus-item.is
-    c.loop-plus.invariant c.in_ok-set.ensures step2)
+    (loop.sum-stops facts c.args.most c.args.parts.now c.loop-plus.plus-index c.loop-plus-item.result
+    c.loop-plus.so_far c.in_err-more.field-0.0 c.loop-plus-test.true c.loop-plus-item.is c.loop-plus.invariant
+    c.in_err-more.ensures)
 
 pub summed-returns : goal.summed-returns
 summed-returns g t c =
@@ -459,8 +400,8 @@ pub chosen-yielded-requires : goal.chosen-yielded-requires
 chosen-yielded-requires g t c =
     λ κs within. (
       smaller.rank_falls 0 2 1 _ _ t refl
-      (smaller.up-test c.args.cases.now c.loop-test.test-index c.loop-test-item.result c.loop-test-test.true
-      c.loop-test-item.is) c.decreases,
+          (smaller.up-test c.args.cases.now c.loop-test.test-index c.loop-test-item.result c.loop-test-test.true
+          c.loop-test-item.is) c.decreases,
       within,
     )
 
@@ -468,8 +409,8 @@ pub chosen-with_branch-requires : goal.chosen-with_branch-requires
 chosen-with_branch-requires g t c =
     λ κs within. (
       smaller.rank_falls 1 2 0 _ _ t refl
-      (smaller.up-value c.args.cases.now c.loop-test.test-index c.loop-test-item.result c.loop-test-test.true
-      c.loop-test-item.is) c.decreases,
+          (smaller.up-value c.args.cases.now c.loop-test.test-index c.loop-test-item.result c.loop-test-test.true
+          c.loop-test-item.is) c.decreases,
       (within.0, (within.1, c.loop-test.invariant.keeps)),
     )
 
@@ -481,12 +422,12 @@ pub folded-offset_bounds-es-e-index : goal.folded-offset_bounds-es-e-index
 folded-offset_bounds-es-e-index g t c =
     c.loop-e.auto.e-index-end
 
-pub folded-yielded-requires : goal.folded-yielded-requires
-folded-yielded-requires g t c =
+pub folded-with_operand-requires : goal.folded-with_operand-requires
+folded-with_operand-requires g t c =
     λ κs within. (
-      smaller.rank_falls 0 1 0 _ _ t refl
-      (smaller.up-item c.args.es.now c.loop-e.e-index c.e-item.result c.loop-e-test.true
-      c.e-item.is) c.decreases,
+      smaller.rank_falls 1 2 0 _ _ t refl
+          (smaller.up-item c.args.es.now c.loop-e.e-index c.e-item.result c.loop-e-test.true
+          c.e-item.is) c.decreases,
       within,
     )
 
@@ -498,12 +439,12 @@ pub summed-offset_bounds-parts-plus-index : goal.summed-offset_bounds-parts-plus
 summed-offset_bounds-parts-plus-index g t c =
     c.loop-plus.auto.plus-index-end
 
-pub summed-yielded-requires : goal.summed-yielded-requires
-summed-yielded-requires g t c =
+pub summed-with_operand-requires : goal.summed-with_operand-requires
+summed-with_operand-requires g t c =
     λ κs within. (
-      smaller.rank_falls 0 1 0 _ _ t refl
-      (smaller.up-part c.args.parts.now c.loop-plus.plus-index c.loop-plus-item.result c.loop-plus-test.true
-      c.loop-plus-item.is) c.decreases,
+      smaller.rank_falls 1 2 0 _ _ t refl
+          (smaller.up-part c.args.parts.now c.loop-plus.plus-index c.loop-plus-item.result c.loop-plus-test.true
+          c.loop-plus-item.is) c.decreases,
       within,
     )
 
@@ -519,8 +460,8 @@ pub tally-truths-requires : goal.tally-truths-requires
 tally-truths-requires g t c =
     λ κs within. (
       smaller.rank_falls 1 2 0 _ _ t refl
-      (smaller.up-item c.args.es.now c.loop-e.e-index c.e-item.result c.loop-e-test.true
-      c.e-item.is) c.decreases,
+          (smaller.up-item c.args.es.now c.loop-e.e-index c.e-item.result c.loop-e-test.true
+          c.e-item.is) c.decreases,
       within,
     )
 
@@ -538,7 +479,7 @@ pub truths-yielded-requires : goal.truths-yielded-requires
 truths-yielded-requires g t c =
     λ κs within. (
       smaller.rank_falls 0 1 0 _ _ t refl
-      (smaller.no_more _) c.decreases,
+          (smaller.no_more _) c.decreases,
       within,
     )
 
@@ -559,7 +500,7 @@ pub with_branch-yielded-requires : goal.with_branch-yielded-requires
 with_branch-yielded-requires g t c =
     λ κs within. (
       smaller.rank_falls 0 1 0 _ _ t refl
-      (smaller.no_more _) c.decreases,
+          (smaller.no_more _) c.decreases,
       within,
     )
 
@@ -571,7 +512,7 @@ pub yielded-yielded-requires : goal.yielded-yielded-requires
 yielded-yielded-requires g t c =
     λ κs within. (
       smaller.size_falls 0 2 _ _ t refl
-      (smaller.less-not c.args.expr.now c.deref.result.now c.in-Not.a c.in-Not.is c.deref.ensures) c.decreases,
+          (smaller.less-not c.args.expr.now c.deref.result.now c.in-Not.a c.in-Not.is c.deref.ensures) c.decreases,
       within,
     )
 
@@ -579,8 +520,8 @@ pub yielded-tally-requires : goal.yielded-tally-requires
 yielded-tally-requires g t c =
     λ κs within. (
       smaller.size_falls 2 0 _ _ t refl
-      (smaller.less-all c.args.expr.now c.in-All.es c.deref-in-All.result.now c.in-All.is
-      c.deref-in-All.ensures.value) c.decreases,
+          (smaller.less-all c.args.expr.now c.in-All.es c.deref-in-All.result.now c.in-All.is
+          c.deref-in-All.ensures.value) c.decreases,
       within,
     )
 
@@ -588,44 +529,44 @@ pub yielded-tally-requires-in-Any : goal.yielded-tally-requires-in-Any
 yielded-tally-requires-in-Any g t c =
     λ κs within. (
       smaller.size_falls 2 0 _ _ t refl
-      (smaller.less-any c.args.expr.now c.in-Any.es c.deref-in-Any.result.now c.in-Any.is
-      c.deref-in-Any.ensures.value) c.decreases,
+          (smaller.less-any c.args.expr.now c.in-Any.es c.deref-in-Any.result.now c.in-Any.is
+          c.deref-in-Any.ensures.value) c.decreases,
       within,
     )
 
 pub yielded-folded-requires : goal.yielded-folded-requires
 yielded-folded-requires g t c =
     λ κs within. (
-      smaller.size_falls 1 1 _ _ t refl
-      (smaller.less-product c.args.expr.now c.in-Product.es c.deref-in-Product.result.now c.in-Product.is
-      c.deref-in-Product.ensures.value) c.decreases,
+      smaller.size_falls 2 0 _ _ t refl
+          (smaller.less-product c.args.expr.now c.in-Product.es c.deref-in-Product.result.now c.in-Product.is
+          c.deref-in-Product.ensures.value) c.decreases,
       within,
     )
 
 pub yielded-folded-requires-in-Least : goal.yielded-folded-requires-in-Least
 yielded-folded-requires-in-Least g t c =
     λ κs within. (
-      smaller.size_falls 1 1 _ _ t refl
-      (smaller.less-least c.args.expr.now c.in-Least.es c.deref-in-Least.result.now c.in-Least.is
-      c.deref-in-Least.ensures.value) c.decreases,
+      smaller.size_falls 2 0 _ _ t refl
+          (smaller.less-least c.args.expr.now c.in-Least.es c.deref-in-Least.result.now c.in-Least.is
+          c.deref-in-Least.ensures.value) c.decreases,
       within,
     )
 
 pub yielded-folded-requires-in-Greatest : goal.yielded-folded-requires-in-Greatest
 yielded-folded-requires-in-Greatest g t c =
     λ κs within. (
-      smaller.size_falls 1 1 _ _ t refl
-      (smaller.less-greatest c.args.expr.now c.in-Greatest.es c.deref-in-Greatest.result.now c.in-Greatest.is
-      c.deref-in-Greatest.ensures.value) c.decreases,
+      smaller.size_falls 2 0 _ _ t refl
+          (smaller.less-greatest c.args.expr.now c.in-Greatest.es c.deref-in-Greatest.result.now c.in-Greatest.is
+          c.deref-in-Greatest.ensures.value) c.decreases,
       within,
     )
 
 pub yielded-folded-requires-in-Count : goal.yielded-folded-requires-in-Count
 yielded-folded-requires-in-Count g t c =
     λ κs within. (
-      smaller.size_falls 1 1 _ _ t refl
-      (smaller.less-count c.args.expr.now c.in-Count.es c.deref-in-Count.result.now c.in-Count.is
-      c.deref-in-Count.ensures.value) c.decreases,
+      smaller.size_falls 2 0 _ _ t refl
+          (smaller.less-count c.args.expr.now c.in-Count.es c.deref-in-Count.result.now c.in-Count.is
+          c.deref-in-Count.ensures.value) c.decreases,
       within,
     )
 
@@ -633,8 +574,8 @@ pub yielded-yielded-requires-in-Compare : goal.yielded-yielded-requires-in-Compa
 yielded-yielded-requires-in-Compare g t c =
     λ κs within. (
       smaller.size_falls 0 2 _ _ t refl
-      (smaller.less-left c.args.expr.now c.deref-in-Compare.result.now c.in-Compare.relation c.in-Compare.a
-      c.in-Compare.b c.in-Compare.is c.deref-in-Compare.ensures) c.decreases,
+          (smaller.less-left c.args.expr.now c.deref-in-Compare.result.now c.in-Compare.relation c.in-Compare.a
+          c.in-Compare.b c.in-Compare.is c.deref-in-Compare.ensures) c.decreases,
       within,
     )
 
@@ -642,8 +583,8 @@ pub yielded-yielded-requires-in-Compare-2 : goal.yielded-yielded-requires-in-Com
 yielded-yielded-requires-in-Compare-2 g t c =
     λ κs within. (
       smaller.size_falls 0 2 _ _ t refl
-      (smaller.less-right c.args.expr.now c.deref-in-Compare-2.result.now c.in-Compare.relation c.in-Compare.a
-      c.in-Compare.b c.in-Compare.is c.deref-in-Compare-2.ensures) c.decreases,
+          (smaller.less-right c.args.expr.now c.deref-in-Compare-2.result.now c.in-Compare.relation c.in-Compare.a
+          c.in-Compare.b c.in-Compare.is c.deref-in-Compare-2.ensures) c.decreases,
       within,
     )
 
@@ -666,9 +607,9 @@ yielded-some_related-can_be_true-requires-clause-right g t c =
 pub yielded-summed-requires : goal.yielded-summed-requires
 yielded-summed-requires g t c =
     λ κs within. (
-      smaller.size_falls 1 1 _ _ t refl
-      (smaller.less-parts c.args.expr.now c.in-Sum.parts c.deref-in-Sum.result.now c.in-Sum.is
-      c.deref-in-Sum.ensures.value) c.decreases,
+      smaller.size_falls 2 0 _ _ t refl
+          (smaller.less-parts c.args.expr.now c.in-Sum.parts c.deref-in-Sum.result.now c.in-Sum.is
+          c.deref-in-Sum.ensures.value) c.decreases,
       within,
     )
 
@@ -676,8 +617,8 @@ pub yielded-chosen-requires : goal.yielded-chosen-requires
 yielded-chosen-requires g t c =
     λ κs within. (
       smaller.size_falls 2 0 _ _ t refl
-      (smaller.less-cases c.args.expr.now c.in-Choose.cases c.in-Choose.other c.deref-in-Choose.result.now
-      c.in-Choose.is c.deref-in-Choose.ensures.value) c.decreases,
+          (smaller.less-cases c.args.expr.now c.in-Choose.cases c.in-Choose.other c.deref-in-Choose.result.now
+          c.in-Choose.is c.deref-in-Choose.ensures.value) c.decreases,
       within,
     )
 
@@ -685,7 +626,36 @@ pub yielded-with_branch-requires : goal.yielded-with_branch-requires
 yielded-with_branch-requires g t c =
     λ κs within. (
       smaller.size_falls 1 1 _ _ t refl
-      (smaller.less-other c.args.expr.now c.deref-in-Choose-2.result.now c.in-Choose.cases c.in-Choose.other
-      c.in-Choose.is c.deref-in-Choose-2.ensures) c.decreases,
+          (smaller.less-other c.args.expr.now c.deref-in-Choose-2.result.now c.in-Choose.cases c.in-Choose.other
+          c.in-Choose.is c.deref-in-Choose-2.ensures) c.decreases,
       (within.0, (within.1, c.in_ok-set-in-Choose.ensures.1)),
     )
+
+pub with_operand-yielded-requires : goal.with_operand-yielded-requires
+with_operand-yielded-requires g t c =
+    λ κs within. (
+      smaller.rank_falls 0 1 0 _ _ t refl
+          (smaller.no_more _) c.decreases,
+      within,
+    )
+
+pub with_operand-returns-in_err-set : goal.with_operand-returns-in_err-set
+with_operand-returns-in_err-set g t c =
+    let facts = facts_of (g.E.Env.facts_at c.args.env.now) in
+    err-same
+    (λ (r : Result (List Value) Stop). Steps facts c.args.most c.args.step c.args.first c.args.so_far r
+    (out-Expr g.row.V.Denot c.args.e.now)) c.from_residual.result c.in_err-set.field-0.0 c.from_residual.ensures.1
+    (operand_stopped c.in_err-set.ensures refl)
+
+pub with_operand-returns : goal.with_operand-returns
+with_operand-returns g t c =
+    let facts = facts_of (g.E.Env.facts_at c.args.env.now) in
+    let step1 =
+    subst
+    (λ (l : List Value). Gathers c.args.most c.stepped.result (IsNext c.args.step c.args.first l c.values-2.result.now))
+    c.values.ensures.values c.stepped.ensures in
+    let step2 =
+    subst
+    (λ (l : List Value). Gathers c.args.most c.stepped.result (IsNext c.args.step c.args.first c.args.so_far l))
+    c.values-2.ensures.values step1 in
+    stepped {values = c.in_ok-set.set} c.in_ok-set.ensures step2

@@ -71,7 +71,7 @@ pub all_total-eval_total-requires : goal.all_total-eval_total-requires
 all_total-eval_total-requires g t c =
     λ κs within. (
       smaller.item_falls _ _ t
-      (smaller.up-item c.args.es.now c.loop-e.e-index c.e-item.result c.loop-e-test.true c.e-item.is) c.decreases,
+          (smaller.up-item c.args.es.now c.loop-e.e-index c.e-item.result c.loop-e-test.true c.e-item.is) c.decreases,
       within,
     )
 
@@ -108,7 +108,7 @@ pub any_total-eval_total-requires : goal.any_total-eval_total-requires
 any_total-eval_total-requires g t c =
     λ κs within. (
       smaller.item_falls _ _ t
-      (smaller.up-item c.args.es.now c.loop-e.e-index c.e-item.result c.loop-e-test.true c.e-item.is) c.decreases,
+          (smaller.up-item c.args.es.now c.loop-e.e-index c.e-item.result c.loop-e-test.true c.e-item.is) c.decreases,
       within,
     )
 
@@ -145,8 +145,8 @@ pub chosen-eval_total-requires : goal.chosen-eval_total-requires
 chosen-eval_total-requires g t c =
     λ κs within. (
       smaller.item_falls _ _ t
-      (smaller.up-test c.args.cases.now c.loop-test.test-index c.loop-test-item.result c.loop-test-test.true
-      c.loop-test-item.is) c.decreases,
+          (smaller.up-test c.args.cases.now c.loop-test.test-index c.loop-test-item.result c.loop-test-test.true
+          c.loop-test-item.is) c.decreases,
       within,
     )
 
@@ -154,8 +154,8 @@ pub chosen-eval_total-requires-then-truth : goal.chosen-eval_total-requires-then
 chosen-eval_total-requires-then-truth g t c =
     λ κs within. (
       smaller.item_falls _ _ t
-      (smaller.up-value c.args.cases.now c.loop-test.test-index c.loop-test-item.result c.loop-test-test.true
-      c.loop-test-item.is) c.decreases,
+          (smaller.up-value c.args.cases.now c.loop-test.test-index c.loop-test-item.result c.loop-test-test.true
+          c.loop-test-item.is) c.decreases,
       within,
     )
 
@@ -167,7 +167,7 @@ pub eval_total-eval_total-requires : goal.eval_total-eval_total-requires
 eval_total-eval_total-requires g t c =
     λ κs within. (
       smaller.one_falls _ _ t
-      (smaller.less-not c.args.expr.now c.deref.result.now c.in-Not.a c.in-Not.is c.deref.ensures) c.decreases,
+          (smaller.less-not c.args.expr.now c.deref.result.now c.in-Not.a c.in-Not.is c.deref.ensures) c.decreases,
       within,
     )
 
@@ -175,8 +175,8 @@ pub eval_total-all_total-requires : goal.eval_total-all_total-requires
 eval_total-all_total-requires g t c =
     λ κs within. (
       smaller.list_falls _ _ t
-      (smaller.less-all c.args.expr.now c.in-All.es c.deref-in-All.result.now c.in-All.is
-      c.deref-in-All.ensures.value) c.decreases,
+          (smaller.less-all c.args.expr.now c.in-All.es c.deref-in-All.result.now c.in-All.is
+          c.deref-in-All.ensures.value) c.decreases,
       within,
     )
 
@@ -184,8 +184,8 @@ pub eval_total-any_total-requires : goal.eval_total-any_total-requires
 eval_total-any_total-requires g t c =
     λ κs within. (
       smaller.list_falls _ _ t
-      (smaller.less-any c.args.expr.now c.in-Any.es c.deref-in-Any.result.now c.in-Any.is
-      c.deref-in-Any.ensures.value) c.decreases,
+          (smaller.less-any c.args.expr.now c.in-Any.es c.deref-in-Any.result.now c.in-Any.is
+          c.deref-in-Any.ensures.value) c.decreases,
       within,
     )
 
@@ -193,8 +193,8 @@ pub eval_total-fold_total-requires : goal.eval_total-fold_total-requires
 eval_total-fold_total-requires g t c =
     λ κs within. (
       smaller.list_falls _ _ t
-      (smaller.less-product c.args.expr.now c.in-Product.es c.deref-in-Product.result.now c.in-Product.is
-      c.deref-in-Product.ensures.value) c.decreases,
+          (smaller.less-product c.args.expr.now c.in-Product.es c.deref-in-Product.result.now c.in-Product.is
+          c.deref-in-Product.ensures.value) c.decreases,
       within,
     )
 
@@ -202,8 +202,8 @@ pub eval_total-fold_total-requires-in-Least : goal.eval_total-fold_total-require
 eval_total-fold_total-requires-in-Least g t c =
     λ κs within. (
       smaller.list_falls _ _ t
-      (smaller.less-least c.args.expr.now c.in-Least.es c.deref-in-Least.result.now c.in-Least.is
-      c.deref-in-Least.ensures.value) c.decreases,
+          (smaller.less-least c.args.expr.now c.in-Least.es c.deref-in-Least.result.now c.in-Least.is
+          c.deref-in-Least.ensures.value) c.decreases,
       within,
     )
 
@@ -211,8 +211,8 @@ pub eval_total-fold_total-requires-in-Greatest : goal.eval_total-fold_total-requ
 eval_total-fold_total-requires-in-Greatest g t c =
     λ κs within. (
       smaller.list_falls _ _ t
-      (smaller.less-greatest c.args.expr.now c.in-Greatest.es c.deref-in-Greatest.result.now c.in-Greatest.is
-      c.deref-in-Greatest.ensures.value) c.decreases,
+          (smaller.less-greatest c.args.expr.now c.in-Greatest.es c.deref-in-Greatest.result.now c.in-Greatest.is
+          c.deref-in-Greatest.ensures.value) c.decreases,
       within,
     )
 
@@ -220,8 +220,8 @@ pub eval_total-fold_total-requires-in-Count : goal.eval_total-fold_total-require
 eval_total-fold_total-requires-in-Count g t c =
     λ κs within. (
       smaller.list_falls _ _ t
-      (smaller.less-count c.args.expr.now c.in-Count.es c.deref-in-Count.result.now c.in-Count.is
-      c.deref-in-Count.ensures.value) c.decreases,
+          (smaller.less-count c.args.expr.now c.in-Count.es c.deref-in-Count.result.now c.in-Count.is
+          c.deref-in-Count.ensures.value) c.decreases,
       within,
     )
 
@@ -229,8 +229,8 @@ pub eval_total-eval_total-left-requires : goal.eval_total-eval_total-left-requir
 eval_total-eval_total-left-requires g t c =
     λ κs within. (
       smaller.one_falls _ _ t
-      (smaller.less-left c.args.expr.now c.deref-in-Compare.result.now c.in-Compare.relation c.in-Compare.a
-      c.in-Compare.b c.in-Compare.is c.deref-in-Compare.ensures) c.decreases,
+          (smaller.less-left c.args.expr.now c.deref-in-Compare.result.now c.in-Compare.relation c.in-Compare.a
+          c.in-Compare.b c.in-Compare.is c.deref-in-Compare.ensures) c.decreases,
       within,
     )
 
@@ -238,8 +238,8 @@ pub eval_total-eval_total-right-requires : goal.eval_total-eval_total-right-requ
 eval_total-eval_total-right-requires g t c =
     λ κs within. (
       smaller.one_falls _ _ t
-      (smaller.less-right c.args.expr.now c.deref-in-Compare-2.result.now c.in-Compare.relation c.in-Compare.a
-      c.in-Compare.b c.in-Compare.is c.deref-in-Compare-2.ensures) c.decreases,
+          (smaller.less-right c.args.expr.now c.deref-in-Compare-2.result.now c.in-Compare.relation c.in-Compare.a
+          c.in-Compare.b c.in-Compare.is c.deref-in-Compare-2.ensures) c.decreases,
       within,
     )
 
@@ -247,8 +247,8 @@ pub eval_total-sum_total-requires : goal.eval_total-sum_total-requires
 eval_total-sum_total-requires g t c =
     λ κs within. (
       smaller.list_falls _ _ t
-      (smaller.less-parts c.args.expr.now c.in-Sum.parts c.deref-in-Sum.result.now c.in-Sum.is
-      c.deref-in-Sum.ensures.value) c.decreases,
+          (smaller.less-parts c.args.expr.now c.in-Sum.parts c.deref-in-Sum.result.now c.in-Sum.is
+          c.deref-in-Sum.ensures.value) c.decreases,
       within,
     )
 
@@ -256,8 +256,8 @@ pub eval_total-chosen-requires : goal.eval_total-chosen-requires
 eval_total-chosen-requires g t c =
     λ κs within. (
       smaller.list_falls _ _ t
-      (smaller.less-cases c.args.expr.now c.in-Choose.cases c.in-Choose.other c.deref-in-Choose.result.now
-      c.in-Choose.is c.deref-in-Choose.ensures.value) c.decreases,
+          (smaller.less-cases c.args.expr.now c.in-Choose.cases c.in-Choose.other c.deref-in-Choose.result.now
+          c.in-Choose.is c.deref-in-Choose.ensures.value) c.decreases,
       within,
     )
 
@@ -265,8 +265,8 @@ pub eval_total-eval_total-requires-in-None : goal.eval_total-eval_total-requires
 eval_total-eval_total-requires-in-None g t c =
     λ κs within. (
       smaller.one_falls _ _ t
-      (smaller.less-other c.args.expr.now c.deref-in-None.result.now c.in-Choose.cases c.in-Choose.other
-      c.in-Choose.is c.deref-in-None.ensures) c.decreases,
+          (smaller.less-other c.args.expr.now c.deref-in-None.result.now c.in-Choose.cases c.in-Choose.other
+          c.in-Choose.is c.deref-in-None.ensures) c.decreases,
       within,
     )
 
@@ -358,7 +358,7 @@ pub fold_total-eval_total-requires : goal.fold_total-eval_total-requires
 fold_total-eval_total-requires g t c =
     λ κs within. (
       smaller.item_falls _ _ t
-      (smaller.up-item c.args.es.now c.loop-e.e-index c.e-item.result c.loop-e-test.true c.e-item.is) c.decreases,
+          (smaller.up-item c.args.es.now c.loop-e.e-index c.e-item.result c.loop-e-test.true c.e-item.is) c.decreases,
       within,
     )
 
@@ -383,8 +383,8 @@ pub sum_total-eval_total-requires : goal.sum_total-eval_total-requires
 sum_total-eval_total-requires g t c =
     λ κs within. (
       smaller.item_falls _ _ t
-      (smaller.up-part c.args.parts.now c.loop-plus.plus-index c.loop-plus-item.result c.loop-plus-test.true
-      c.loop-plus-item.is) c.decreases,
+          (smaller.up-part c.args.parts.now c.loop-plus.plus-index c.loop-plus-item.result c.loop-plus-test.true
+          c.loop-plus-item.is) c.decreases,
       within,
     )
 

@@ -32,6 +32,16 @@ pub record SomeRelated (r : Relation) (xs ys : List Value) (wanted : Bool) : Typ
   pub in_right : Contains ys right
   pub related : is_related r left right ≡ wanted
 
+-- the truth values of the comparison of a value of the list with one that the operand yields; or the evaluation of
+-- the operand stopped, and so does the comparison
+pub data Relates {V : Type 0} (facts : V → Value → Type 0) (most : Option ℕ) (q : Relation) (left : List Value)
+    (r : Result (List Value) Stop) (right : Level V) : Type 0 where
+  compared : {values : List Value} {can_be_false can_be_true : Bool} → Evaluates facts most (Ok values) right
+      → IsTrue can_be_false ↔ SomeRelated q left values false → IsTrue can_be_true ↔ SomeRelated q left values true
+      → Gathers most r (IsTruth can_be_false can_be_true) → Relates facts most q left r right
+  right_stopped : {stop : Stop} → Evaluates facts most (Err stop) right → r ≡ Err stop
+      → Relates facts most q left r right
+
 -- a number of the first list, with one value of the second as the next operand
 pub record IsNext (s : Step) (first : Bool) (numbers values : List Value) (v : Value) : Type 0 where
   pub number : Value

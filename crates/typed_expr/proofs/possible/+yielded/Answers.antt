@@ -5,7 +5,7 @@ use Rattle.domains.specs.declared.Value.{Value}
 use Rattle.domains.specs.declared.Value.TheVariants.{Truth}
 use Rattle.typed_expr.specs.Sets.{Gathers}
 use Rattle.typed_expr.specs.Yields.{facts_of}
-use Rattle.typed_expr.specs.Evaluating.{Evaluates, Tells, Tallies, Steps, stepped, operand_stopped, Folds, Sums, Chooses, Joins, SomeRelated, IsNext}
+use Rattle.typed_expr.specs.Evaluating.{Evaluates, Relates, compared, right_stopped, Tells, Tallies, Steps, stepped, operand_stopped, Folds, Sums, Chooses, Joins, SomeRelated, IsNext}
 use Rattle.typed_expr.specs.declared.expr.Expr.{Expr, out-Expr}
 use Rattle.typed_expr.specs.declared.expr.Expr as plain
 use Rattle.typed_expr.specs.declared.value_set.Stop.{Stop}
@@ -62,21 +62,21 @@ yielded-returns-in-Count g t c =
     arm.count-arm facts c.args.most c.folded-in-Count.result c.args.expr.now c.deref-in-Count.result.now c.in-Count.es
     c.in-Count.is c.deref-in-Count.ensures.value c.folded-in-Count.ensures
 
-pub yielded-returns-in_ok-set-in-Not : goal.yielded-returns-in_ok-set-in-Not
-yielded-returns-in_ok-set-in-Not g t c =
+pub yielded-returns-in_ok-can_be_true-in-Not : goal.yielded-returns-in_ok-can_be_true-in-Not
+yielded-returns-in_ok-can_be_true-in-Not g t c =
     let facts = facts_of (g.E.Env.facts_at c.args.env.now) in
     arm.not-arm facts c.args.most c.truth_set.result c.args.expr.now c.deref.result.now c.in-Not.a
-    c.in_ok-set-in-Not.set c.has.result c.has-in-Not.result c.in-Not.is c.deref.ensures
-    c.in_ok-set-in-Not.ensures c.has.ensures c.has-in-Not.ensures c.truth_set.ensures
+    c.in_ok-can_be_true-in-Not.can_be_true c.in_ok-can_be_true-in-Not.can_be_false c.in-Not.is c.deref.ensures
+    c.in_ok-can_be_true-in-Not.ensures c.truth_set.ensures
 
-pub yielded-returns-in_err-set-in-Not : goal.yielded-returns-in_err-set-in-Not
-yielded-returns-in_err-set-in-Not g t c =
+pub yielded-returns-in_err-can_be_true-in-Not : goal.yielded-returns-in_err-can_be_true-in-Not
+yielded-returns-in_err-can_be_true-in-Not g t c =
     let facts = facts_of (g.E.Env.facts_at c.args.env.now) in
     err-same
     (λ (r : Result (List Value) Stop). Evaluates facts c.args.most r (out-Expr g.row.V.Denot c.args.expr.now))
-    c.from_residual.result c.in_err-set-in-Not.field-0.0 c.from_residual.ensures.1
-    (arm.not-stop facts c.args.most c.in_err-set-in-Not.field-0.0 c.args.expr.now c.deref.result.now c.in-Not.a
-    c.in-Not.is c.deref.ensures c.in_err-set-in-Not.ensures)
+    c.from_residual.result c.in_err-can_be_true-in-Not.field-0.0 c.from_residual.ensures.1
+    (arm.not-stop facts c.args.most c.in_err-can_be_true-in-Not.field-0.0 c.args.expr.now c.deref.result.now c.in-Not.a
+    c.in-Not.is c.deref.ensures c.in_err-can_be_true-in-Not.ensures)
 
 pub yielded-returns-in_ok-one_false-in-All : goal.yielded-returns-in_ok-one_false-in-All
 yielded-returns-in_ok-one_false-in-All g t c =
@@ -112,35 +112,13 @@ yielded-returns-in_err-one_true-in-Any g t c =
     (arm.any-stop facts c.args.most c.in_err-one_true-in-Any.field-0.0 c.args.expr.now c.deref-in-Any.result.now
     c.in-Any.es c.in-Any.is c.deref-in-Any.ensures.value c.in_err-one_true-in-Any.ensures)
 
-pub yielded-returns-in_ok-right-in-Compare : goal.yielded-returns-in_ok-right-in-Compare
-yielded-returns-in_ok-right-in-Compare g t c =
+pub yielded-returns-in_ok-left-in-Compare : goal.yielded-returns-in_ok-left-in-Compare
+yielded-returns-in_ok-left-in-Compare g t c =
     let facts = facts_of (g.E.Env.facts_at c.args.env.now) in
-    let rel = c.in-Compare.relation in
-    let lx = c.in_ok-left-in-Compare.left in
-    let ry = c.in_ok-right-in-Compare.right in
-    let f1 =
-    subst
-    (λ (l : List Value). IsTrue c.some_related-can_be_false.result
-    ↔ SomeRelated rel l c.values-in-Compare.result.now false) c.values.ensures.values
-    c.some_related-can_be_false.ensures in
-    let f2 =
-    subst
-    (λ (l : List Value). IsTrue c.some_related-can_be_false.result ↔ SomeRelated rel lx l false)
-    c.values-in-Compare.ensures.values f1 in
-    let t1 =
-    subst
-    (λ (l : List Value). IsTrue c.some_related-can_be_true.result
-    ↔ SomeRelated rel l c.values-in-Compare-3.result.now true) c.values-in-Compare-2.ensures.values
-    c.some_related-can_be_true.ensures in
-    let t2 =
-    subst
-    (λ (l : List Value). IsTrue c.some_related-can_be_true.result ↔ SomeRelated rel lx l true)
-    c.values-in-Compare-3.ensures.values t1 in
-    arm.compare-arm facts c.args.most c.truth_set-in-Compare.result c.args.expr.now c.deref-in-Compare.result.now
-    c.deref-in-Compare-2.result.now rel c.in-Compare.a c.in-Compare.b lx ry c.some_related-can_be_false.result
-    c.some_related-can_be_true.result
+    arm.compared-arm facts c.args.most c.compared.result c.args.expr.now c.deref-in-Compare.result.now
+    c.deref-in-Compare-2.result.now c.in-Compare.relation c.in-Compare.a c.in-Compare.b c.in_ok-left-in-Compare.left
     c.in-Compare.is c.deref-in-Compare.ensures c.deref-in-Compare-2.ensures c.in_ok-left-in-Compare.ensures
-    c.in_ok-right-in-Compare.ensures f2 t2 c.truth_set-in-Compare.ensures
+    c.compared.ensures
 
 pub yielded-returns-in_err-left-in-Compare : goal.yielded-returns-in_err-left-in-Compare
 yielded-returns-in_err-left-in-Compare g t c =
@@ -152,17 +130,6 @@ yielded-returns-in_err-left-in-Compare g t c =
     (arm.left-stop facts c.args.most c.in_err-left-in-Compare.field-0.0 c.args.expr.now c.deref-in-Compare.result.now
     c.in-Compare.relation c.in-Compare.a c.in-Compare.b c.in-Compare.is c.deref-in-Compare.ensures
     c.in_err-left-in-Compare.ensures)
-
-pub yielded-returns-in_err-right-in-Compare : goal.yielded-returns-in_err-right-in-Compare
-yielded-returns-in_err-right-in-Compare g t c =
-    let facts = facts_of (g.E.Env.facts_at c.args.env.now) in
-    err-same
-    (λ (r : Result (List Value) Stop). Evaluates facts c.args.most r (out-Expr g.row.V.Denot c.args.expr.now))
-    c.from_residual-in_err-right-in-Compare.result c.in_err-right-in-Compare.field-0.0
-    c.from_residual-in_err-right-in-Compare.ensures.1
-    (arm.right-stop facts c.args.most c.in_err-right-in-Compare.field-0.0 c.args.expr.now
-    c.deref-in-Compare-2.result.now c.in-Compare.relation c.in-Compare.a c.in-Compare.b c.in-Compare.is
-    c.deref-in-Compare-2.ensures c.in_err-right-in-Compare.ensures)
 
 pub yielded-returns-in_err-set-in-Choose : goal.yielded-returns-in_err-set-in-Choose
 yielded-returns-in_err-set-in-Choose g t c =
@@ -315,29 +282,27 @@ pub chosen-loop-test-preserved : goal.chosen-loop-test-preserved
 chosen-loop-test-preserved g t c =
     let facts = facts_of (g.E.Env.facts_at c.args.env.now) in
     loop.choice-goes-on facts c.args.most c.args.cases.now c.loop-test.test-index c.loop-test-item.result
-    c.loop-test.so_far c.in_ok-tests.tests c.in_ok-more.more c.loop-test.passes c.both-takes.result c.has.result
-    c.has-in-loop-test.result
-    c.both-passes.result c.loop-test-test.true c.loop-test-item.is c.loop-test.invariant c.in_ok-tests.ensures
-    c.in_ok-more.ensures c.has.ensures c.both-takes.ensures c.has-in-loop-test.ensures c.both-passes.ensures
+    c.loop-test.so_far c.in_ok-more.more c.loop-test.passes c.both-takes.result c.in_ok-can_pass.can_pass
+    c.in_ok-can_pass.can_take c.both-passes.result c.loop-test-test.true c.loop-test-item.is c.loop-test.invariant
+    c.in_ok-can_pass.ensures c.in_ok-more.ensures c.both-takes.ensures c.both-passes.ensures
 
-pub chosen-returns-in_err-tests : goal.chosen-returns-in_err-tests
-chosen-returns-in_err-tests g t c =
+pub chosen-returns-in_err-can_pass : goal.chosen-returns-in_err-can_pass
+chosen-returns-in_err-can_pass g t c =
     let facts = facts_of (g.E.Env.facts_at c.args.env.now) in
     err-same
     (λ (r : Result (List Value × Bool) Stop). Chooses facts c.args.most r c.args.cases.now) c.from_residual.result
-    c.in_err-tests.field-0.0 c.from_residual.ensures.1
+    c.in_err-can_pass.field-0.0 c.from_residual.ensures.1
     (loop.case-test-stop facts c.args.most c.args.cases.now c.loop-test.test-index c.loop-test-item.result
-    c.in_err-tests.field-0.0 c.loop-test-test.true c.loop-test-item.is c.in_err-tests.ensures)
+    c.in_err-can_pass.field-0.0 c.loop-test-test.true c.loop-test-item.is c.in_err-can_pass.ensures)
 
 pub chosen-returns-then-is_none : goal.chosen-returns-then-is_none
 chosen-returns-then-is_none g t c =
     let facts = facts_of (g.E.Env.facts_at c.args.env.now) in
     let next =
     loop.choice-goes-on facts c.args.most c.args.cases.now c.loop-test.test-index c.loop-test-item.result
-    c.loop-test.so_far c.in_ok-tests.tests c.in_ok-more.more c.loop-test.passes c.both-takes.result c.has.result
-    c.has-in-loop-test.result
-    c.both-passes.result c.loop-test-test.true c.loop-test-item.is c.loop-test.invariant c.in_ok-tests.ensures
-    c.in_ok-more.ensures c.has.ensures c.both-takes.ensures c.has-in-loop-test.ensures c.both-passes.ensures in
+    c.loop-test.so_far c.in_ok-more.more c.loop-test.passes c.both-takes.result c.in_ok-can_pass.can_pass
+    c.in_ok-can_pass.can_take c.both-passes.result c.loop-test-test.true c.loop-test-item.is c.loop-test.invariant
+    c.in_ok-can_pass.ensures c.in_ok-more.ensures c.both-takes.ensures c.both-passes.ensures in
     loop.choice-stops-early facts c.args.most c.args.cases.now
     (c.loop-test.test-index + 1) c.in_ok-more.more c.both-passes.result c.if-not-passes.true
     (loop.none-there _ c.is_none.result c.is_none.ensures c.if-is_none.true) next
@@ -357,9 +322,8 @@ chosen-returns-in_err-more g t c =
     (λ (r : Result (List Value × Bool) Stop). Chooses facts c.args.most r c.args.cases.now)
     c.from_residual-in_err-more.result c.in_err-more.field-0.0 c.from_residual-in_err-more.ensures.1
     (loop.case-branch-stop facts c.args.most c.args.cases.now c.loop-test.test-index c.loop-test-item.result
-    c.loop-test.so_far c.in_ok-tests.tests c.loop-test.passes c.both-takes.result c.has.result
-    c.in_err-more.field-0.0
-    c.loop-test-test.true c.loop-test-item.is c.loop-test.invariant c.in_ok-tests.ensures c.has.ensures
+    c.loop-test.so_far c.loop-test.passes c.both-takes.result c.in_ok-can_pass.can_pass c.in_ok-can_pass.can_take
+    c.in_err-more.field-0.0 c.loop-test-test.true c.loop-test-item.is c.loop-test.invariant c.in_ok-can_pass.ensures
     c.both-takes.ensures c.in_err-more.ensures)
 
 pub chosen-returns : goal.chosen-returns
@@ -396,10 +360,10 @@ pub chosen-offset_bounds-cases-test-index : goal.chosen-offset_bounds-cases-test
 chosen-offset_bounds-cases-test-index g t c =
     c.loop-test.auto.test-index-end
 
-pub chosen-yielded-requires : goal.chosen-yielded-requires
-chosen-yielded-requires g t c =
+pub chosen-truths-requires : goal.chosen-truths-requires
+chosen-truths-requires g t c =
     λ κs within. (
-      smaller.rank_falls 0 2 1 _ _ t refl
+      smaller.rank_falls 1 2 0 _ _ t refl
           (smaller.up-test c.args.cases.now c.loop-test.test-index c.loop-test-item.result c.loop-test-test.true
           c.loop-test-item.is) c.decreases,
       within,
@@ -508,10 +472,10 @@ pub with_branch-joined_where-requires : goal.with_branch-joined_where-requires
 with_branch-joined_where-requires g t c =
     c.requires
 
-pub yielded-yielded-requires : goal.yielded-yielded-requires
-yielded-yielded-requires g t c =
+pub yielded-truths-requires : goal.yielded-truths-requires
+yielded-truths-requires g t c =
     λ κs within. (
-      smaller.size_falls 0 2 _ _ t refl
+      smaller.size_falls 1 1 _ _ t refl
           (smaller.less-not c.args.expr.now c.deref.result.now c.in-Not.a c.in-Not.is c.deref.ensures) c.decreases,
       within,
     )
@@ -570,8 +534,8 @@ yielded-folded-requires-in-Count g t c =
       within,
     )
 
-pub yielded-yielded-requires-in-Compare : goal.yielded-yielded-requires-in-Compare
-yielded-yielded-requires-in-Compare g t c =
+pub yielded-yielded-requires : goal.yielded-yielded-requires
+yielded-yielded-requires g t c =
     λ κs within. (
       smaller.size_falls 0 2 _ _ t refl
           (smaller.less-left c.args.expr.now c.deref-in-Compare.result.now c.in-Compare.relation c.in-Compare.a
@@ -579,30 +543,14 @@ yielded-yielded-requires-in-Compare g t c =
       within,
     )
 
-pub yielded-yielded-requires-in-Compare-2 : goal.yielded-yielded-requires-in-Compare-2
-yielded-yielded-requires-in-Compare-2 g t c =
+pub yielded-compared-requires : goal.yielded-compared-requires
+yielded-compared-requires g t c =
     λ κs within. (
-      smaller.size_falls 0 2 _ _ t refl
+      smaller.size_falls 1 1 _ _ t refl
           (smaller.less-right c.args.expr.now c.deref-in-Compare-2.result.now c.in-Compare.relation c.in-Compare.a
           c.in-Compare.b c.in-Compare.is c.deref-in-Compare-2.ensures) c.decreases,
       within,
     )
-
-pub yielded-some_related-can_be_false-requires-clause-left : goal.yielded-some_related-can_be_false-requires-clause-left
-yielded-some_related-can_be_false-requires-clause-left g t c =
-    c.values.ensures.ascending
-
-pub yielded-some_related-can_be_false-requires-clause-right : goal.yielded-some_related-can_be_false-requires-clause-right
-yielded-some_related-can_be_false-requires-clause-right g t c =
-    c.values-in-Compare.ensures.ascending
-
-pub yielded-some_related-can_be_true-requires-clause-left : goal.yielded-some_related-can_be_true-requires-clause-left
-yielded-some_related-can_be_true-requires-clause-left g t c =
-    c.values-in-Compare-2.ensures.ascending
-
-pub yielded-some_related-can_be_true-requires-clause-right : goal.yielded-some_related-can_be_true-requires-clause-right
-yielded-some_related-can_be_true-requires-clause-right g t c =
-    c.values-in-Compare-3.ensures.ascending
 
 pub yielded-summed-requires : goal.yielded-summed-requires
 yielded-summed-requires g t c =
@@ -659,3 +607,53 @@ with_operand-returns g t c =
     (λ (l : List Value). Gathers c.args.most c.stepped.result (IsNext c.args.step c.args.first c.args.so_far l))
     c.values-2.ensures.values step1 in
     stepped {values = c.in_ok-set.set} c.in_ok-set.ensures step2
+
+pub compared-yielded-requires : goal.compared-yielded-requires
+compared-yielded-requires g t c =
+    λ κs within. (smaller.rank_falls 0 1 0 _ _ t refl (smaller.no_more _) c.decreases, within)
+
+pub compared-some_related-can_be_false-requires-clause-left : goal.compared-some_related-can_be_false-requires-clause-left
+compared-some_related-can_be_false-requires-clause-left g t c =
+    c.values.ensures.ascending
+
+pub compared-some_related-can_be_false-requires-clause-right : goal.compared-some_related-can_be_false-requires-clause-right
+compared-some_related-can_be_false-requires-clause-right g t c =
+    c.values-2.ensures.ascending
+
+pub compared-some_related-can_be_true-requires-clause-left : goal.compared-some_related-can_be_true-requires-clause-left
+compared-some_related-can_be_true-requires-clause-left g t c =
+    c.values-3.ensures.ascending
+
+pub compared-some_related-can_be_true-requires-clause-right : goal.compared-some_related-can_be_true-requires-clause-right
+compared-some_related-can_be_true-requires-clause-right g t c =
+    c.values-4.ensures.ascending
+
+pub compared-returns-in_err-right : goal.compared-returns-in_err-right
+compared-returns-in_err-right g t c =
+    let facts = facts_of (g.E.Env.facts_at c.args.env.now) in
+    err-same
+    (λ (r : Result (List Value) Stop). Relates facts c.args.most c.args.relation c.args.left r
+    (out-Expr g.row.V.Denot c.args.e.now)) c.from_residual.result c.in_err-right.field-0.0 c.from_residual.ensures.1
+    (right_stopped c.in_err-right.ensures refl)
+
+pub compared-returns : goal.compared-returns
+compared-returns g t c =
+    let f1 =
+    subst
+    (λ (l : List Value). IsTrue c.some_related-can_be_false.result
+    ↔ SomeRelated c.args.relation l c.values-2.result.now false) c.values.ensures.values
+    c.some_related-can_be_false.ensures in
+    let f2 =
+    subst
+    (λ (l : List Value). IsTrue c.some_related-can_be_false.result ↔ SomeRelated c.args.relation c.args.left l false)
+    c.values-2.ensures.values f1 in
+    let t1 =
+    subst
+    (λ (l : List Value). IsTrue c.some_related-can_be_true.result
+    ↔ SomeRelated c.args.relation l c.values-4.result.now true) c.values-3.ensures.values
+    c.some_related-can_be_true.ensures in
+    let t2 =
+    subst
+    (λ (l : List Value). IsTrue c.some_related-can_be_true.result ↔ SomeRelated c.args.relation c.args.left l true)
+    c.values-4.ensures.values t1 in
+    compared {values = c.in_ok-right.right} c.in_ok-right.ensures f2 t2 c.truth_set.ensures

@@ -477,7 +477,10 @@ module _ {V : Type 0} (facts : V → Value → Type 0) where
         };
         all = (
           (λ g. let m = q.0 g in passes-append (take i cs) (c ∷ []) (k.all.0 m.0) (t.opposite.0 m.1, tt)),
-          (λ d. q.1 (k.all.1 (passes-left (take i cs) (c ∷ []) d), t.opposite.1 (passes-right (take i cs) (c ∷ []) d).0)),
+          (λ d. q.1 (
+            k.all.1 (passes-left (take i cs) (c ∷ []) d),
+            t.opposite.1 (passes-right (take i cs) (c ∷ []) d).0,
+          )),
         );
       })
 

@@ -53,8 +53,8 @@ module _ {V : Type 0} where
   less-other e b cs a i j =
       let k = ap (size-Expr V) i ∙ view.sized-Choose V cs a in let l = ap (size-Expr V) j in omega arith
 
-  pub less-cases : (e : Expr V) (cs : Vec (Expr V × Expr V) Global) (a : Box (Expr V) Global) (xs : List (Expr V × Expr V))
-      → e ≡ view.Choose cs a → xs ≡ cs.items → most case_size xs < size-Expr V e
+  pub less-cases : (e : Expr V) (cs : Vec (Expr V × Expr V) Global) (a : Box (Expr V) Global)
+      (xs : List (Expr V × Expr V)) → e ≡ view.Choose cs a → xs ≡ cs.items → most case_size xs < size-Expr V e
   less-cases e cs a xs i j =
       let k = ap (size-Expr V) i ∙ view.sized-Choose V cs a in let l = ap (most case_size) j in omega arith
 
@@ -103,7 +103,8 @@ module _ {V : Type 0} where
       → size-Expr V x.1 ≤ most part_size xs
   up-part xs i x h is =
       let k : part_size x ≤ most part_size xs =
-      subst (λ (z : Bool × Expr V). part_size z ≤ most part_size xs) (sym is) (at_most part_size xs i x h) in omega arith
+      subst (λ (z : Bool × Expr V). part_size z ≤ most part_size xs) (sym is) (at_most part_size xs i x h) in
+      omega arith
 
   pub up-test : (xs : List (Expr V × Expr V)) (i : ℕ) (x : Expr V × Expr V) → i < length xs → x ≡ get_or xs i x
       → size-Expr V x.0 ≤ most case_size xs

@@ -319,7 +319,8 @@ eval_total-returns-in-Product g t c =
     let at = g.E.Env.value_at c.args.env.now in
     let fits : SFits w64 c.fold_total.result = search rules in
     ap Whole (to_z-of_z w64 _ fits)
-    ∙ by.value_of-product at c.args.expr.now c.in-Product.es c.deref-in-Product.result.now c.fold_total.result c.in-Product.is
+    ∙ by.value_of-product at c.args.expr.now c.in-Product.es c.deref-in-Product.result.now
+    c.fold_total.result c.in-Product.is
     c.deref-in-Product.ensures.value c.fold_total.ensures
 
 pub eval_total-returns-in-Least : goal.eval_total-returns-in-Least
@@ -327,7 +328,8 @@ eval_total-returns-in-Least g t c =
     let at = g.E.Env.value_at c.args.env.now in
     let fits : SFits w64 c.fold_total-in-Least.result = search rules in
     ap Whole (to_z-of_z w64 _ fits)
-    ∙ by.value_of-least at c.args.expr.now c.in-Least.es c.deref-in-Least.result.now c.fold_total-in-Least.result c.in-Least.is
+    ∙ by.value_of-least at c.args.expr.now c.in-Least.es c.deref-in-Least.result.now
+    c.fold_total-in-Least.result c.in-Least.is
     c.deref-in-Least.ensures.value c.fold_total-in-Least.ensures
 
 pub eval_total-returns-in-Greatest : goal.eval_total-returns-in-Greatest
@@ -335,7 +337,8 @@ eval_total-returns-in-Greatest g t c =
     let at = g.E.Env.value_at c.args.env.now in
     let fits : SFits w64 c.fold_total-in-Greatest.result = search rules in
     ap Whole (to_z-of_z w64 _ fits)
-    ∙ by.value_of-greatest at c.args.expr.now c.in-Greatest.es c.deref-in-Greatest.result.now c.fold_total-in-Greatest.result c.in-Greatest.is
+    ∙ by.value_of-greatest at c.args.expr.now c.in-Greatest.es c.deref-in-Greatest.result.now
+    c.fold_total-in-Greatest.result c.in-Greatest.is
     c.deref-in-Greatest.ensures.value c.fold_total-in-Greatest.ensures
 
 pub eval_total-returns-in-Count : goal.eval_total-returns-in-Count
@@ -343,7 +346,8 @@ eval_total-returns-in-Count g t c =
     let at = g.E.Env.value_at c.args.env.now in
     let fits : SFits w64 c.fold_total-in-Count.result = search rules in
     ap Whole (to_z-of_z w64 _ fits)
-    ∙ by.value_of-count at c.args.expr.now c.in-Count.es c.deref-in-Count.result.now c.fold_total-in-Count.result c.in-Count.is
+    ∙ by.value_of-count at c.args.expr.now c.in-Count.es c.deref-in-Count.result.now
+    c.fold_total-in-Count.result c.in-Count.is
     c.deref-in-Count.ensures.value c.fold_total-in-Count.ensures
 
 pub fold_total-loop-e-init : goal.fold_total-loop-e-init
@@ -397,7 +401,8 @@ sum_total-loop-plus-preserved g t c =
     let value = value_of (g.E.Env.value_at c.args.env.now) in
     let fits : SFits w64 c.next-sum.result = search rules in
     to_z-of_z w64 _ fits
-    ∙ by.sum_of-step value c.args.parts.now c.loop-plus.plus-index c.loop-plus-item.result _ c.eval_total.result c.next-sum.result
+    ∙ by.sum_of-step value c.args.parts.now c.loop-plus.plus-index c.loop-plus-item.result _
+    c.eval_total.result c.next-sum.result
     c.loop-plus-test.true c.loop-plus-item.is c.next-sum.ensures c.loop-plus.invariant c.eval_total.ensures
 
 pub sum_total-returns : goal.sum_total-returns

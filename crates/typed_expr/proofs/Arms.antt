@@ -1,12 +1,12 @@
 -- The arms of the evaluation of sets.
 use Rattle.std.proofs.Common.{◌≡◌, ℕ, ◌↔◌, Bool, true, false, IsTrue, List, [], ◌∷◌, Contains, Box, Vec, Global, Option, Result, Ok, Err, sym, ap, ◌∙◌, subst, ◌⊎◌}
 use Rattle.domains.specs.declared.Value.{Value}
-use Rattle.domains.specs.declared.Value.TheVariants.{Truth}
 use Rattle.typed_expr.specs.Sets.{Stopped, Gathers}
 use Rattle.typed_expr.specs.Sizes.{HasMoreThan}
 use Rattle.typed_expr.specs.Yields.{Level}
 use Rattle.typed_expr.specs.Possible.{IsWide}
-use Rattle.typed_expr.specs.Evaluating.{Evaluates, IsTruth, SomeRelated, SomeWide, Tallies, Folds, Sums, CaseWide, Took, Chooses, Joins}
+use Rattle.typed_expr.specs.Evaluating.{Evaluates, IsTruth, SomeRelated, SomeWide, Tallies, Folds, Sums, CaseWide, Took, Chooses, Joins, Tells, Relates}
+use Rattle.typed_expr.specs.Evaluating as ev
 use Rattle.typed_expr.specs.declared.expr.Relation.{Relation}
 use Rattle.typed_expr.specs.declared.expr.Expr.{Expr, out-Expr}
 use Rattle.typed_expr.specs.declared.expr.Expr as plain
@@ -44,12 +44,13 @@ module _ {V : Type 0} (facts : V → Value → Type 0) (most : Option ℕ) where
   variable-arm r e x i g =
       at r e (Variable x) (ap (out-Expr V) i ∙ opened-variable x) (form.variable-done facts most x r g)
 
-  pub not-arm : (r : Result (List Value) Stop) (e d : Expr V) (a : Box (Expr V) Global) (set : List Value) (f t : Bool)
+  pub not-arm : (r : Result (List Value) Stop) (e d : Expr V) (a : Box (Expr V) Global) (t f : Bool)
       → e ≡ view.Not a → d ≡ a.value
-      → Evaluates facts most (Ok set) (out-Expr V d) → IsTrue f ↔ Contains set (Truth true)
-      → IsTrue t ↔ Contains set (Truth false) → Gathers most r (IsTruth f t) → Evaluates facts most r (out-Expr V e)
-  not-arm r e d a set f t i j h p q g =
-      at r e (Not a) (opened-not e a i) (form.not-done facts most a set f t r (in_box (Ok set) d a j h) p q g)
+      → Tells facts most true (Ok (t, f)) (out-Expr V d) → Gathers most r (IsTruth f t)
+      → Evaluates facts most r (out-Expr V e)
+  not-arm r e d a t f i j h g =
+      let P : Expr V → Type 0 = λ z. Tells facts most true (Ok (t, f)) (out-Expr V z) in
+      at r e (Not a) (opened-not e a i) (form.not-done facts most a t f r (subst P j h) g)
 
   pub not-stop : (stop : Stop) (e d : Expr V) (a : Box (Expr V) Global) → e ≡ view.Not a → d ≡ a.value
       → Evaluates facts most (Err stop) (out-Expr V d) → Evaluates facts most (Err stop) (out-Expr V e)
@@ -85,7 +86,7 @@ module _ {V : Type 0} (facts : V → Value → Type 0) (most : Option ℕ) where
       stopped_at stop e (Any es) (SomeWide facts es.items) (opened-any e es i) (form.up-any facts es)
       (tallied_in false (Err stop) xs es j h)
 
-  pub compare-arm : (r : Result (List Value) Stop) (e c d : Expr V) (q : Relation) (a b : Box (Expr V) Global)
+  compare-arm : (r : Result (List Value) Stop) (e c d : Expr V) (q : Relation) (a b : Box (Expr V) Global)
       (xs ys : List Value) (f t : Bool)
       → e ≡ view.Compare q a b → c ≡ a.value → d ≡ b.value
       → Evaluates facts most (Ok xs) (out-Expr V c) → Evaluates facts most (Ok ys) (out-Expr V d)
@@ -102,12 +103,23 @@ module _ {V : Type 0} (facts : V → Value → Type 0) (most : Option ℕ) where
       stopped_at stop e (Compare q a b) (λ n. IsWide facts n (out-Expr V a.value)) (opened-compare e q a b i)
       (form.up-left facts q a b) (in_box (Err stop) c a j h)
 
-  pub right-stop : (stop : Stop) (e d : Expr V) (q : Relation) (a b : Box (Expr V) Global) → e ≡ view.Compare q a b
+  right-stop : (stop : Stop) (e d : Expr V) (q : Relation) (a b : Box (Expr V) Global) → e ≡ view.Compare q a b
       → d ≡ b.value → Evaluates facts most (Err stop) (out-Expr V d)
       → Evaluates facts most (Err stop) (out-Expr V e)
   right-stop stop e d q a b i j h =
       stopped_at stop e (Compare q a b) (λ n. IsWide facts n (out-Expr V b.value)) (opened-compare e q a b i)
       (form.up-right facts q a b) (in_box (Err stop) d b j h)
+
+  pub compared-arm : (r : Result (List Value) Stop) (e c d : Expr V) (q : Relation) (a b : Box (Expr V) Global)
+      (xs : List Value)
+      → e ≡ view.Compare q a b → c ≡ a.value → d ≡ b.value
+      → Evaluates facts most (Ok xs) (out-Expr V c) → Relates facts most q xs r (out-Expr V d)
+      → Evaluates facts most r (out-Expr V e)
+  compared-arm r e c d q a b xs i j k h (ev.compared {values = ys} {can_be_false = f} {can_be_true = t} l m n g) =
+      compare-arm r e c d q a b xs ys f t i j k h l m n g
+  compared-arm r e c d q a b xs i j k h (ev.right_stopped {stop = stop} l same) =
+      let P : Result (List Value) Stop → Type 0 = λ z. Evaluates facts most z (out-Expr V e) in
+      subst P (sym same) (right-stop stop e d q a b i k l)
 
   pub sum-arm : (r : Result (List Value) Stop) (e : Expr V) (xs : List (Bool × Expr V))
       (ps : Vec (Bool × Expr V) Global)

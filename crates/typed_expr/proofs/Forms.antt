@@ -10,7 +10,7 @@ use Rattle.typed_expr.specs.Sizes.{HasMoreThan}
 use Rattle.typed_expr.specs.Yields.{Level, facts_of, Yields, Some_yields, All_yield, Picks, Picks_parts, Takes}
 use Rattle.typed_expr.specs.Yields as y
 use Rattle.typed_expr.specs.Possible.{IsSubexpression, itself, in_not, in_all, in_any, in_left, in_right, in_sum, in_product, in_least, in_greatest, in_count, in_test, in_value, in_other, IsWide, subexpression, step}
-use Rattle.typed_expr.specs.Evaluating.{Evaluates, IsTruth, SomeRelated, SomeWide, Tallied, Tallies, FoldYields, SomeStep, Folds, SumYields, PartWide, Sums, CaseWide, Took, PassesAll, Chosen, Chooses, BranchYields, Joins}
+use Rattle.typed_expr.specs.Evaluating.{Evaluates, IsTruth, SomeRelated, SomeWide, Tallied, Tallies, FoldYields, SomeStep, Folds, SumYields, PartWide, Sums, CaseWide, Took, PassesAll, Chosen, Chooses, BranchYields, Joins, Told, Tells}
 use Rattle.typed_expr.specs.Folds.{fold_of}
 use Rattle.typed_expr.specs.declared.expr.Relation.{Relation}
 use Rattle.typed_expr.specs.declared.expr.Expr.{Expr, out-Expr}
@@ -270,28 +270,25 @@ module _ {V : Type 0} (facts : V → Value → Type 0) where
       finish most (Variable x) r (facts x) (λ n. ⊥) g (λ w m. y.variable m) (yielded_variable x) (wide-variable x)
       (nothing most)
 
-  to_not : (a : Box (Expr V) Global) (set : List Value) (can_be_false can_be_true : Bool)
-      → HasExactly set (Yields facts (out-Expr V a.value))
-      → (IsTrue can_be_false → Contains set (Truth true)) → (IsTrue can_be_true → Contains set (Truth false))
+  to_not : (a : Box (Expr V) Global) (can_be_true can_be_false : Bool)
+      → Told facts true can_be_true can_be_false (out-Expr V a.value)
       → (v : Value) → IsTruth can_be_false can_be_true v → Yields facts (Not a) v
-  to_not a set f t h p q v (inl m) = subst (Yields facts (Not a)) (sym m.1) (y.opposite (h.sound (Truth true) (p m.0)))
-  to_not a set f t h p q v (inr m) = subst (Yields facts (Not a)) (sym m.1) (y.opposite (h.sound (Truth false) (q m.0)))
+  to_not a t f h v (inl m) = subst (Yields facts (Not a)) (sym m.1) (y.opposite (h.same.0 m.0))
+  to_not a t f h v (inr m) = subst (Yields facts (Not a)) (sym m.1) (y.opposite (h.opposite.0 m.0))
 
-  from_not : (a : Box (Expr V) Global) (set : List Value) (can_be_false can_be_true : Bool)
-      → HasExactly set (Yields facts (out-Expr V a.value))
-      → (Contains set (Truth true) → IsTrue can_be_false) → (Contains set (Truth false) → IsTrue can_be_true)
+  from_not : (a : Box (Expr V) Global) (can_be_true can_be_false : Bool)
+      → Told facts true can_be_true can_be_false (out-Expr V a.value)
       → (v : Value) → Yields facts (Not a) v → IsTruth can_be_false can_be_true v
-  from_not a set f t h p q v (y.opposite {b = true} d) = inl (p (h.complete (Truth true) d), refl)
-  from_not a set f t h p q v (y.opposite {b = false} d) = inr (q (h.complete (Truth false) d), refl)
+  from_not a t f h v (y.opposite {b = true} d) = inl (h.same.1 d, refl)
+  from_not a t f h v (y.opposite {b = false} d) = inr (h.opposite.1 d, refl)
 
-  pub not-done : (most : Option ℕ) (a : Box (Expr V) Global) (set : List Value) (can_be_false can_be_true : Bool)
+  pub not-done : (most : Option ℕ) (a : Box (Expr V) Global) (can_be_true can_be_false : Bool)
       (r : Result (List Value) Stop)
-      → Evaluates facts most (Ok set) (out-Expr V a.value) → IsTrue can_be_false ↔ Contains set (Truth true)
-      → IsTrue can_be_true ↔ Contains set (Truth false)
+      → Tells facts most true (Ok (can_be_true, can_be_false)) (out-Expr V a.value)
       → Gathers most r (IsTruth can_be_false can_be_true) → Evaluates facts most r (Not a)
-  not-done most a set f t r h p q g =
-      finish most (Not a) r (IsTruth f t) (λ n. IsWide facts n (out-Expr V a.value)) g (to_not a set f t h.0 p.0 q.0)
-      (from_not a set f t h.0 p.1 q.1) (wide-not a) h.2
+  not-done most a t f r h g =
+      finish most (Not a) r (IsTruth f t) (λ n. IsWide facts n (out-Expr V a.value)) g (to_not a t f h.0)
+      (from_not a t f h.0) (wide-not a) h.1
 
   to_all : (es : Vec (Expr V) Global) (one_false all_true : Bool) → Tallied facts true one_false all_true es.items
       → (v : Value) → IsTruth one_false all_true v → Yields facts (All es) v

@@ -436,3 +436,7 @@ compares-differs kind = ((λ t. k.differs), (λ d. refl))
 
 pub not-empty : (n : ℕ) (b : Bool) → b ≡ nat_eq n 0 → b ≡ false → 0 < n
 not-empty n b e f = grind (arith, nat_tests)
+
+pub empty-has-none : (n : ℕ) (b : Bool) (P : Type 0) → b ≡ nat_eq n 0 → b ≡ true → IsTrue false ↔ ((0 < n) × P)
+empty-has-none n b P e f =
+    let none : n ≡ 0 = grind (arith, nat_tests) in ((λ z. cc), (λ z. let some : 0 < n = z.0 in absurd (omega arith)))

@@ -1,6 +1,8 @@
 mod Putting
 mod Ends
 mod Folding
+mod Totalled
+mod Shrinking
 mod Gathering
 mod Forms
 mod Loops

@@ -1,5 +1,5 @@
 -- The loops of the evaluation of sets, an operand at a time.
-use Rattle.std.proofs.Common.{◌≡◌, ℕ, ◌+◌, ◌<◌, ◌≤◌, ◌↔◌, ℤ, pos, Bool, true, false, not, IsTrue, List, [], ◌∷◌, ◌++◌, length, take, drop, Contains, get_or, is_some, Option, Some, None, Ok, Err, zero, suc, refl, sym, ap, ◌∙◌, subst, ◌⊎◌, inl, inr, arith}
+use Rattle.std.proofs.Common.{◌≡◌, ℕ, ◌+◌, ◌<◌, ◌≤◌, ◌↔◌, ℤ, pos, Bool, true, false, not, IsTrue, List, [], ◌∷◌, ◌++◌, length, take, drop, Contains, get_or, is_some, Option, Some, None, Result, Ok, Err, zero, suc, refl, sym, ap, ◌∙◌, subst, ◌⊎◌, inl, inr, arith}
 use Rattle.std.proofs.lemmas.List.{take_all, take-append-drop}
 use Rattle.std.proofs.lemmas.List.Sums.{fold_push}
 use Rattle.std.proofs.lemmas.Bool.{cases_lt}
@@ -15,7 +15,8 @@ use Rattle.typed_expr.specs.Sizes.{HasMoreThan}
 use Rattle.typed_expr.specs.Yields.{Level, Yields, Some_yields, All_yield, Picks, Picks_parts}
 use Rattle.typed_expr.specs.Yields as y
 use Rattle.typed_expr.specs.Possible.{IsWide}
-use Rattle.typed_expr.specs.Evaluating.{Told, Tells, Evaluates, IsNext, SomeWide, Tallied, Tallies, FoldYields, SomeStep, Folds, SumYields, PartWide, Sums, CaseWide, Took, PassesAll, Chosen, Chooses, BranchYields, Joins}
+use Rattle.typed_expr.specs.Evaluating.{Told, Tells, Evaluates, IsNext, Steps, SomeWide, Tallied, Tallies, FoldYields, SomeStep, Folds, SumYields, PartWide, Sums, CaseWide, Took, PassesAll, Chosen, Chooses, BranchYields, Joins}
+use Rattle.typed_expr.specs.Evaluating as ev
 use Rattle.typed_expr.specs.declared.expr.Expr.{Expr, out-Expr}
 use Rattle.typed_expr.specs.declared.fold.Step.{Step}
 use Rattle.typed_expr.specs.declared.fold.Step.TheVariants.{Part}
@@ -454,14 +455,15 @@ module _ {V : Type 0} (facts : V → Value → Type 0) where
   }
 
   -- one more case, whose test takes it or not
-  pub chosen-more : (cs : List (Expr V × Expr V)) (i : ℕ) (c : Expr V × Expr V) (set new tests : List Value) (passes passes_more can_pass : Bool)
+  pub chosen-more : (cs : List (Expr V × Expr V)) (i : ℕ) (c : Expr V × Expr V) (set new : List Value)
+      (passes passes_more can_pass can_take : Bool)
       → i < length cs → c ≡ get_or cs i c
-      → HasExactly tests (Yields facts (out-Expr V c.0)) → IsTrue can_pass ↔ Contains tests (Truth false)
+      → Told facts true can_pass can_take (out-Expr V c.0)
       → IsTrue passes_more ↔ (IsTrue passes × IsTrue can_pass)
       → ((v : Value) → Contains new v → Contains set v ⊎ (PassesAll facts (take i cs) × Took facts (c ∷ []) v))
       → ((v : Value) → Contains set v ⊎ (PassesAll facts (take i cs) × Took facts (c ∷ []) v) → Contains new v)
       → Chosen facts set passes (take i cs) → Chosen facts new passes_more (take (i + 1) cs)
-  chosen-more cs i c set new tests passes passes_more can_pass h is t p q down up k =
+  chosen-more cs i c set new passes passes_more can_pass can_take h is t q down up k =
       let P : List (Expr V × Expr V) → Type 0 = λ l. Chosen facts new passes_more l in
       subst P (sym (take_item cs i c h is)) (record {
         exact = record {
@@ -474,8 +476,11 @@ module _ {V : Type 0} (facts : V → Value → Type 0) where
               (took-append (take i cs) (c ∷ []) v d) [ inl n ↦ up v (inl (k.exact.complete v n)) | inr n ↦ up v (inr n) ];
         };
         all = (
-          (λ g. let m = q.0 g in passes-append (take i cs) (c ∷ []) (k.all.0 m.0) (t.sound (Truth false) (p.0 m.1), tt)),
-          (λ d. q.1 (k.all.1 (passes-left (take i cs) (c ∷ []) d), p.1 (t.complete (Truth false) (passes-right (take i cs) (c ∷ []) d).0))),
+          (λ g. let m = q.0 g in passes-append (take i cs) (c ∷ []) (k.all.0 m.0) (t.opposite.0 m.1, tt)),
+          (λ d. q.1 (
+            k.all.1 (passes-left (take i cs) (c ∷ []) d),
+            t.opposite.1 (passes-right (take i cs) (c ∷ []) d).0,
+          )),
         );
       })
 
@@ -635,6 +640,22 @@ module _ {V : Type 0} (facts : V → Value → Type 0) (most : Option ℕ) where
       (λ n. SomeWide facts es n ⊎ SomeStep (FoldYields facts s es) n)
       (λ n m. inr (record { place = i + 1; wide = more-than (fold-up facts s first es i e set values h is f.starts f.exact q.0) m })) stop g
 
+  pub fold-steps : (s : Step) (first : Bool) (es : List (Expr V)) (i : ℕ) (e : Expr V) (set new : List Value)
+      → i < length es → e ≡ get_or es i e → FoldSoFar facts most s first set es i
+      → Steps facts most s first set (Ok new) (out-Expr V e) → FoldSoFar facts most s false new es (i + 1)
+  fold-steps s first es i e set new h is f (ev.stepped {values = values} q g) =
+      fold-goes-on s first es i e set values new h is f q g
+  fold-steps s first es i e set new h is f (ev.operand_stopped q same) = cc
+
+  pub fold-stops : (s : Step) (first : Bool) (es : List (Expr V)) (i : ℕ) (e : Expr V) (set : List Value) (stop : Stop)
+      → i < length es → e ≡ get_or es i e → FoldSoFar facts most s first set es i
+      → Steps facts most s first set (Err stop) (out-Expr V e) → Folds facts most s (Err stop) es
+  fold-stops s first es i e set stop h is f (ev.stepped {values = values} q g) =
+      fold-step-stop s first es i e set values stop h is f q g
+  fold-stops s first es i e set stop h is f (ev.operand_stopped {stop = first_stop} q same) =
+      let P : Result (List Value) Stop → Type 0 = λ r. Folds facts most s r es in
+      subst P (sym same) (fold-operand-stop s es i e first_stop h is q)
+
   pub fold-ends : (s : Step) (first : Bool) (es : List (Expr V)) (i : ℕ) (set : List Value) → length es ≤ i
       → FoldSoFar facts most s first set es i → Folds facts most s (Ok set) es
   fold-ends s first es i set h f = folds-end facts most s es i set h f.exact f.keeps f.narrow f.steps
@@ -685,35 +706,51 @@ module _ {V : Type 0} (facts : V → Value → Type 0) (most : Option ℕ) where
       (λ n. PartWide facts ps n ⊎ SomeStep (SumYields facts ps) n)
       (λ n m. inr (record { place = i + 1; wide = more-than (sum-up facts ps i p set values h is f.exact q.0) m })) stop g
 
+  pub sum-steps : (ps : List (Bool × Expr V)) (i : ℕ) (p : Bool × Expr V) (set new : List Value)
+      → i < length ps → p ≡ get_or ps i p → SumSoFar facts most set ps i
+      → Steps facts most (Part p.0) false set (Ok new) (out-Expr V p.1) → SumSoFar facts most new ps (i + 1)
+  sum-steps ps i p set new h is f (ev.stepped {values = values} q g) = sum-goes-on ps i p set values new h is f q g
+  sum-steps ps i p set new h is f (ev.operand_stopped q same) = cc
+
+  pub sum-stops : (ps : List (Bool × Expr V)) (i : ℕ) (p : Bool × Expr V) (set : List Value) (stop : Stop)
+      → i < length ps → p ≡ get_or ps i p → SumSoFar facts most set ps i
+      → Steps facts most (Part p.0) false set (Err stop) (out-Expr V p.1) → Sums facts most (Err stop) ps
+  sum-stops ps i p set stop h is f (ev.stepped {values = values} q g) = sum-step-stop ps i p set values stop h is f q g
+  sum-stops ps i p set stop h is f (ev.operand_stopped {stop = first_stop} q same) =
+      let P : Result (List Value) Stop → Type 0 = λ r. Sums facts most r ps in
+      subst P (sym same) (sum-operand-stop ps i p first_stop h is q)
+
   pub sum-ends : (ps : List (Bool × Expr V)) (i : ℕ) (set : List Value) → length ps ≤ i → SumSoFar facts most set ps i
       → Sums facts most (Ok set) ps
   sum-ends ps i set h f = sums-end facts most ps i set h f.exact f.keeps f.narrow f.steps
 
   -- what a case adds: what its value yields, where its test takes it
-  case_down : (cs : List (Expr V × Expr V)) (i : ℕ) (c : Expr V × Expr V) (set tests : List Value) (passes takes : Bool)
+  case_down : (cs : List (Expr V × Expr V)) (i : ℕ) (c : Expr V × Expr V) (set : List Value)
+      (passes takes can_pass can_take : Bool)
       → ChoiceSoFar facts most set passes cs i
-      → HasExactly tests (Yields facts (out-Expr V c.0)) → (IsTrue takes → IsTrue passes × Contains tests (Truth true))
+      → Told facts true can_pass can_take (out-Expr V c.0) → (IsTrue takes → IsTrue passes × IsTrue can_take)
       → (v : Value) → BranchYields facts takes set (out-Expr V c.1) v
       → Contains set v ⊎ (PassesAll facts (take i cs) × Took facts (c ∷ []) v)
-  case_down cs i c set tests passes takes f t p v (inl m) = inl m
-  case_down cs i c set tests passes takes f t p v (inr m) =
+  case_down cs i c set passes takes can_pass can_take f t p v (inl m) = inl m
+  case_down cs i c set passes takes can_pass can_take f t p v (inr m) =
       let q = p m.0 in
-      inr (f.chosen.all.0 q.0, inl (t.sound (Truth true) q.1, m.1))
+      inr (f.chosen.all.0 q.0, inl (t.same.0 q.1, m.1))
 
   took_one : (c : Expr V × Expr V) (v : Value) → Took facts (c ∷ []) v
       → Yields facts (out-Expr V c.0) (Truth true) × Yields facts (out-Expr V c.1) v
   took_one c v (inl h) = h
   took_one c v (inr h) = absurd h.1
 
-  case_up : (cs : List (Expr V × Expr V)) (i : ℕ) (c : Expr V × Expr V) (set tests : List Value) (passes takes : Bool)
+  case_up : (cs : List (Expr V × Expr V)) (i : ℕ) (c : Expr V × Expr V) (set : List Value)
+      (passes takes can_pass can_take : Bool)
       → ChoiceSoFar facts most set passes cs i
-      → HasExactly tests (Yields facts (out-Expr V c.0)) → (IsTrue passes × Contains tests (Truth true) → IsTrue takes)
+      → Told facts true can_pass can_take (out-Expr V c.0) → (IsTrue passes × IsTrue can_take → IsTrue takes)
       → (v : Value) → Contains set v ⊎ (PassesAll facts (take i cs) × Took facts (c ∷ []) v)
       → BranchYields facts takes set (out-Expr V c.1) v
-  case_up cs i c set tests passes takes f t p v (inl m) = inl m
-  case_up cs i c set tests passes takes f t p v (inr m) =
+  case_up cs i c set passes takes can_pass can_take f t p v (inl m) = inl m
+  case_up cs i c set passes takes can_pass can_take f t p v (inr m) =
       let k = took_one c v m.1 in
-      inr (p (f.chosen.all.1 m.0, t.complete (Truth true) k.0), k.1)
+      inr (p (f.chosen.all.1 m.0, t.same.1 k.0), k.1)
 
   pub choice-begins : (cs : List (Expr V × Expr V)) (set : List Value) → set ≡ [] → KeepsLimit most set
       → ChoiceSoFar facts most set true cs 0
@@ -723,19 +760,20 @@ module _ {V : Type 0} (facts : V → Value → Type 0) (most : Option ℕ) where
     narrow = case-narrow-start facts most;
   }
 
-  pub choice-goes-on : (cs : List (Expr V × Expr V)) (i : ℕ) (c : Expr V × Expr V) (set tests new : List Value) (passes takes can_take can_pass passes_more : Bool)
+  pub choice-goes-on : (cs : List (Expr V × Expr V)) (i : ℕ) (c : Expr V × Expr V) (set new : List Value)
+      (passes takes can_pass can_take passes_more : Bool)
       → i < length cs → c ≡ get_or cs i c
-      → ChoiceSoFar facts most set passes cs i → Evaluates facts most (Ok tests) (out-Expr V c.0)
+      → ChoiceSoFar facts most set passes cs i → Tells facts most true (Ok (can_pass, can_take)) (out-Expr V c.0)
       → Joins facts most (Ok new) takes set (out-Expr V c.1)
-      → IsTrue can_take ↔ Contains tests (Truth true) → IsTrue takes ↔ (IsTrue passes × IsTrue can_take)
-      → IsTrue can_pass ↔ Contains tests (Truth false) → IsTrue passes_more ↔ (IsTrue passes × IsTrue can_pass)
+      → IsTrue takes ↔ (IsTrue passes × IsTrue can_take)
+      → IsTrue passes_more ↔ (IsTrue passes × IsTrue can_pass)
       → ChoiceSoFar facts most new passes_more cs (i + 1)
-  choice-goes-on cs i c set tests new passes takes can_take can_pass passes_more h is f t g a p q o = record {
-    chosen = chosen-more facts cs i c set new tests passes passes_more can_pass h is t.0 q o
-        (λ v m. case_down cs i c set tests passes takes f t.0 (λ k. let z = p.0 k in (z.0, a.0 z.1)) v (g.0.sound v m))
-        (λ v m. g.0.complete v (case_up cs i c set tests passes takes f t.0 (λ k. p.1 (k.0, a.1 k.1)) v m)) f.chosen;
+  choice-goes-on cs i c set new passes takes can_pass can_take passes_more h is f t g p o = record {
+    chosen = chosen-more facts cs i c set new passes passes_more can_pass can_take h is t.0 o
+        (λ v m. case_down cs i c set passes takes can_pass can_take f t.0 p.0 v (g.0.sound v m))
+        (λ v m. g.0.complete v (case_up cs i c set passes takes can_pass can_take f t.0 p.1 v m)) f.chosen;
     keeps = g.1;
-    narrow = case-narrow-more facts most cs i c h is f.narrow t.2 g.2;
+    narrow = case-narrow-more facts most cs i c h is f.narrow t.1 g.2;
   }
 
   pub case-test-stop : (cs : List (Expr V × Expr V)) (i : ℕ) (c : Expr V × Expr V) (stop : Stop) → i < length cs
@@ -749,12 +787,13 @@ module _ {V : Type 0} (facts : V → Value → Type 0) (most : Option ℕ) where
       let P : List (Expr V × Expr V) → Type 0 = λ l. Took facts l v in
       subst P (take-append-drop i cs) (took-left facts (take i cs) (drop i cs) v m)
 
-  pub case-branch-stop : (cs : List (Expr V × Expr V)) (i : ℕ) (c : Expr V × Expr V) (set tests : List Value) (passes takes can_take : Bool) (stop : Stop)
+  pub case-branch-stop : (cs : List (Expr V × Expr V)) (i : ℕ) (c : Expr V × Expr V) (set : List Value)
+      (passes takes can_pass can_take : Bool) (stop : Stop)
       → i < length cs → c ≡ get_or cs i c
-      → ChoiceSoFar facts most set passes cs i → Evaluates facts most (Ok tests) (out-Expr V c.0)
-      → IsTrue can_take ↔ Contains tests (Truth true) → IsTrue takes ↔ (IsTrue passes × IsTrue can_take)
+      → ChoiceSoFar facts most set passes cs i → Tells facts most true (Ok (can_pass, can_take)) (out-Expr V c.0)
+      → IsTrue takes ↔ (IsTrue passes × IsTrue can_take)
       → Joins facts most (Err stop) takes set (out-Expr V c.1) → Chooses facts most (Err stop) cs
-  case-branch-stop cs i c set tests passes takes can_take stop h is f t a p g =
+  case-branch-stop cs i c set passes takes can_pass can_take stop h is f t p g =
       stopped-up most
       (λ n. IsWide facts n (out-Expr V c.1) ⊎ HasMoreThan n (BranchYields facts takes set (out-Expr V c.1)))
       (λ n. CaseWide facts cs n ⊎ HasMoreThan n (Took facts cs))
@@ -763,7 +802,7 @@ module _ {V : Type 0} (facts : V → Value → Type 0) (most : Option ℕ) where
         | inr m ↦ inr (more-than (λ v k. took_within cs (i + 1) v
             (let P : List (Expr V × Expr V) → Type 0 = λ l. Took facts l v in
             subst P (sym (take_item cs i c h is))
-            (elim (case_down cs i c set tests passes takes f t.0 (λ k. let z = p.0 k in (z.0, a.0 z.1)) v k) [
+            (elim (case_down cs i c set passes takes can_pass can_take f t.0 p.0 v k) [
               | inl b ↦ took-left facts (take i cs) (c ∷ []) v (f.chosen.exact.sound v b)
               | inr b ↦ took-right facts (take i cs) (c ∷ []) v b.0 b.1
             ]))) m)

@@ -5,7 +5,7 @@ use Rattle.domains.specs.declared.Value.TheVariants.{Truth, Whole}
 use Rattle.domains.specs.Values.{whole_of}
 use Rattle.typed_expr.specs.Values.{sum_of, is_related}
 use Rattle.typed_expr.specs.Folds.{fold_of, next_of}
-use Rattle.typed_expr.specs.Sets.{HasExactly, AtLimit, KeepsLimit, Stopped}
+use Rattle.typed_expr.specs.Sets.{HasExactly, AtLimit, KeepsLimit, Stopped, Gathers}
 use Rattle.typed_expr.specs.Sizes.{HasMoreThan}
 use Rattle.typed_expr.specs.Yields.{Level, Yields, Some_yields, All_yield, Picks, Picks_parts}
 use Rattle.typed_expr.specs.Possible.{IsWide}
@@ -32,6 +32,16 @@ pub record SomeRelated (r : Relation) (xs ys : List Value) (wanted : Bool) : Typ
   pub in_right : Contains ys right
   pub related : is_related r left right ≡ wanted
 
+-- the truth values of the comparison of a value of the list with one that the operand yields; or the evaluation of
+-- the operand stopped, and so does the comparison
+pub data Relates {V : Type 0} (facts : V → Value → Type 0) (most : Option ℕ) (q : Relation) (left : List Value)
+    (r : Result (List Value) Stop) (right : Level V) : Type 0 where
+  compared : {values : List Value} {can_be_false can_be_true : Bool} → Evaluates facts most (Ok values) right
+      → IsTrue can_be_false ↔ SomeRelated q left values false → IsTrue can_be_true ↔ SomeRelated q left values true
+      → Gathers most r (IsTruth can_be_false can_be_true) → Relates facts most q left r right
+  right_stopped : {stop : Stop} → Evaluates facts most (Err stop) right → r ≡ Err stop
+      → Relates facts most q left r right
+
 -- a number of the first list, with one value of the second as the next operand
 pub record IsNext (s : Step) (first : Bool) (numbers values : List Value) (v : Value) : Type 0 where
   pub number : Value
@@ -39,6 +49,14 @@ pub record IsNext (s : Step) (first : Bool) (numbers values : List Value) (v : V
   pub in_numbers : Contains numbers number
   pub in_values : Contains values value
   pub is : v ≡ Whole (next_of s first (whole_of number) value)
+
+-- the numbers with each value that the operand yields as the next one; or its evaluation stopped, and so does the step
+pub data Steps {V : Type 0} (facts : V → Value → Type 0) (most : Option ℕ) (s : Step) (first : Bool)
+    (numbers : List Value) (r : Result (List Value) Stop) (e : Level V) : Type 0 where
+  stepped : {values : List Value} → Evaluates facts most (Ok values) e
+      → Gathers most r (IsNext s first numbers values) → Steps facts most s first numbers r e
+  operand_stopped : {stop : Stop} → Evaluates facts most (Err stop) e → r ≡ Err stop
+      → Steps facts most s first numbers r e
 
 -- one of the expressions is too wide
 pub record SomeWide {V : Type 0} (facts : V → Value → Type 0) (es : List (Expr V)) (most : ℕ) : Type 0 where

@@ -6,10 +6,10 @@ ghost use Rattle.typed_expr.specs.declared.expr.Expr.{out-Expr};
 ghost use Rattle.typed_expr.specs.Sets.{HasExactly, KeepsLimit};
 ghost use Rattle.typed_expr.specs.Yields.{Yields, facts_of};
 ghost use Rattle.typed_expr.specs.Possible.{IsWide};
-ghost use Rattle.typed_expr.specs.Evaluating.{Evaluates, Tells, Tallies, Folds, Sums, Chooses, Joins};
+ghost use Rattle.typed_expr.specs.Evaluating.{Evaluates, Relates, Tells, Tallies, Steps, Folds, Sums, Chooses, Joins};
 
 use crate::env::Env;
-use crate::expr::Expr;
+use crate::expr::{Expr, Relation};
 use crate::fold::{Step, start_value};
 use crate::relations::some_related;
 use crate::sets::{both, either, gathered, joined_where, stepped, truth_set};
@@ -75,13 +75,8 @@ fn yielded<V, E: Env<V>>(
         Expr::Constant(v) => gathered(alloc, &[*v], most),
         Expr::Variable(x) => gathered(alloc, env.facts(x), most),
         Expr::Not(a) => {
-            let set = yielded(alloc, a, env, most)?;
-            truth_set(
-                alloc,
-                set.has(Value::Truth(true)),
-                set.has(Value::Truth(false)),
-                most,
-            )
+            let (can_be_true, can_be_false) = truths(alloc, a, env, most, true)?;
+            truth_set(alloc, can_be_false, can_be_true, most)
         }
         Expr::All(es) => {
             let (one_false, all_true) = tally(alloc, es, env, most, true)?;
@@ -93,10 +88,7 @@ fn yielded<V, E: Env<V>>(
         }
         Expr::Compare(relation, a, b) => {
             let left = yielded(alloc, a, env, most)?;
-            let right = yielded(alloc, b, env, most)?;
-            let can_be_false = some_related(*relation, left.values(), right.values(), false);
-            let can_be_true = some_related(*relation, left.values(), right.values(), true);
-            truth_set(alloc, can_be_false, can_be_true, most)
+            compared(alloc, b, env, most, *relation, left)
         }
         Expr::Sum(parts) => summed(alloc, parts, env, most),
         Expr::Product(es) => folded(alloc, es, env, most, Step::Times),
@@ -108,6 +100,24 @@ fn yielded<V, E: Env<V>>(
             with_branch(alloc, other, env, most, passes, set)
         }
     }
+}
+
+// The truth values of the comparison of a value of the set with one that the operand yields.
+#[cycle(yielded)]
+fn compared<V, E: Env<V>>(
+    alloc: Global,
+    e: &Expr<V>,
+    env: &E,
+    most: Option<u32>,
+    relation: Relation,
+    left: ValueSet,
+) -> Result<ValueSet, Stop>
+    ensures { Relates (facts_of (E.facts_at env.now)) most relation left result (out-Expr V e.now) }
+{
+    let right = yielded(alloc, e, env, most)?;
+    let can_be_false = some_related(relation, left.values(), right.values(), false);
+    let can_be_true = some_related(relation, left.values(), right.values(), true);
+    truth_set(alloc, can_be_false, can_be_true, most)
 }
 
 // Whether one operand yields the opposite truth value, and whether each yields this one.
@@ -173,8 +183,7 @@ fn folded<V, E: Env<V>>(
     let mut so_far = gathered(alloc, &[start_value(step)], most)?;
     let mut first = true;
     for e in es {
-        let set = yielded(alloc, e, env, most)?;
-        let more = stepped(alloc, step, first, so_far.values(), set.values(), most)?;
+        let more = with_operand(alloc, e, env, most, step, first, so_far)?;
         so_far = more;
         first = false;
     }
@@ -193,18 +202,27 @@ fn summed<V, E: Env<V>>(
 {
     let mut so_far = gathered(alloc, &[Value::Whole(0)], most)?;
     for (plus, e) in parts {
-        let set = yielded(alloc, e, env, most)?;
-        let more = stepped(
-            alloc,
-            Step::Part(*plus),
-            false,
-            so_far.values(),
-            set.values(),
-            most,
-        )?;
+        let more = with_operand(alloc, e, env, most, Step::Part(*plus), false, so_far)?;
         so_far = more;
     }
     Ok(so_far)
+}
+
+// What a fold comes to with one more operand, from the set of what it came to before.
+#[cycle(yielded)]
+fn with_operand<V, E: Env<V>>(
+    alloc: Global,
+    e: &Expr<V>,
+    env: &E,
+    most: Option<u32>,
+    step: Step,
+    first: bool,
+    so_far: ValueSet,
+) -> Result<ValueSet, Stop>
+    ensures { Steps (facts_of (E.facts_at env.now)) most step first so_far result (out-Expr V e.now) }
+{
+    let set = yielded(alloc, e, env, most)?;
+    stepped(alloc, step, first, so_far.values(), set.values(), most)
 }
 
 // What the cases yield that their tests take, and whether the tests pass them all.
@@ -220,11 +238,11 @@ fn chosen<V, E: Env<V>>(
     let mut so_far = ValueSet::new(alloc);
     let mut passes = true;
     for (test, value) in cases {
-        let tests = yielded(alloc, test, env, most)?;
-        let takes = both(passes, tests.has(Value::Truth(true)));
+        let (can_pass, can_take) = truths(alloc, test, env, most, true)?;
+        let takes = both(passes, can_take);
         let more = with_branch(alloc, value, env, most, takes, so_far)?;
         so_far = more;
-        passes = both(passes, tests.has(Value::Truth(false)));
+        passes = both(passes, can_pass);
         if !passes && most.is_none() {
             return Ok((so_far, false));
         }

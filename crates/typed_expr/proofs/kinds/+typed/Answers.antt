@@ -1,5 +1,7 @@
 use Rattle.std.proofs.Common.{length}
+use borrow.Author.Count.{falls}
 use Rattle.typed_expr.proofs.Kinded as kinded
+use Rattle.typed_expr.proofs.Shrinking as smaller
 use Rattle.typed_expr.proofs.kinds.+typed.Goals as goal
 
 pub typed-returns-in-Constant : goal.typed-returns-in-Constant
@@ -177,3 +179,182 @@ each_case-returns g t c =
     kinded.cases-end kinds c.args.cases.now c.loop-test.test-index c.args.kind
     (kinded.not-empty (length c.args.cases.now) c.is_empty.result c.is_empty.ensures c.if-is_empty.false)
     c.loop-test-test.false c.loop-test.invariant
+
+pub each_case-returns-then-is_empty : goal.each_case-returns-then-is_empty
+each_case-returns-then-is_empty g t c =
+    kinded.empty-has-none _ c.is_empty.result _ c.is_empty.ensures c.if-is_empty.true
+
+pub each_case-offset_bounds-cases-test-index : goal.each_case-offset_bounds-cases-test-index
+each_case-offset_bounds-cases-test-index g t c =
+    c.loop-test.auto.test-index-end
+
+pub each_case-typed-requires : goal.each_case-typed-requires
+each_case-typed-requires g t c =
+    λ κs within. (
+      smaller.item_falls _ _ t
+          (smaller.up-test c.args.cases.now c.loop-test.test-index c.loop-test-item.result c.loop-test-test.true
+          c.loop-test-item.is) c.decreases,
+      within,
+    )
+
+pub each_case-typed-requires-in-loop-test : goal.each_case-typed-requires-in-loop-test
+each_case-typed-requires-in-loop-test g t c =
+    λ κs within. (
+      smaller.item_falls _ _ t
+          (smaller.up-value c.args.cases.now c.loop-test.test-index c.loop-test-item.result c.loop-test-test.true
+          c.loop-test-item.is) c.decreases,
+      within,
+    )
+
+pub each_case-loop-test-smaller : goal.each_case-loop-test-smaller
+each_case-loop-test-smaller g t c =
+    falls _ c.loop-test.test-index c.loop-test-test.true
+
+pub each_has-returns-then-is_empty : goal.each_has-returns-then-is_empty
+each_has-returns-then-is_empty g t c =
+    kinded.empty-has-none _ c.is_empty.result _ c.is_empty.ensures c.if-is_empty.true
+
+pub each_has-offset_bounds-es-e-index : goal.each_has-offset_bounds-es-e-index
+each_has-offset_bounds-es-e-index g t c =
+    c.loop-e.auto.e-index-end
+
+pub each_has-typed-requires : goal.each_has-typed-requires
+each_has-typed-requires g t c =
+    λ κs within. (
+      smaller.item_falls _ _ t
+          (smaller.up-item c.args.es.now c.loop-e.e-index c.e-item.result c.loop-e-test.true
+          c.e-item.is) c.decreases,
+      within,
+    )
+
+pub each_has-loop-e-smaller : goal.each_has-loop-e-smaller
+each_has-loop-e-smaller g t c =
+    falls _ c.loop-e.e-index c.loop-e-test.true
+
+pub each_part-returns-then-is_empty : goal.each_part-returns-then-is_empty
+each_part-returns-then-is_empty g t c =
+    kinded.empty-has-none _ c.is_empty.result _ c.is_empty.ensures c.if-is_empty.true
+
+pub each_part-offset_bounds-parts-e-index : goal.each_part-offset_bounds-parts-e-index
+each_part-offset_bounds-parts-e-index g t c =
+    c.loop-e.auto.e-index-end
+
+pub each_part-typed-requires : goal.each_part-typed-requires
+each_part-typed-requires g t c =
+    λ κs within. (
+      smaller.item_falls _ _ t
+          (smaller.up-part c.args.parts.now c.loop-e.e-index c.loop-e-item.result c.loop-e-test.true
+          c.loop-e-item.is) c.decreases,
+      within,
+    )
+
+pub each_part-loop-e-smaller : goal.each_part-loop-e-smaller
+each_part-loop-e-smaller g t c =
+    falls _ c.loop-e.e-index c.loop-e-test.true
+
+pub typed-typed-requires : goal.typed-typed-requires
+typed-typed-requires g t c =
+    λ κs within. (
+      smaller.one_falls _ _ t
+          (smaller.less-not c.args.expr.now c.deref.result.now c.in-Not.a c.in-Not.is c.deref.ensures) c.decreases,
+      within,
+    )
+
+pub typed-each_has-requires : goal.typed-each_has-requires
+typed-each_has-requires g t c =
+    λ κs within. (
+      smaller.list_falls _ _ t
+          (smaller.less-all c.args.expr.now c.in-All.es c.deref-in-All.result.now c.in-All.is
+          c.deref-in-All.ensures.value) c.decreases,
+      within,
+    )
+
+pub typed-each_has-requires-in-Any : goal.typed-each_has-requires-in-Any
+typed-each_has-requires-in-Any g t c =
+    λ κs within. (
+      smaller.list_falls _ _ t
+          (smaller.less-any c.args.expr.now c.in-Any.es c.deref-in-Any.result.now c.in-Any.is
+          c.deref-in-Any.ensures.value) c.decreases,
+      within,
+    )
+
+pub typed-each_has-requires-in-Product : goal.typed-each_has-requires-in-Product
+typed-each_has-requires-in-Product g t c =
+    λ κs within. (
+      smaller.list_falls _ _ t
+          (smaller.less-product c.args.expr.now c.in-Product.es c.deref-in-Product.result.now c.in-Product.is
+          c.deref-in-Product.ensures.value) c.decreases,
+      within,
+    )
+
+pub typed-each_has-requires-in-Least : goal.typed-each_has-requires-in-Least
+typed-each_has-requires-in-Least g t c =
+    λ κs within. (
+      smaller.list_falls _ _ t
+          (smaller.less-least c.args.expr.now c.in-Least.es c.deref-in-Least.result.now c.in-Least.is
+          c.deref-in-Least.ensures.value) c.decreases,
+      within,
+    )
+
+pub typed-each_has-requires-in-Greatest : goal.typed-each_has-requires-in-Greatest
+typed-each_has-requires-in-Greatest g t c =
+    λ κs within. (
+      smaller.list_falls _ _ t
+          (smaller.less-greatest c.args.expr.now c.in-Greatest.es c.deref-in-Greatest.result.now c.in-Greatest.is
+          c.deref-in-Greatest.ensures.value) c.decreases,
+      within,
+    )
+
+pub typed-each_has-requires-in-Count : goal.typed-each_has-requires-in-Count
+typed-each_has-requires-in-Count g t c =
+    λ κs within. (
+      smaller.list_falls _ _ t
+          (smaller.less-count c.args.expr.now c.in-Count.es c.deref-in-Count.result.now c.in-Count.is
+          c.deref-in-Count.ensures.value) c.decreases,
+      within,
+    )
+
+pub typed-typed-requires-in-Compare : goal.typed-typed-requires-in-Compare
+typed-typed-requires-in-Compare g t c =
+    λ κs within. (
+      smaller.one_falls _ _ t
+          (smaller.less-left c.args.expr.now c.deref-in-Compare.result.now c.in-Compare.relation c.in-Compare.a
+          c.in-Compare.b c.in-Compare.is c.deref-in-Compare.ensures) c.decreases,
+      within,
+    )
+
+pub typed-typed-requires-in-Some : goal.typed-typed-requires-in-Some
+typed-typed-requires-in-Some g t c =
+    λ κs within. (
+      smaller.one_falls _ _ t
+          (smaller.less-right c.args.expr.now c.deref-in-Some.result.now c.in-Compare.relation c.in-Compare.a
+          c.in-Compare.b c.in-Compare.is c.deref-in-Some.ensures) c.decreases,
+      within,
+    )
+
+pub typed-each_part-requires : goal.typed-each_part-requires
+typed-each_part-requires g t c =
+    λ κs within. (
+      smaller.list_falls _ _ t
+          (smaller.less-parts c.args.expr.now c.in-Sum.parts c.deref-in-Sum.result.now c.in-Sum.is
+          c.deref-in-Sum.ensures.value) c.decreases,
+      within,
+    )
+
+pub typed-typed-requires-in-Choose : goal.typed-typed-requires-in-Choose
+typed-typed-requires-in-Choose g t c =
+    λ κs within. (
+      smaller.one_falls _ _ t
+          (smaller.less-other c.args.expr.now c.deref-in-Choose.result.now c.in-Choose.cases c.in-Choose.other
+          c.in-Choose.is c.deref-in-Choose.ensures) c.decreases,
+      within,
+    )
+
+pub typed-each_case-requires : goal.typed-each_case-requires
+typed-each_case-requires g t c =
+    λ κs within. (
+      smaller.list_falls _ _ t
+          (smaller.less-cases c.args.expr.now c.in-Choose.cases c.in-Choose.other c.deref-in-Some-typed.result.now
+          c.in-Choose.is c.deref-in-Some-typed.ensures.value) c.decreases,
+      within,
+    )

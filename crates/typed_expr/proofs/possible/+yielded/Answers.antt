@@ -1,18 +1,19 @@
-use Rattle.std.proofs.Common.{◌≡◌, ◌+◌, ◌↔◌, ℕ, List, Bool, not, Contains, Option, Some, None, Result, Ok, Err, IsTrue, refl, sym, subst, true, false}
+use Rattle.std.proofs.Common.{◌≡◌, ◌+◌, ◌↔◌, ℕ, List, Bool, not, Contains, Option, Some, None, Result, Ok, IsTrue, refl, sym, subst, true, false}
 use Rattle.std.specs.Option.{is_some}
+use borrow.Author.Count.{falls}
 use Rattle.domains.specs.declared.Value.{Value}
 use Rattle.domains.specs.declared.Value.TheVariants.{Truth}
 use Rattle.typed_expr.specs.Sets.{Gathers}
 use Rattle.typed_expr.specs.Yields.{facts_of}
-use Rattle.typed_expr.specs.Evaluating.{Evaluates, Tells, Tallies, Folds, Sums, Chooses, Joins, SomeRelated, IsNext}
+use Rattle.typed_expr.specs.Evaluating.{Evaluates, Relates, compared, right_stopped, Tells, Tallies, Steps, stepped, operand_stopped, Folds, Sums, Chooses, Joins, SomeRelated, IsNext}
 use Rattle.typed_expr.specs.declared.expr.Expr.{Expr, out-Expr}
 use Rattle.typed_expr.specs.declared.expr.Expr as plain
-use Rattle.typed_expr.specs.declared.fold.Step.TheVariants.{Part}
 use Rattle.typed_expr.specs.declared.value_set.Stop.{Stop}
 use Rattle.typed_expr.proofs.Gathering.{err-same, keeps-nothing}
 use Rattle.typed_expr.proofs.Arms as arm
 use Rattle.typed_expr.proofs.Forms as form
 use Rattle.typed_expr.proofs.Loops as loop
+use Rattle.typed_expr.proofs.Shrinking as smaller
 use Rattle.typed_expr.proofs.possible.+yielded.Goals as goal
 
 pub yielded-returns-in-Constant : goal.yielded-returns-in-Constant
@@ -61,21 +62,21 @@ yielded-returns-in-Count g t c =
     arm.count-arm facts c.args.most c.folded-in-Count.result c.args.expr.now c.deref-in-Count.result.now c.in-Count.es
     c.in-Count.is c.deref-in-Count.ensures.value c.folded-in-Count.ensures
 
-pub yielded-returns-in_ok-set-in-Not : goal.yielded-returns-in_ok-set-in-Not
-yielded-returns-in_ok-set-in-Not g t c =
+pub yielded-returns-in_ok-can_be_true-in-Not : goal.yielded-returns-in_ok-can_be_true-in-Not
+yielded-returns-in_ok-can_be_true-in-Not g t c =
     let facts = facts_of (g.E.Env.facts_at c.args.env.now) in
     arm.not-arm facts c.args.most c.truth_set.result c.args.expr.now c.deref.result.now c.in-Not.a
-    c.in_ok-set-in-Not.set c.has.result c.has-in-Not.result c.in-Not.is c.deref.ensures
-    c.in_ok-set-in-Not.ensures c.has.ensures c.has-in-Not.ensures c.truth_set.ensures
+    c.in_ok-can_be_true-in-Not.can_be_true c.in_ok-can_be_true-in-Not.can_be_false c.in-Not.is c.deref.ensures
+    c.in_ok-can_be_true-in-Not.ensures c.truth_set.ensures
 
-pub yielded-returns-in_err-set-in-Not : goal.yielded-returns-in_err-set-in-Not
-yielded-returns-in_err-set-in-Not g t c =
+pub yielded-returns-in_err-can_be_true-in-Not : goal.yielded-returns-in_err-can_be_true-in-Not
+yielded-returns-in_err-can_be_true-in-Not g t c =
     let facts = facts_of (g.E.Env.facts_at c.args.env.now) in
     err-same
     (λ (r : Result (List Value) Stop). Evaluates facts c.args.most r (out-Expr g.row.V.Denot c.args.expr.now))
-    c.from_residual.result c.in_err-set-in-Not.field-0.0 c.from_residual.ensures.1
-    (arm.not-stop facts c.args.most c.in_err-set-in-Not.field-0.0 c.args.expr.now c.deref.result.now c.in-Not.a
-    c.in-Not.is c.deref.ensures c.in_err-set-in-Not.ensures)
+    c.from_residual.result c.in_err-can_be_true-in-Not.field-0.0 c.from_residual.ensures.1
+    (arm.not-stop facts c.args.most c.in_err-can_be_true-in-Not.field-0.0 c.args.expr.now c.deref.result.now c.in-Not.a
+    c.in-Not.is c.deref.ensures c.in_err-can_be_true-in-Not.ensures)
 
 pub yielded-returns-in_ok-one_false-in-All : goal.yielded-returns-in_ok-one_false-in-All
 yielded-returns-in_ok-one_false-in-All g t c =
@@ -111,35 +112,13 @@ yielded-returns-in_err-one_true-in-Any g t c =
     (arm.any-stop facts c.args.most c.in_err-one_true-in-Any.field-0.0 c.args.expr.now c.deref-in-Any.result.now
     c.in-Any.es c.in-Any.is c.deref-in-Any.ensures.value c.in_err-one_true-in-Any.ensures)
 
-pub yielded-returns-in_ok-right-in-Compare : goal.yielded-returns-in_ok-right-in-Compare
-yielded-returns-in_ok-right-in-Compare g t c =
+pub yielded-returns-in_ok-left-in-Compare : goal.yielded-returns-in_ok-left-in-Compare
+yielded-returns-in_ok-left-in-Compare g t c =
     let facts = facts_of (g.E.Env.facts_at c.args.env.now) in
-    let rel = c.in-Compare.relation in
-    let lx = c.in_ok-left-in-Compare.left in
-    let ry = c.in_ok-right-in-Compare.right in
-    let f1 =
-    subst
-    (λ (l : List Value). IsTrue c.some_related-can_be_false.result
-    ↔ SomeRelated rel l c.values-in-Compare.result.now false) c.values.ensures.values
-    c.some_related-can_be_false.ensures in
-    let f2 =
-    subst
-    (λ (l : List Value). IsTrue c.some_related-can_be_false.result ↔ SomeRelated rel lx l false)
-    c.values-in-Compare.ensures.values f1 in
-    let t1 =
-    subst
-    (λ (l : List Value). IsTrue c.some_related-can_be_true.result
-    ↔ SomeRelated rel l c.values-in-Compare-3.result.now true) c.values-in-Compare-2.ensures.values
-    c.some_related-can_be_true.ensures in
-    let t2 =
-    subst
-    (λ (l : List Value). IsTrue c.some_related-can_be_true.result ↔ SomeRelated rel lx l true)
-    c.values-in-Compare-3.ensures.values t1 in
-    arm.compare-arm facts c.args.most c.truth_set-in-Compare.result c.args.expr.now c.deref-in-Compare.result.now
-    c.deref-in-Compare-2.result.now rel c.in-Compare.a c.in-Compare.b lx ry c.some_related-can_be_false.result
-    c.some_related-can_be_true.result
+    arm.compared-arm facts c.args.most c.compared.result c.args.expr.now c.deref-in-Compare.result.now
+    c.deref-in-Compare-2.result.now c.in-Compare.relation c.in-Compare.a c.in-Compare.b c.in_ok-left-in-Compare.left
     c.in-Compare.is c.deref-in-Compare.ensures c.deref-in-Compare-2.ensures c.in_ok-left-in-Compare.ensures
-    c.in_ok-right-in-Compare.ensures f2 t2 c.truth_set-in-Compare.ensures
+    c.compared.ensures
 
 pub yielded-returns-in_err-left-in-Compare : goal.yielded-returns-in_err-left-in-Compare
 yielded-returns-in_err-left-in-Compare g t c =
@@ -151,17 +130,6 @@ yielded-returns-in_err-left-in-Compare g t c =
     (arm.left-stop facts c.args.most c.in_err-left-in-Compare.field-0.0 c.args.expr.now c.deref-in-Compare.result.now
     c.in-Compare.relation c.in-Compare.a c.in-Compare.b c.in-Compare.is c.deref-in-Compare.ensures
     c.in_err-left-in-Compare.ensures)
-
-pub yielded-returns-in_err-right-in-Compare : goal.yielded-returns-in_err-right-in-Compare
-yielded-returns-in_err-right-in-Compare g t c =
-    let facts = facts_of (g.E.Env.facts_at c.args.env.now) in
-    err-same
-    (λ (r : Result (List Value) Stop). Evaluates facts c.args.most r (out-Expr g.row.V.Denot c.args.expr.now))
-    c.from_residual-in_err-right-in-Compare.result c.in_err-right-in-Compare.field-0.0
-    c.from_residual-in_err-right-in-Compare.ensures.1
-    (arm.right-stop facts c.args.most c.in_err-right-in-Compare.field-0.0 c.args.expr.now
-    c.deref-in-Compare-2.result.now c.in-Compare.relation c.in-Compare.a c.in-Compare.b c.in-Compare.is
-    c.deref-in-Compare-2.ensures c.in_err-right-in-Compare.ensures)
 
 pub yielded-returns-in_err-set-in-Choose : goal.yielded-returns-in_err-set-in-Choose
 yielded-returns-in_err-set-in-Choose g t c =
@@ -250,46 +218,17 @@ folded-loop-e-init g t c =
 pub folded-loop-e-preserved : goal.folded-loop-e-preserved
 folded-loop-e-preserved g t c =
     let facts = facts_of (g.E.Env.facts_at c.args.env.now) in
-    let step1 =
-    subst
-    (λ (l : List Value). Gathers c.args.most (Ok c.in_ok-more.more)
-    (IsNext c.args.step c.loop-e.first l c.values-in-loop-e.result.now)) c.values.ensures.values
-    c.in_ok-more.ensures in
-    let step2 =
-    subst
-    (λ (l : List Value). Gathers c.args.most (Ok c.in_ok-more.more)
-    (IsNext c.args.step c.loop-e.first c.loop-e.so_far l)) c.values-in-loop-e.ensures.values step1 in
-    loop.fold-goes-on facts c.args.most c.args.step c.loop-e.first c.args.es.now c.loop-e.e-index c.e-item.result
-    c.loop-e.so_far c.in_ok-set.set c.in_ok-more.more c.loop-e-test.true c.e-item.is c.loop-e.invariant
-    c.in_ok-set.ensures step2
-
-pub folded-returns-in_err-set : goal.folded-returns-in_err-set
-folded-returns-in_err-set g t c =
-    let facts = facts_of (g.E.Env.facts_at c.args.env.now) in
-    err-same
-    (λ (r : Result (List Value) Stop). Folds facts c.args.most c.args.step r c.args.es.now)
-    c.from_residual-in_err-set.result c.in_err-set.field-0.0 c.from_residual-in_err-set.ensures.1
-    (loop.fold-operand-stop facts c.args.most c.args.step c.args.es.now c.loop-e.e-index c.e-item.result
-    c.in_err-set.field-0.0 c.loop-e-test.true c.e-item.is c.in_err-set.ensures)
+    loop.fold-steps facts c.args.most c.args.step c.loop-e.first c.args.es.now c.loop-e.e-index c.e-item.result
+    c.loop-e.so_far c.in_ok-more.more c.loop-e-test.true c.e-item.is c.loop-e.invariant c.in_ok-more.ensures
 
 pub folded-returns-in_err-more : goal.folded-returns-in_err-more
 folded-returns-in_err-more g t c =
     let facts = facts_of (g.E.Env.facts_at c.args.env.now) in
-    let step1 =
-    subst
-    (λ (l : List Value). Gathers c.args.most (Err c.in_err-more.field-0.0)
-    (IsNext c.args.step c.loop-e.first l c.values-in-loop-e.result.now)) c.values.ensures.values
-    c.in_err-more.ensures in
-    let step2 =
-    subst
-    (λ (l : List Value). Gathers c.args.most (Err c.in_err-more.field-0.0)
-    (IsNext c.args.step c.loop-e.first c.loop-e.so_far l)) c.values-in-loop-e.ensures.values step1 in
     err-same
     (λ (r : Result (List Value) Stop). Folds facts c.args.most c.args.step r c.args.es.now)
     c.from_residual-in_err-more.result c.in_err-more.field-0.0 c.from_residual-in_err-more.ensures.1
-    (loop.fold-step-stop facts c.args.most c.args.step c.loop-e.first c.args.es.now c.loop-e.e-index c.e-item.result
-    c.loop-e.so_far c.in_ok-set.set c.in_err-more.field-0.0 c.loop-e-test.true c.e-item.is c.loop-e.invariant
-    c.in_ok-set.ensures step2)
+    (loop.fold-stops facts c.args.most c.args.step c.loop-e.first c.args.es.now c.loop-e.e-index c.e-item.result
+    c.loop-e.so_far c.in_err-more.field-0.0 c.loop-e-test.true c.e-item.is c.loop-e.invariant c.in_err-more.ensures)
 
 pub folded-returns : goal.folded-returns
 folded-returns g t c =
@@ -313,48 +252,19 @@ summed-loop-plus-init g t c =
 pub summed-loop-plus-preserved : goal.summed-loop-plus-preserved
 summed-loop-plus-preserved g t c =
     let facts = facts_of (g.E.Env.facts_at c.args.env.now) in
-    let step1 =
-    subst
-    (λ (l : List Value). Gathers c.args.most (Ok c.in_ok-more.more)
-    (IsNext (Part c.loop-plus-item.result.0) false l c.values-in-loop-plus.result.now)) c.values.ensures.values
-    c.in_ok-more.ensures in
-    let step2 =
-    subst
-    (λ (l : List Value). Gathers c.args.most (Ok c.in_ok-more.more)
-    (IsNext (Part c.loop-plus-item.result.0) false c.loop-plus.so_far l)) c.values-in-loop-plus.ensures.values
-    step1 in
-    loop.sum-goes-on facts c.args.most c.args.parts.now c.loop-plus.plus-index c.loop-plus-item.result
-    c.loop-plus.so_far c.in_ok-set.set c.in_ok-more.more c.loop-plus-test.true c.loop-plus-item.is
-    c.loop-plus.invariant c.in_ok-set.ensures step2
-
-pub summed-returns-in_err-set : goal.summed-returns-in_err-set
-summed-returns-in_err-set g t c =
-    let facts = facts_of (g.E.Env.facts_at c.args.env.now) in
-    err-same
-    (λ (r : Result (List Value) Stop). Sums facts c.args.most r c.args.parts.now) c.from_residual-in_err-set.result
-    c.in_err-set.field-0.0 c.from_residual-in_err-set.ensures.1
-    (loop.sum-operand-stop facts c.args.most c.args.parts.now c.loop-plus.plus-index c.loop-plus-item.result
-    c.in_err-set.field-0.0 c.loop-plus-test.true c.loop-plus-item.is c.in_err-set.ensures)
+    loop.sum-steps facts c.args.most c.args.parts.now c.loop-plus.plus-index c.loop-plus-item.result
+    c.loop-plus.so_far c.in_ok-more.more c.loop-plus-test.true c.loop-plus-item.is c.loop-plus.invariant
+    c.in_ok-more.ensures
 
 pub summed-returns-in_err-more : goal.summed-returns-in_err-more
 summed-returns-in_err-more g t c =
     let facts = facts_of (g.E.Env.facts_at c.args.env.now) in
-    let step1 =
-    subst
-    (λ (l : List Value). Gathers c.args.most (Err c.in_err-more.field-0.0)
-    (IsNext (Part c.loop-plus-item.result.0) false l c.values-in-loop-plus.result.now)) c.values.ensures.values
-    c.in_err-more.ensures in
-    let step2 =
-    subst
-    (λ (l : List Value). Gathers c.args.most (Err c.in_err-more.field-0.0)
-    (IsNext (Part c.loop-plus-item.result.0) false c.loop-plus.so_far l)) c.values-in-loop-plus.ensures.values
-    step1 in
     err-same
     (λ (r : Result (List Value) Stop). Sums facts c.args.most r c.args.parts.now) c.from_residual-in_err-more.result
     c.in_err-more.field-0.0 c.from_residual-in_err-more.ensures.1
-    (loop.sum-step-stop facts c.args.most c.args.parts.now c.loop-plus.plus-index c.loop-plus-item.result
-    c.loop-plus.so_far c.in_ok-set.set c.in_err-more.field-0.0 c.loop-plus-test.true c.loop-plus-item.is
-    c.loop-plus.invariant c.in_ok-set.ensures step2)
+    (loop.sum-stops facts c.args.most c.args.parts.now c.loop-plus.plus-index c.loop-plus-item.result
+    c.loop-plus.so_far c.in_err-more.field-0.0 c.loop-plus-test.true c.loop-plus-item.is c.loop-plus.invariant
+    c.in_err-more.ensures)
 
 pub summed-returns : goal.summed-returns
 summed-returns g t c =
@@ -372,29 +282,27 @@ pub chosen-loop-test-preserved : goal.chosen-loop-test-preserved
 chosen-loop-test-preserved g t c =
     let facts = facts_of (g.E.Env.facts_at c.args.env.now) in
     loop.choice-goes-on facts c.args.most c.args.cases.now c.loop-test.test-index c.loop-test-item.result
-    c.loop-test.so_far c.in_ok-tests.tests c.in_ok-more.more c.loop-test.passes c.both-takes.result c.has.result
-    c.has-in-loop-test.result
-    c.both-passes.result c.loop-test-test.true c.loop-test-item.is c.loop-test.invariant c.in_ok-tests.ensures
-    c.in_ok-more.ensures c.has.ensures c.both-takes.ensures c.has-in-loop-test.ensures c.both-passes.ensures
+    c.loop-test.so_far c.in_ok-more.more c.loop-test.passes c.both-takes.result c.in_ok-can_pass.can_pass
+    c.in_ok-can_pass.can_take c.both-passes.result c.loop-test-test.true c.loop-test-item.is c.loop-test.invariant
+    c.in_ok-can_pass.ensures c.in_ok-more.ensures c.both-takes.ensures c.both-passes.ensures
 
-pub chosen-returns-in_err-tests : goal.chosen-returns-in_err-tests
-chosen-returns-in_err-tests g t c =
+pub chosen-returns-in_err-can_pass : goal.chosen-returns-in_err-can_pass
+chosen-returns-in_err-can_pass g t c =
     let facts = facts_of (g.E.Env.facts_at c.args.env.now) in
     err-same
     (λ (r : Result (List Value × Bool) Stop). Chooses facts c.args.most r c.args.cases.now) c.from_residual.result
-    c.in_err-tests.field-0.0 c.from_residual.ensures.1
+    c.in_err-can_pass.field-0.0 c.from_residual.ensures.1
     (loop.case-test-stop facts c.args.most c.args.cases.now c.loop-test.test-index c.loop-test-item.result
-    c.in_err-tests.field-0.0 c.loop-test-test.true c.loop-test-item.is c.in_err-tests.ensures)
+    c.in_err-can_pass.field-0.0 c.loop-test-test.true c.loop-test-item.is c.in_err-can_pass.ensures)
 
 pub chosen-returns-then-is_none : goal.chosen-returns-then-is_none
 chosen-returns-then-is_none g t c =
     let facts = facts_of (g.E.Env.facts_at c.args.env.now) in
     let next =
     loop.choice-goes-on facts c.args.most c.args.cases.now c.loop-test.test-index c.loop-test-item.result
-    c.loop-test.so_far c.in_ok-tests.tests c.in_ok-more.more c.loop-test.passes c.both-takes.result c.has.result
-    c.has-in-loop-test.result
-    c.both-passes.result c.loop-test-test.true c.loop-test-item.is c.loop-test.invariant c.in_ok-tests.ensures
-    c.in_ok-more.ensures c.has.ensures c.both-takes.ensures c.has-in-loop-test.ensures c.both-passes.ensures in
+    c.loop-test.so_far c.in_ok-more.more c.loop-test.passes c.both-takes.result c.in_ok-can_pass.can_pass
+    c.in_ok-can_pass.can_take c.both-passes.result c.loop-test-test.true c.loop-test-item.is c.loop-test.invariant
+    c.in_ok-can_pass.ensures c.in_ok-more.ensures c.both-takes.ensures c.both-passes.ensures in
     loop.choice-stops-early facts c.args.most c.args.cases.now
     (c.loop-test.test-index + 1) c.in_ok-more.more c.both-passes.result c.if-not-passes.true
     (loop.none-there _ c.is_none.result c.is_none.ensures c.if-is_none.true) next
@@ -414,9 +322,8 @@ chosen-returns-in_err-more g t c =
     (λ (r : Result (List Value × Bool) Stop). Chooses facts c.args.most r c.args.cases.now)
     c.from_residual-in_err-more.result c.in_err-more.field-0.0 c.from_residual-in_err-more.ensures.1
     (loop.case-branch-stop facts c.args.most c.args.cases.now c.loop-test.test-index c.loop-test-item.result
-    c.loop-test.so_far c.in_ok-tests.tests c.loop-test.passes c.both-takes.result c.has.result
-    c.in_err-more.field-0.0
-    c.loop-test-test.true c.loop-test-item.is c.loop-test.invariant c.in_ok-tests.ensures c.has.ensures
+    c.loop-test.so_far c.loop-test.passes c.both-takes.result c.in_ok-can_pass.can_pass c.in_ok-can_pass.can_take
+    c.in_err-more.field-0.0 c.loop-test-test.true c.loop-test-item.is c.loop-test.invariant c.in_ok-can_pass.ensures
     c.both-takes.ensures c.in_err-more.ensures)
 
 pub chosen-returns : goal.chosen-returns
@@ -448,3 +355,305 @@ with_branch-returns-in_err-values g t c =
     c.from_residual.ensures.1
     (form.branch-stop facts c.args.most (out-Expr g.row.V.Denot c.args.value.now) c.args.set c.args.takes
     c.in_err-values.field-0.0 c.in_err-values.ensures)
+
+pub chosen-offset_bounds-cases-test-index : goal.chosen-offset_bounds-cases-test-index
+chosen-offset_bounds-cases-test-index g t c =
+    c.loop-test.auto.test-index-end
+
+pub chosen-truths-requires : goal.chosen-truths-requires
+chosen-truths-requires g t c =
+    λ κs within. (
+      smaller.rank_falls 1 2 0 _ _ t refl
+          (smaller.up-test c.args.cases.now c.loop-test.test-index c.loop-test-item.result c.loop-test-test.true
+          c.loop-test-item.is) c.decreases,
+      within,
+    )
+
+pub chosen-with_branch-requires : goal.chosen-with_branch-requires
+chosen-with_branch-requires g t c =
+    λ κs within. (
+      smaller.rank_falls 1 2 0 _ _ t refl
+          (smaller.up-value c.args.cases.now c.loop-test.test-index c.loop-test-item.result c.loop-test-test.true
+          c.loop-test-item.is) c.decreases,
+      (within.0, (within.1, c.loop-test.invariant.keeps)),
+    )
+
+pub chosen-loop-test-smaller : goal.chosen-loop-test-smaller
+chosen-loop-test-smaller g t c =
+    falls _ c.loop-test.test-index c.loop-test-test.true
+
+pub folded-offset_bounds-es-e-index : goal.folded-offset_bounds-es-e-index
+folded-offset_bounds-es-e-index g t c =
+    c.loop-e.auto.e-index-end
+
+pub folded-with_operand-requires : goal.folded-with_operand-requires
+folded-with_operand-requires g t c =
+    λ κs within. (
+      smaller.rank_falls 1 2 0 _ _ t refl
+          (smaller.up-item c.args.es.now c.loop-e.e-index c.e-item.result c.loop-e-test.true
+          c.e-item.is) c.decreases,
+      within,
+    )
+
+pub folded-loop-e-smaller : goal.folded-loop-e-smaller
+folded-loop-e-smaller g t c =
+    falls _ c.loop-e.e-index c.loop-e-test.true
+
+pub summed-offset_bounds-parts-plus-index : goal.summed-offset_bounds-parts-plus-index
+summed-offset_bounds-parts-plus-index g t c =
+    c.loop-plus.auto.plus-index-end
+
+pub summed-with_operand-requires : goal.summed-with_operand-requires
+summed-with_operand-requires g t c =
+    λ κs within. (
+      smaller.rank_falls 1 2 0 _ _ t refl
+          (smaller.up-part c.args.parts.now c.loop-plus.plus-index c.loop-plus-item.result c.loop-plus-test.true
+          c.loop-plus-item.is) c.decreases,
+      within,
+    )
+
+pub summed-loop-plus-smaller : goal.summed-loop-plus-smaller
+summed-loop-plus-smaller g t c =
+    falls _ c.loop-plus.plus-index c.loop-plus-test.true
+
+pub tally-offset_bounds-es-e-index : goal.tally-offset_bounds-es-e-index
+tally-offset_bounds-es-e-index g t c =
+    c.loop-e.auto.e-index-end
+
+pub tally-truths-requires : goal.tally-truths-requires
+tally-truths-requires g t c =
+    λ κs within. (
+      smaller.rank_falls 1 2 0 _ _ t refl
+          (smaller.up-item c.args.es.now c.loop-e.e-index c.e-item.result c.loop-e-test.true
+          c.e-item.is) c.decreases,
+      within,
+    )
+
+pub tally-loop-e-smaller : goal.tally-loop-e-smaller
+tally-loop-e-smaller g t c =
+    falls _ c.loop-e.e-index c.loop-e-test.true
+
+pub tally-returns : goal.tally-returns
+tally-returns g t c =
+    let facts = facts_of (g.E.Env.facts_at c.args.env.now) in
+    loop.tally-ends facts c.args.most c.args.b c.loop-e.one_other c.loop-e.each c.args.es.now c.loop-e.e-index
+    c.loop-e-test.false c.loop-e.invariant
+
+pub truths-yielded-requires : goal.truths-yielded-requires
+truths-yielded-requires g t c =
+    λ κs within. (
+      smaller.rank_falls 0 1 0 _ _ t refl
+          (smaller.no_more _) c.decreases,
+      within,
+    )
+
+pub truths-returns-in_err-set : goal.truths-returns-in_err-set
+truths-returns-in_err-set g t c =
+    let facts = facts_of (g.E.Env.facts_at c.args.env.now) in
+    err-same
+    (λ (r : Result (Bool × Bool) Stop). Tells facts c.args.most c.args.b r (out-Expr g.row.V.Denot c.args.e.now))
+    c.from_residual.result c.in_err-set.field-0.0 c.from_residual.ensures.1 c.in_err-set.ensures
+
+pub truths-returns : goal.truths-returns
+truths-returns g t c =
+    let facts = facts_of (g.E.Env.facts_at c.args.env.now) in
+    loop.tell-of-set facts c.args.most c.args.b c.has.result c.has-2.result c.in_ok-set.set
+    (out-Expr g.row.V.Denot c.args.e.now) c.in_ok-set.ensures c.has.ensures c.has-2.ensures
+
+pub with_branch-yielded-requires : goal.with_branch-yielded-requires
+with_branch-yielded-requires g t c =
+    λ κs within. (
+      smaller.rank_falls 0 1 0 _ _ t refl
+          (smaller.no_more _) c.decreases,
+      within,
+    )
+
+pub with_branch-joined_where-requires : goal.with_branch-joined_where-requires
+with_branch-joined_where-requires g t c =
+    c.requires
+
+pub yielded-truths-requires : goal.yielded-truths-requires
+yielded-truths-requires g t c =
+    λ κs within. (
+      smaller.size_falls 1 1 _ _ t refl
+          (smaller.less-not c.args.expr.now c.deref.result.now c.in-Not.a c.in-Not.is c.deref.ensures) c.decreases,
+      within,
+    )
+
+pub yielded-tally-requires : goal.yielded-tally-requires
+yielded-tally-requires g t c =
+    λ κs within. (
+      smaller.size_falls 2 0 _ _ t refl
+          (smaller.less-all c.args.expr.now c.in-All.es c.deref-in-All.result.now c.in-All.is
+          c.deref-in-All.ensures.value) c.decreases,
+      within,
+    )
+
+pub yielded-tally-requires-in-Any : goal.yielded-tally-requires-in-Any
+yielded-tally-requires-in-Any g t c =
+    λ κs within. (
+      smaller.size_falls 2 0 _ _ t refl
+          (smaller.less-any c.args.expr.now c.in-Any.es c.deref-in-Any.result.now c.in-Any.is
+          c.deref-in-Any.ensures.value) c.decreases,
+      within,
+    )
+
+pub yielded-folded-requires : goal.yielded-folded-requires
+yielded-folded-requires g t c =
+    λ κs within. (
+      smaller.size_falls 2 0 _ _ t refl
+          (smaller.less-product c.args.expr.now c.in-Product.es c.deref-in-Product.result.now c.in-Product.is
+          c.deref-in-Product.ensures.value) c.decreases,
+      within,
+    )
+
+pub yielded-folded-requires-in-Least : goal.yielded-folded-requires-in-Least
+yielded-folded-requires-in-Least g t c =
+    λ κs within. (
+      smaller.size_falls 2 0 _ _ t refl
+          (smaller.less-least c.args.expr.now c.in-Least.es c.deref-in-Least.result.now c.in-Least.is
+          c.deref-in-Least.ensures.value) c.decreases,
+      within,
+    )
+
+pub yielded-folded-requires-in-Greatest : goal.yielded-folded-requires-in-Greatest
+yielded-folded-requires-in-Greatest g t c =
+    λ κs within. (
+      smaller.size_falls 2 0 _ _ t refl
+          (smaller.less-greatest c.args.expr.now c.in-Greatest.es c.deref-in-Greatest.result.now c.in-Greatest.is
+          c.deref-in-Greatest.ensures.value) c.decreases,
+      within,
+    )
+
+pub yielded-folded-requires-in-Count : goal.yielded-folded-requires-in-Count
+yielded-folded-requires-in-Count g t c =
+    λ κs within. (
+      smaller.size_falls 2 0 _ _ t refl
+          (smaller.less-count c.args.expr.now c.in-Count.es c.deref-in-Count.result.now c.in-Count.is
+          c.deref-in-Count.ensures.value) c.decreases,
+      within,
+    )
+
+pub yielded-yielded-requires : goal.yielded-yielded-requires
+yielded-yielded-requires g t c =
+    λ κs within. (
+      smaller.size_falls 0 2 _ _ t refl
+          (smaller.less-left c.args.expr.now c.deref-in-Compare.result.now c.in-Compare.relation c.in-Compare.a
+          c.in-Compare.b c.in-Compare.is c.deref-in-Compare.ensures) c.decreases,
+      within,
+    )
+
+pub yielded-compared-requires : goal.yielded-compared-requires
+yielded-compared-requires g t c =
+    λ κs within. (
+      smaller.size_falls 1 1 _ _ t refl
+          (smaller.less-right c.args.expr.now c.deref-in-Compare-2.result.now c.in-Compare.relation c.in-Compare.a
+          c.in-Compare.b c.in-Compare.is c.deref-in-Compare-2.ensures) c.decreases,
+      within,
+    )
+
+pub yielded-summed-requires : goal.yielded-summed-requires
+yielded-summed-requires g t c =
+    λ κs within. (
+      smaller.size_falls 2 0 _ _ t refl
+          (smaller.less-parts c.args.expr.now c.in-Sum.parts c.deref-in-Sum.result.now c.in-Sum.is
+          c.deref-in-Sum.ensures.value) c.decreases,
+      within,
+    )
+
+pub yielded-chosen-requires : goal.yielded-chosen-requires
+yielded-chosen-requires g t c =
+    λ κs within. (
+      smaller.size_falls 2 0 _ _ t refl
+          (smaller.less-cases c.args.expr.now c.in-Choose.cases c.in-Choose.other c.deref-in-Choose.result.now
+          c.in-Choose.is c.deref-in-Choose.ensures.value) c.decreases,
+      within,
+    )
+
+pub yielded-with_branch-requires : goal.yielded-with_branch-requires
+yielded-with_branch-requires g t c =
+    λ κs within. (
+      smaller.size_falls 1 1 _ _ t refl
+          (smaller.less-other c.args.expr.now c.deref-in-Choose-2.result.now c.in-Choose.cases c.in-Choose.other
+          c.in-Choose.is c.deref-in-Choose-2.ensures) c.decreases,
+      (within.0, (within.1, c.in_ok-set-in-Choose.ensures.1)),
+    )
+
+pub with_operand-yielded-requires : goal.with_operand-yielded-requires
+with_operand-yielded-requires g t c =
+    λ κs within. (
+      smaller.rank_falls 0 1 0 _ _ t refl
+          (smaller.no_more _) c.decreases,
+      within,
+    )
+
+pub with_operand-returns-in_err-set : goal.with_operand-returns-in_err-set
+with_operand-returns-in_err-set g t c =
+    let facts = facts_of (g.E.Env.facts_at c.args.env.now) in
+    err-same
+    (λ (r : Result (List Value) Stop). Steps facts c.args.most c.args.step c.args.first c.args.so_far r
+    (out-Expr g.row.V.Denot c.args.e.now)) c.from_residual.result c.in_err-set.field-0.0 c.from_residual.ensures.1
+    (operand_stopped c.in_err-set.ensures refl)
+
+pub with_operand-returns : goal.with_operand-returns
+with_operand-returns g t c =
+    let facts = facts_of (g.E.Env.facts_at c.args.env.now) in
+    let step1 =
+    subst
+    (λ (l : List Value). Gathers c.args.most c.stepped.result (IsNext c.args.step c.args.first l c.values-2.result.now))
+    c.values.ensures.values c.stepped.ensures in
+    let step2 =
+    subst
+    (λ (l : List Value). Gathers c.args.most c.stepped.result (IsNext c.args.step c.args.first c.args.so_far l))
+    c.values-2.ensures.values step1 in
+    stepped {values = c.in_ok-set.set} c.in_ok-set.ensures step2
+
+pub compared-yielded-requires : goal.compared-yielded-requires
+compared-yielded-requires g t c =
+    λ κs within. (smaller.rank_falls 0 1 0 _ _ t refl (smaller.no_more _) c.decreases, within)
+
+pub compared-some_related-can_be_false-requires-clause-left : goal.compared-some_related-can_be_false-requires-clause-left
+compared-some_related-can_be_false-requires-clause-left g t c =
+    c.values.ensures.ascending
+
+pub compared-some_related-can_be_false-requires-clause-right : goal.compared-some_related-can_be_false-requires-clause-right
+compared-some_related-can_be_false-requires-clause-right g t c =
+    c.values-2.ensures.ascending
+
+pub compared-some_related-can_be_true-requires-clause-left : goal.compared-some_related-can_be_true-requires-clause-left
+compared-some_related-can_be_true-requires-clause-left g t c =
+    c.values-3.ensures.ascending
+
+pub compared-some_related-can_be_true-requires-clause-right : goal.compared-some_related-can_be_true-requires-clause-right
+compared-some_related-can_be_true-requires-clause-right g t c =
+    c.values-4.ensures.ascending
+
+pub compared-returns-in_err-right : goal.compared-returns-in_err-right
+compared-returns-in_err-right g t c =
+    let facts = facts_of (g.E.Env.facts_at c.args.env.now) in
+    err-same
+    (λ (r : Result (List Value) Stop). Relates facts c.args.most c.args.relation c.args.left r
+    (out-Expr g.row.V.Denot c.args.e.now)) c.from_residual.result c.in_err-right.field-0.0 c.from_residual.ensures.1
+    (right_stopped c.in_err-right.ensures refl)
+
+pub compared-returns : goal.compared-returns
+compared-returns g t c =
+    let f1 =
+    subst
+    (λ (l : List Value). IsTrue c.some_related-can_be_false.result
+    ↔ SomeRelated c.args.relation l c.values-2.result.now false) c.values.ensures.values
+    c.some_related-can_be_false.ensures in
+    let f2 =
+    subst
+    (λ (l : List Value). IsTrue c.some_related-can_be_false.result ↔ SomeRelated c.args.relation c.args.left l false)
+    c.values-2.ensures.values f1 in
+    let t1 =
+    subst
+    (λ (l : List Value). IsTrue c.some_related-can_be_true.result
+    ↔ SomeRelated c.args.relation l c.values-4.result.now true) c.values-3.ensures.values
+    c.some_related-can_be_true.ensures in
+    let t2 =
+    subst
+    (λ (l : List Value). IsTrue c.some_related-can_be_true.result ↔ SomeRelated c.args.relation c.args.left l true)
+    c.values-4.ensures.values t1 in
+    compared {values = c.in_ok-right.right} c.in_ok-right.ensures f2 t2 c.truth_set.ensures

@@ -100,54 +100,88 @@ fn kind_name(kind: ValueKind) -> &'static str {
     }
 }
 
-// Prints the kind, the value and the yields of an expression without variables; a value alone where it has a kind.
+// The text of the values that an expression yields from the facts of the table.
+fn yielded_text(rt: &HostRuntime, expr: &Expr<u32>, table: &Table) -> io::Result<String> {
+    let yielded = eval_set(rt.alloc(), expr, table).map_err(no_memory)?;
+    Ok(values_text(rt.alloc(), yielded.values())?)
+}
+
+// Prints the kind, the value and the yields of an expression.
+fn show_value(
+    rt: &HostRuntime,
+    name: &str,
+    kind: ValueKind,
+    expr: &Expr<u32>,
+    table: &Table,
+) -> io::Result<()> {
+    let value = value_text(rt.alloc(), eval_total(expr, table))?;
+    let values = yielded_text(rt, expr, table)?;
+    println!(rt; "{name}: {} {value} {values}", kind_name(kind))
+}
+
+// Prints them of an expression without variables, where it has a kind.
 fn show(rt: &HostRuntime, name: &str, expr: Expr<u32>) -> io::Result<()> {
     let table = Table {
         rows: Vec::new(rt.alloc()),
     };
-    let Some(kind) = typed(&expr, &table) else {
-        return println!(rt; "{name}: no kind");
-    };
-    let yielded = eval_set(rt.alloc(), &expr, &table).map_err(no_memory)?;
-    let value = eval_total(&expr, &table);
-    let kind = kind_name(kind);
-    let value = value_text(rt.alloc(), value)?;
-    let values = values_text(rt.alloc(), yielded.values())?;
-    println!(rt; "{name}: {kind} {value} {values}")
+    match typed(&expr, &table) {
+        None => println!(rt; "{name}: no kind"),
+        Some(kind) => show_value(rt, name, kind, &expr, &table),
+    }
 }
 
-// A conjunction and an equality, where the first variable is false and the second has no fact.
+// A table of two variables of one kind.
+fn two_rows(
+    alloc: Global,
+    kind: ValueKind,
+    first: Vec<Value>,
+    second: Vec<Value>,
+) -> Result<Table, AllocError> {
+    let mut rows = Vec::new(alloc);
+    rows.push((kind, first))?;
+    rows.push((kind, second))?;
+    Ok(Table { rows })
+}
+
+// Prints the yields of an expression of two variables, of which the first is false and the second has no fact.
+fn show_yields(rt: &HostRuntime, name: &str, expr: Expr<u32>) -> io::Result<()> {
+    let no = vec![in rt.alloc(); Value::Truth(false)]?;
+    let table = two_rows(rt.alloc(), ValueKind::Truth, no, Vec::new(rt.alloc()))?;
+    let values = yielded_text(rt, &expr, &table)?;
+    println!(rt; "{name}: {values}")
+}
+
+// A conjunction and an equality.
 fn show_facts(rt: &HostRuntime) -> io::Result<()> {
     let alloc = rt.alloc();
-    let no = vec![in alloc; Value::Truth(false)]?;
-    let table = Table {
-        rows: vec![in alloc; (ValueKind::Truth, no), (ValueKind::Truth, Vec::new(alloc))]?,
-    };
-    let both = Expr::All(vec![in alloc; Expr::Variable(0), Expr::Variable(1)]?);
-    let found = eval_set(alloc, &both, &table).map_err(no_memory)?;
-    println!(rt; "a and b: {}", values_text(alloc, found.values())?)?;
+    let variables = vec![in alloc; Expr::Variable(0), Expr::Variable(1)]?;
+    show_yields(rt, "a and b", Expr::All(variables))?;
     let equal = compare(alloc, Relation::Equal, Expr::Variable(0), Expr::Variable(1))?;
-    let found = eval_set(alloc, &equal, &table).map_err(no_memory)?;
-    println!(rt; "a == b: {}", values_text(alloc, found.values())?)
+    show_yields(rt, "a == b", equal)
+}
+
+// A table of two variables, with the numbers from 0 to these.
+fn two_ranges(alloc: Global, first: i64, second: i64) -> Result<Table, AllocError> {
+    let first = range(alloc, 0, first)?;
+    let second = range(alloc, 0, second)?;
+    two_rows(alloc, ValueKind::Whole, first, second)
+}
+
+// Prints how many values there are, and the first and the last of them.
+fn show_ends(rt: &HostRuntime, high: i64, values: &[Value]) -> io::Result<()> {
+    let least = option_text(rt.alloc(), values.first().copied())?;
+    let most = option_text(rt.alloc(), values.last().copied())?;
+    println!(rt; "sum up to {high}: {} ({least}, {most})", values.len())
 }
 
 // How many values a sum of two variables may have, of at most 64, and the least and the greatest of them.
 fn show_possible(rt: &HostRuntime, high: i64) -> io::Result<()> {
     let alloc = rt.alloc();
-    let first = range(alloc, 0, 31)?;
-    let second = range(alloc, 0, high)?;
-    let table = Table {
-        rows: vec![in alloc; (ValueKind::Whole, first), (ValueKind::Whole, second)]?,
-    };
+    let table = two_ranges(alloc, 31, high)?;
     let sum = Expr::Sum(vec![in alloc; (true, Expr::Variable(0)), (true, Expr::Variable(1))]?);
     match possible_values(alloc, &sum, &table, 64).map_err(no_memory)? {
         None => println!(rt; "sum up to {high}: more than 64"),
-        Some(set) => {
-            let values = set.values();
-            let least = option_text(alloc, values.first().copied())?;
-            let most = option_text(alloc, values.last().copied())?;
-            println!(rt; "sum up to {high}: {} ({least}, {most})", values.len())
-        }
+        Some(set) => show_ends(rt, high, set.values()),
     }
 }
 

@@ -63,8 +63,8 @@ fn node_text(alloc: Global, made: Result<NodeId, NodeFault>) -> Result<String, A
     }
 }
 
-// What a store and the operations answer that may hold one node.
-fn show_limit(rt: &HostRuntime) -> io::Result<()> {
+// What a store answers that may hold one node.
+fn show_store(rt: &HostRuntime) -> io::Result<()> {
     let (none, unit) = (NodeId::new(0), NodeId::new(1));
     let mut store = Store::new(rt.alloc(), 1);
     for event in [0, 0, 1] {
@@ -73,19 +73,19 @@ fn show_limit(rt: &HostRuntime) -> io::Result<()> {
     }
     let lower = node_text(rt.alloc(), store.node(EventId::new(1), unit, none))?;
     println!(rt; "node without an upper half: {lower}")?;
-    println!(rt;
-        "nodes {} split of 1 {:?}",
-        store.len(),
-        store.split(unit).is_some()
-    )?;
+    let splits = store.split(unit).is_some();
+    println!(rt; "nodes {} split of 1 {splits:?}", store.len())
+}
+
+// What the operations answer that may hold one node.
+fn show_operations(rt: &HostRuntime) -> io::Result<()> {
+    let (none, unit) = (NodeId::new(0), NodeId::new(1));
     let mut ops = Ops::new(rt.alloc(), 1);
     let first = node_text(rt.alloc(), ops.node(EventId::new(0), none, unit))?;
     let second = ops.node(EventId::new(1), none, unit);
     let is_full = matches!(second, Err(NodeFault::Full));
-    println!(rt;
-        "operations: {first} full {is_full} nodes {}",
-        ops.into_store().len()
-    )
+    let nodes = ops.into_store().len();
+    println!(rt; "operations: {first} full {is_full} nodes {nodes}")
 }
 
 // The operations on f, which is {0}, {0, 1}, {1, 2}, and g, which is {0}.
@@ -142,19 +142,29 @@ fn masks(f: u32, g: u32, event: u32) -> [u32; 6] {
     ]
 }
 
+// The families that are made of each two of these halves by the event, in order.
+fn joined(
+    rt: &HostRuntime,
+    ops: &mut Ops,
+    event: u32,
+    halves: &[NodeId],
+) -> io::Result<Vec<NodeId>> {
+    let mut families = Vec::new(rt.alloc());
+    for hi in halves {
+        for lo in halves {
+            if let Some(made) = node(ops, event, *lo, *hi) {
+                families.push(made)?;
+            }
+        }
+    }
+    Ok(families)
+}
+
 // All families over three events, in the order of their masks.
 fn all_families(rt: &HostRuntime, ops: &mut Ops) -> io::Result<Vec<NodeId>> {
     let mut families = vec![in rt.alloc(); NodeId::new(0), NodeId::new(1)]?;
     for event in (0..3u32).rev() {
-        let halves = families.clone()?;
-        families.clear();
-        for hi in &halves {
-            for lo in &halves {
-                if let Some(made) = node(ops, event, *lo, *hi) {
-                    families.push(made)?;
-                }
-            }
-        }
+        families = joined(rt, ops, event, &families)?;
     }
     Ok(families)
 }
@@ -162,8 +172,8 @@ fn all_families(rt: &HostRuntime, ops: &mut Ops) -> io::Result<Vec<NodeId>> {
 // How many of the results are the families of these masks.
 fn agreeing(families: &[NodeId], found: &[NodeId; 6], wanted: &[u32; 6]) -> u64 {
     let mut count: u64 = 0;
-    for (number, mask) in found.iter().zip(wanted) {
-        let agrees = families.get(*mask as usize) == Some(number);
+    for place in 0..6 {
+        let agrees = families.get(wanted[place] as usize) == Some(&found[place]);
         count = count.wrapping_add(u64::from(agrees));
     }
     count
@@ -191,7 +201,8 @@ fn show_all(rt: &HostRuntime) -> io::Result<()> {
 
 /// Limits, worked results, and all results over three events.
 pub fn run(rt: &HostRuntime) -> io::Result<()> {
-    show_limit(rt)?;
+    show_store(rt)?;
+    show_operations(rt)?;
     println!(rt; "worked {:?}", worked(&mut Ops::new(rt.alloc(), 1000)))?;
     show_all(rt)
 }

@@ -6,6 +6,7 @@ mod classes;
 mod domain_values;
 mod expressions;
 mod families;
+mod files;
 mod jobs;
 mod names;
 mod rows;
@@ -27,5 +28,6 @@ fn main(rt: HostRuntime) -> io::Result<()> {
     classes::run(&rt)?;
     families::run(&rt)?;
     table_texts::run(&rt)?;
+    files::run(&rt)?;
     jobs::run(&rt)
 }

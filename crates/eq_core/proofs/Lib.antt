@@ -1,3 +1,4 @@
 pub mod Telling
 pub mod Valuing
 pub mod Ordering
+pub mod Joining

@@ -1,5 +1,6 @@
 -- The program's command as `clap` reads it.
-use Rattle.std.proofs.Common.{◌≡◌, ◌∙◌, [], List, true, ap, refl, sym, inl, inr, subst, codes, Option, Some, None}
+use Rattle.std.proofs.Common.{◌≡◌, ◌∙◌, [], ◌∷◌, List, true, ap, refl, sym, inl, inr, subst, codes, Option, Some, None, Result, IfOk}
+use Rattle.std.proofs.lemmas.Result.{IfOk-weaker}
 use Rattle.std.specs.Option.{IsSomeAnd}
 use Rattle.clap.specs.Simple.{app_of_fields}
 use Rattle.clap.specs.declared.builder.arg.Arg.{Arg}
@@ -9,8 +10,9 @@ use Rattle.clap.specs.declared.builder.command.Command.TheViews.{out-Command}
 use Rattle.clap.specs.declared.error.Error.{Error}
 use Rattle.clap.specs.declared.error.kind.ErrorKind.TheVariants as kind
 use Rattle.clap.specs.declared.parser.matches.ArgMatches.{ArgMatches}
-use Rattle.clap.specs.Words.{App, HasKind, HasMatchesOf, Kinds, Text, app_of, fault_of, found_of, is_simple, is_simple_and_free, kind_of, matches_of, new_app, rows_of, rule_of}
+use Rattle.clap.specs.Words.{AddsArg, AddsInTurn, App, HasKind, HasMatchesOf, Kinds, Text, app_of, fault_of, found_of, is_simple, is_simple_and_free, kind_of, matches_of, new_app, rows_of, rule_of, Rule, with_rule}
 use Rattle.clap.proofs.OnLiterals.{clap_on_literals}
+use Rattle.run_words.specs.Arguments.{AreBy, rules}
 use Rattle.run_words.specs.Lines.{bare_command, program}
 
 is_simple_program : is_simple program ≡ true
@@ -62,3 +64,24 @@ ranged_rule x y r e some = ap rule_of e ∙ ap (λ o. record (rule_of x) { range
 pub no_fault : (a : App) (words : List Text) → a ≡ program → (is_simple_and_free a ≡ true → fault_of a words ≡ [])
     → fault_of program words ≡ []
 no_fault a words e h = sym (ap (λ b. fault_of b words) e) ∙ h (ap is_simple_and_free e ∙ is_free_program)
+
+-- arguments that are added in turn add their rules
+abbrev with_rules : App → List Rule → App
+with_rules app [] = app
+with_rules app (r ∷ rs) = with_rules (with_rule app r) rs
+
+added_in_turn : (old new : Command) (rs : List Rule) (args : List Arg) → AreBy rs args
+    → AddsInTurn AddsArg old args new → app_of new ≡ with_rules (app_of old) rs
+added_in_turn old new [] [] by is = ap app_of (sym is)
+added_in_turn old new [] (a ∷ args) by added = absurd by
+added_in_turn old new (r ∷ rs) [] by added = absurd by
+added_in_turn old new (r ∷ rs) (a ∷ args) by added =
+    added_in_turn added.0 new rs args by.2 added.2
+    ∙ ap (λ app. with_rules app rs) (added.1.shape by.1 ∙ ap (with_rule (app_of old)) by.0)
+
+-- the arguments make the bare command that of the program, if memory was given
+pub program_of : {E : Type 0} (r : Result Command E) (old : Command) (args : List Arg) → app_of old ≡ bare_command
+    → AreBy rules args → IfOk r (λ new. AddsInTurn AddsArg old args new) → IfOk r (λ new. app_of new ≡ program)
+unfolding program
+program_of r old args is by added =
+    IfOk-weaker r _ _ (λ new h. added_in_turn old new rules args by h ∙ ap (λ app. with_rules app rules) is) added

@@ -3,3 +3,4 @@ pub mod Commands
 pub mod Jobs
 pub mod Told
 pub mod Generator
+pub mod Arguments

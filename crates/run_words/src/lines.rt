@@ -3,7 +3,9 @@
 ghost use Rattle.std.specs.Prelude.{◌≡◌, ◌≢◌, false, [], ◌∷◌, List, ℕ, map, codes, IfOk, option_map};
 ghost use Rattle.clap.specs.Words.{app_of, fault_of, found_of, matches_of, rows_of, first_of, all_of, rule_of};
 ghost use Rattle.run_words.specs.declared.jobs.JobFault.TheVariants.{Usage};
-ghost use Rattle.run_words.specs.Lines.{program, command_words_of, option};
+ghost use Rattle.run_words.specs.Lines.{program, command as command_rule, files as files_rule};
+ghost use Rattle.run_words.specs.Lines.{command_words_of, option};
+ghost use Rattle.run_words.specs.Arguments.{AreBy, rules};
 ghost use Rattle.run_words.specs.Told.{told};
 
 use crate::jobs::JobFault;
@@ -19,23 +21,47 @@ fn option<'a>(alloc: Global, name: &'a str) -> Arg<'a>
     Arg::new(alloc, name).long(name).action(ArgAction::Set)
 }
 
+// The command's word, which must be there.
+fn command_word<'a>(alloc: Global) -> Arg<'a>
+    ensures rule { rule_of result ≡ command_rule }
+    ensures local { result.global ≡ false }
+{
+    Arg::new(alloc, "command").required(true)
+}
+
+// Any number of further words.
+fn further_words<'a>(alloc: Global) -> Arg<'a>
+    ensures rule { rule_of result ≡ files_rule }
+    ensures local { result.global ≡ false }
+{
+    Arg::new(alloc, "file").num_args(0..)
+}
+
+// The arguments of the program, in their order.
+fn arguments<'a>(alloc: Global) -> Result<Vec<Arg<'a>>, AllocError>
+    ensures { IfOk result (λ args. AreBy rules args.items) }
+{
+    let args = vec![in alloc;
+        command_word(alloc),
+        further_words(alloc),
+        option(alloc, "main"),
+        option(alloc, "observer"),
+        option(alloc, "value"),
+        option(alloc, "nodes"),
+        option(alloc, "drop"),
+    ]?;
+    Ok(args)
+}
+
 // The program as `clap` sees it: one simple command without help and version flags.
 fn described<'a>(alloc: Global) -> Result<Command<'a>, AllocError>
     ensures { IfOk result (λ command. app_of command ≡ program) }
 {
-    let command = Arg::new(alloc, "command").required(true);
-    let file = Arg::new(alloc, "file").num_args(0..);
-    let described = Command::new(alloc, "altarica")
+    let args = arguments(alloc)?;
+    Command::new(alloc, "altarica")
         .disable_help_flag(true)
         .disable_version_flag(true)
-        .arg(command)?
-        .arg(file)?
-        .arg(option(alloc, "main"))?
-        .arg(option(alloc, "observer"))?
-        .arg(option(alloc, "value"))?
-        .arg(option(alloc, "nodes"))?
-        .arg(option(alloc, "drop"))?;
-    Ok(described)
+        .args(args)
 }
 
 // What `clap` finds in the words, of which the first is the program's.

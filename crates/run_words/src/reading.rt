@@ -7,7 +7,7 @@ ghost use Rattle.run_words.specs.declared.verbs.Verb.{Verb as Verbs};
 ghost use Rattle.run_words.specs.declared.jobs.JobFault.TheVariants.{Usage, Memory as OutOfMemory};
 ghost use Rattle.run_words.specs.Commands.{word_of};
 ghost use Rattle.run_words.specs.Jobs.{IsJob, IsJobOf, IsTaken, IsUsed, IsNodes, OptionsFit, given_words, nodes_by_default};
-ghost use Rattle.run_words.specs.Told.{told};
+ghost use Rattle.run_words.specs.Told.{told, AreOptionsOf};
 
 use crate::files::{named_files, text};
 use crate::jobs::{Job, JobFault};
@@ -67,20 +67,39 @@ fn job_of(alloc: Global, line: &CommandLine<'_, '_>) -> Result<Job, JobFault>
         return Err(JobFault::Usage);
     };
     let named = named_files(alloc, shape.files, line.files)?;
-    let main = given(alloc, line.main)?;
-    let observer = given(alloc, line.observer)?;
-    let value = given(alloc, line.value)?;
-    let dropped = given(alloc, line.dropped)?;
+    let options = options_of(alloc, line)?;
     Ok(Job {
         command,
         model: named.model,
         script: named.script,
-        main,
-        observer,
-        value,
-        dropped,
+        main: options.main,
+        observer: options.observer,
+        value: options.value,
+        dropped: options.dropped,
         nodes,
         number: named.number,
+    })
+}
+
+// The texts of the options, but for `--nodes`.
+#[derive(Drop)]
+struct Options {
+    main: Option<Text>,
+    observer: Option<Text>,
+    value: Option<Text>,
+    dropped: Option<Text>,
+}
+
+// The texts of the options that are used.
+fn options_of(alloc: Global, line: &CommandLine<'_, '_>) -> Result<Options, JobFault>
+    ensures found { IfOk result (λ options. AreOptionsOf (told line.now) options) }
+    ensures memory { IfErr result (λ e. e ≡ OutOfMemory) }
+{
+    Ok(Options {
+        main: given(alloc, line.main)?,
+        observer: given(alloc, line.observer)?,
+        value: given(alloc, line.value)?,
+        dropped: given(alloc, line.dropped)?,
     })
 }
 

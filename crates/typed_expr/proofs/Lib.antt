@@ -2,7 +2,7 @@ mod Putting
 mod Ends
 mod Folding
 mod Totalled
-mod Shrinking
+pub mod Shrinking
 mod Gathering
 mod Forms
 mod Loops

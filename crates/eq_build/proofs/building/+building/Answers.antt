@@ -1,10 +1,12 @@
 use Rattle.std.proofs.Common.{◌∷◌, [], List, Bool, true, false, pos, sym, ap, ◌∙◌, subst}
+use borrow.Author.Count.{falls}
 use Rattle.ar_base.specs.Numbers.{VarId}
 use Rattle.domains.specs.declared.Value.TheVariants.{Whole}
 use Rattle.typed_expr.specs.Yields.{Level}
 use Rattle.typed_expr.specs.declared.expr.Expr.{Expr, out-Expr}
 use Rattle.typed_expr.specs.declared.expr.Expr.TheOpen as form
 use Rattle.typed_expr.proofs.Opened.{opened-constant, opened-variable, opened-not, opened-all, opened-any, opened-compare, opened-sum, opened-product, opened-least, opened-greatest, opened-count, opened-choice}
+use Rattle.typed_expr.proofs.Shrinking as smaller
 use Rattle.eq_build.specs.Entries as e
 use Rattle.eq_build.specs.Entries.{only, entries_for, opposite_terms, joint_terms, combined, folded, led, with_step, with_signs, chosen}
 use Rattle.eq_build.specs.Builds.{Builds, Builds_each, Builds_parts, Builds_cases, NeedsMore}
@@ -552,3 +554,141 @@ tested-returns t c =
           c.loop-test.invariant.so_far,
       c.loop-test.invariant.few,
     )
+
+pub entries_of-entries_of-requires : goal.entries_of-entries_of-requires
+entries_of-entries_of-requires t c = (
+  smaller.one_falls _ _ t
+      (smaller.less-not c.args.expr.now c.deref.result.now c.in-Not.a c.in-Not.is c.deref.ensures) c.decreases,
+  c.requires,
+)
+
+pub entries_of-each-requires : goal.entries_of-each-requires
+entries_of-each-requires t c = (
+  smaller.list_falls _ _ t
+      (smaller.less-all c.args.expr.now c.in-All.es c.deref-in-All.result.now c.in-All.is
+      c.deref-in-All.ensures.value) c.decreases,
+  c.requires,
+)
+
+pub entries_of-each-requires-in-Any : goal.entries_of-each-requires-in-Any
+entries_of-each-requires-in-Any t c = (
+  smaller.list_falls _ _ t
+      (smaller.less-any c.args.expr.now c.in-Any.es c.deref-in-Any.result.now c.in-Any.is
+      c.deref-in-Any.ensures.value) c.decreases,
+  c.requires,
+)
+
+pub entries_of-each-requires-in-Product : goal.entries_of-each-requires-in-Product
+entries_of-each-requires-in-Product t c = (
+  smaller.list_falls _ _ t
+      (smaller.less-product c.args.expr.now c.in-Product.es c.deref-in-Product.result.now c.in-Product.is
+      c.deref-in-Product.ensures.value) c.decreases,
+  c.requires,
+)
+
+pub entries_of-each-requires-in-Least : goal.entries_of-each-requires-in-Least
+entries_of-each-requires-in-Least t c = (
+  smaller.list_falls _ _ t
+      (smaller.less-least c.args.expr.now c.in-Least.es c.deref-in-Least.result.now c.in-Least.is
+      c.deref-in-Least.ensures.value) c.decreases,
+  c.requires,
+)
+
+pub entries_of-each-requires-in-Greatest : goal.entries_of-each-requires-in-Greatest
+entries_of-each-requires-in-Greatest t c = (
+  smaller.list_falls _ _ t
+      (smaller.less-greatest c.args.expr.now c.in-Greatest.es c.deref-in-Greatest.result.now c.in-Greatest.is
+      c.deref-in-Greatest.ensures.value) c.decreases,
+  c.requires,
+)
+
+pub entries_of-each-requires-in-Count : goal.entries_of-each-requires-in-Count
+entries_of-each-requires-in-Count t c = (
+  smaller.list_falls _ _ t
+      (smaller.less-count c.args.expr.now c.in-Count.es c.deref-in-Count.result.now c.in-Count.is
+      c.deref-in-Count.ensures.value) c.decreases,
+  c.requires,
+)
+
+pub entries_of-entries_of-requires-in-Compare : goal.entries_of-entries_of-requires-in-Compare
+entries_of-entries_of-requires-in-Compare t c = (
+  smaller.one_falls _ _ t
+      (smaller.less-left c.args.expr.now c.deref-in-Compare.result.now c.in-Compare.relation c.in-Compare.a
+      c.in-Compare.b c.in-Compare.is c.deref-in-Compare.ensures) c.decreases,
+  c.requires,
+)
+
+pub entries_of-entries_of-requires-in-Compare-2 : goal.entries_of-entries_of-requires-in-Compare-2
+entries_of-entries_of-requires-in-Compare-2 t c = (
+  smaller.one_falls _ _ t
+      (smaller.less-right c.args.expr.now c.deref-in-Compare-2.result.now c.in-Compare.relation c.in-Compare.a
+      c.in-Compare.b c.in-Compare.is c.deref-in-Compare-2.ensures) c.decreases,
+  c.in_ok-left-in-Compare.ensures.1,
+)
+
+pub entries_of-signed-requires : goal.entries_of-signed-requires
+entries_of-signed-requires t c = (
+  smaller.list_falls _ _ t
+      (smaller.less-parts c.args.expr.now c.in-Sum.parts c.deref-in-Sum.result.now c.in-Sum.is
+      c.deref-in-Sum.ensures.value) c.decreases,
+  c.requires,
+)
+
+pub entries_of-tested-requires : goal.entries_of-tested-requires
+entries_of-tested-requires t c = (
+  smaller.list_falls _ _ t
+      (smaller.less-cases c.args.expr.now c.in-Choose.cases c.in-Choose.other c.deref-in-Choose.result.now
+      c.in-Choose.is c.deref-in-Choose.ensures.value) c.decreases,
+  c.requires,
+)
+
+pub entries_of-entries_of-requires-in-Choose : goal.entries_of-entries_of-requires-in-Choose
+entries_of-entries_of-requires-in-Choose t c = (
+  smaller.one_falls _ _ t
+      (smaller.less-other c.args.expr.now c.deref-in-Choose-2.result.now c.in-Choose.cases c.in-Choose.other
+      c.in-Choose.is c.deref-in-Choose-2.ensures) c.decreases,
+  c.in_ok-pairs-in-Choose.ensures.1,
+)
+
+pub each-entries_of-requires : goal.each-entries_of-requires
+each-entries_of-requires t c = (
+  smaller.item_falls _ _ t
+      (smaller.up-item c.args.es.now c.loop-e.e-index c.e-item.result c.loop-e-test.true c.e-item.is) c.decreases,
+  c.loop-e.invariant.few,
+)
+
+pub signed-entries_of-requires : goal.signed-entries_of-requires
+signed-entries_of-requires t c = (
+  smaller.item_falls _ _ t
+      (smaller.up-part c.args.parts.now c.loop-plus.plus-index c.loop-plus-item.result c.loop-plus-test.true
+      c.loop-plus-item.is) c.decreases,
+  c.loop-plus.invariant.few,
+)
+
+pub tested-entries_of-requires : goal.tested-entries_of-requires
+tested-entries_of-requires t c = (
+  smaller.item_falls _ _ t
+      (smaller.up-test c.args.cases.now c.loop-test.test-index c.loop-test-item.result c.loop-test-test.true
+      c.loop-test-item.is) c.decreases,
+  c.loop-test.invariant.few,
+)
+
+pub tested-entries_of-requires-in-loop-test : goal.tested-entries_of-requires-in-loop-test
+tested-entries_of-requires-in-loop-test t c = (
+  smaller.item_falls _ _ t
+      (smaller.up-value c.args.cases.now c.loop-test.test-index c.loop-test-item.result c.loop-test-test.true
+      c.loop-test-item.is) c.decreases,
+  c.in_ok-tests.ensures.1,
+)
+
+pub each-loop-e-smaller : goal.each-loop-e-smaller
+each-loop-e-smaller t c =
+    falls _ c.loop-e.e-index c.loop-e-test.true
+
+pub signed-loop-plus-smaller : goal.signed-loop-plus-smaller
+signed-loop-plus-smaller t c =
+    falls _ c.loop-plus.plus-index c.loop-plus-test.true
+
+pub tested-loop-test-smaller : goal.tested-loop-test-smaller
+tested-loop-test-smaller t c =
+    falls _ c.loop-test.test-index c.loop-test-test.true

@@ -1,4 +1,5 @@
 pub mod ActForms
+mod ActsShrinking
 pub mod Added
 pub mod Allowing
 mod Copying

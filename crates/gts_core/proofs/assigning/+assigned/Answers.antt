@@ -1,8 +1,11 @@
 use Rattle.std.proofs.Common.{◌≡◌, true, false, subst, ◌∙◌, refl, arith}
+use borrow.Author.Count.{falls}
 use Rattle.std.proofs.lemmas.Grind.{common_steps}
 use Rattle.std.proofs.lemmas.Result.{on_ok_weaker}
 use Rattle.gts_core.specs.Bound.{GivesAssigns, AreConditionCopies, conditions_in}
 use Rattle.gts_core.proofs.ActForms.{gives_skip, gives_set, gives_if, gives_all, give_none, give_next, gives_under}
+use Rattle.typed_expr.proofs.Shrinking as smaller
+use Rattle.gts_core.proofs.ActsShrinking as shrinking
 use Rattle.gts_core.proofs.assigning.+assigned.Goals as goal
 
 pub all_assigned-loop-act-init : goal.all_assigned-loop-act-init
@@ -51,3 +54,43 @@ assigned-returns-in-All-clause-given t c =
     (λ h. gives_all c.args.act.now (conditions_in c.args.when.now.items) c.args.out.now.items c.in-All.acts
     c.deref-in-All.result.now c.all_assigned.new.out.items c.in-All.is c.deref-in-All.ensures.value h)
     c.all_assigned.ensures.given
+
+-- each call is of a smaller instruction
+pub all_assigned-loop-act-smaller : goal.all_assigned-loop-act-smaller
+all_assigned-loop-act-smaller t c = falls _ c.loop-act.act-index c.loop-act-test.true
+
+pub all_assigned-assigned-requires : goal.all_assigned-assigned-requires
+all_assigned-assigned-requires t c =
+    (
+      smaller.item_falls _ _ t
+          (shrinking.up-act c.args.acts.now c.loop-act.act-index c.act-item.result c.loop-act-test.true c.act-item.is)
+          c.decreases,
+      tt,
+    )
+
+pub assigned-assigned-requires : goal.assigned-assigned-requires
+assigned-assigned-requires t c =
+    (
+      smaller.one_falls _ _ t
+          (shrinking.less-first c.args.act.now c.deref-in-If.result.now c.in-If.test c.in-If.first c.in-If.second
+          c.in-If.is c.deref-in-If.ensures) c.decreases,
+      tt,
+    )
+
+pub assigned-assigned-requires-in-If : goal.assigned-assigned-requires-in-If
+assigned-assigned-requires-in-If t c =
+    (
+      smaller.one_falls _ _ t
+          (shrinking.less-second c.args.act.now c.deref-in-If-2.result.now c.in-If.test c.in-If.first c.in-If.second
+          c.in-If.is c.deref-in-If-2.ensures) c.decreases,
+      tt,
+    )
+
+pub assigned-all_assigned-requires : goal.assigned-all_assigned-requires
+assigned-all_assigned-requires t c =
+    (
+      smaller.list_falls _ _ t
+          (shrinking.less-acts c.args.act.now c.in-All.acts c.deref-in-All.result.now c.in-All.is
+          c.deref-in-All.ensures.value) c.decreases,
+      tt,
+    )

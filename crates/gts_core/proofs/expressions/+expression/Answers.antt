@@ -1,4 +1,4 @@
-use Rattle.std.proofs.Common.{◌≡◌, ◌++◌, ◌∙◌, ap, map, codes, List, Bool, ℕ, true, length, nat_eq, rules}
+use Rattle.std.proofs.Common.{◌≡◌, refl, ◌++◌, ◌∙◌, ap, map, codes, List, Bool, ℕ, true, length, nat_eq, rules}
 use Rattle.std.specs.List.{concat}
 use Rattle.ar_base.specs.Texts.{separated}
 use Rattle.typed_expr.specs.declared.expr.Expr.{Expr}
@@ -6,6 +6,8 @@ use Rattle.ar_io.proofs.Writing.{writes_on, writes_front, writes_exit, writes_as
 use Rattle.ar_base.specs.Numbers.{VarId}
 use Rattle.gts_core.specs.Printed.{expr_text, summed, case_form, cases_form}
 use Rattle.gts_core.proofs.Texts.{not_text, all_text, any_text, product_text, least_text, greatest_text, count_text, compare_text, sum_text, choose_text, case_text, texts}
+use borrow.Author.Count.{falls}
+use Rattle.typed_expr.proofs.Shrinking as smaller
 use Rattle.gts_core.proofs.expressions.+expression.Goals as goal
 
 pub expression-returns-in-Not : goal.expression-returns-in-Not
@@ -352,3 +354,174 @@ terms-returns g t c =
     (no_item (λ (xs : List (Bool × Expr VarId)). summed c.loop-plus.first
     (map (λ (q : Bool × Expr VarId). (q.0, expr_text c.args.parts.now q.1)) xs)) c.args.all.now
     c.loop-plus.plus-index c.loop-plus-test.false)
+
+-- each call is of something smaller
+pub expression-opposite-requires : goal.expression-opposite-requires
+expression-opposite-requires g t c =
+    λ κs within. (
+      smaller.size_falls 1 1 _ _ t refl
+          (smaller.less-not c.args.expr.now c.deref.result.now c.in-Not.a c.in-Not.is c.deref.ensures) c.decreases,
+      within,
+    )
+
+pub expression-listed-requires : goal.expression-listed-requires
+expression-listed-requires g t c =
+    λ κs within. (
+      smaller.size_falls 2 0 _ _ t refl
+          (smaller.less-all c.args.expr.now c.in-All.es c.deref-in-All.result.now c.in-All.is
+          c.deref-in-All.ensures.value) c.decreases,
+      within,
+    )
+
+pub expression-listed-requires-in-Any : goal.expression-listed-requires-in-Any
+expression-listed-requires-in-Any g t c =
+    λ κs within. (
+      smaller.size_falls 2 0 _ _ t refl
+          (smaller.less-any c.args.expr.now c.in-Any.es c.deref-in-Any.result.now c.in-Any.is
+          c.deref-in-Any.ensures.value) c.decreases,
+      within,
+    )
+
+pub expression-listed-requires-in-Product : goal.expression-listed-requires-in-Product
+expression-listed-requires-in-Product g t c =
+    λ κs within. (
+      smaller.size_falls 2 0 _ _ t refl
+          (smaller.less-product c.args.expr.now c.in-Product.es c.deref-in-Product.result.now c.in-Product.is
+          c.deref-in-Product.ensures.value) c.decreases,
+      within,
+    )
+
+pub expression-listed-requires-in-Least : goal.expression-listed-requires-in-Least
+expression-listed-requires-in-Least g t c =
+    λ κs within. (
+      smaller.size_falls 2 0 _ _ t refl
+          (smaller.less-least c.args.expr.now c.in-Least.es c.deref-in-Least.result.now c.in-Least.is
+          c.deref-in-Least.ensures.value) c.decreases,
+      within,
+    )
+
+pub expression-listed-requires-in-Greatest : goal.expression-listed-requires-in-Greatest
+expression-listed-requires-in-Greatest g t c =
+    λ κs within. (
+      smaller.size_falls 2 0 _ _ t refl
+          (smaller.less-greatest c.args.expr.now c.in-Greatest.es c.deref-in-Greatest.result.now c.in-Greatest.is
+          c.deref-in-Greatest.ensures.value) c.decreases,
+      within,
+    )
+
+pub expression-listed-requires-in-Count : goal.expression-listed-requires-in-Count
+expression-listed-requires-in-Count g t c =
+    λ κs within. (
+      smaller.size_falls 2 0 _ _ t refl
+          (smaller.less-count c.args.expr.now c.in-Count.es c.deref-in-Count.result.now c.in-Count.is
+          c.deref-in-Count.ensures.value) c.decreases,
+      within,
+    )
+
+pub expression-expression-requires : goal.expression-expression-requires
+expression-expression-requires g t c =
+    λ κs within. (
+      smaller.size_falls 0 2 _ _ t refl
+          (smaller.less-left c.args.expr.now c.deref-in-Compare.result.now c.in-Compare.relation c.in-Compare.a
+          c.in-Compare.b c.in-Compare.is c.deref-in-Compare.ensures) c.decreases,
+      within,
+    )
+
+pub expression-expression-requires-in-Compare : goal.expression-expression-requires-in-Compare
+expression-expression-requires-in-Compare g t c =
+    λ κs within. (
+      smaller.size_falls 0 2 _ _ t refl
+          (smaller.less-right c.args.expr.now c.deref-in-Compare-2.result.now c.in-Compare.relation c.in-Compare.a
+          c.in-Compare.b c.in-Compare.is c.deref-in-Compare-2.ensures) c.decreases,
+      within,
+    )
+
+pub expression-sum-requires : goal.expression-sum-requires
+expression-sum-requires g t c =
+    λ κs within. (
+      smaller.size_falls 2 0 _ _ t refl
+          (smaller.less-parts c.args.expr.now c.in-Sum.terms c.deref-in-Sum.result.now c.in-Sum.is
+          c.deref-in-Sum.ensures.value) c.decreases,
+      within,
+    )
+
+pub expression-chosen-requires : goal.expression-chosen-requires
+expression-chosen-requires g t c =
+    λ κs within. (
+      smaller.size_falls 2 0 _ _ t refl
+          (smaller.less-cases c.args.expr.now c.in-Choose.choices c.in-Choose.other c.deref-in-Choose.result.now
+          c.in-Choose.is c.deref-in-Choose.ensures.value) c.decreases,
+      within,
+    )
+
+pub expression-expression-requires-in-Choose : goal.expression-expression-requires-in-Choose
+expression-expression-requires-in-Choose g t c =
+    λ κs within. (
+      smaller.size_falls 0 2 _ _ t refl
+          (smaller.less-other c.args.expr.now c.deref-in-Choose-2.result.now c.in-Choose.choices c.in-Choose.other
+          c.in-Choose.is c.deref-in-Choose-2.ensures) c.decreases,
+      within,
+    )
+
+pub opposite-expression-requires : goal.opposite-expression-requires
+opposite-expression-requires g t c =
+    λ κs within. (
+      smaller.rank_falls 0 1 0 _ _ t refl
+          (smaller.no_more _) c.decreases,
+      within,
+    )
+
+pub sum-terms-requires : goal.sum-terms-requires
+sum-terms-requires g t c =
+    λ κs within. (
+      smaller.rank_falls 1 2 0 _ _ t refl
+          (smaller.no_more _) c.decreases,
+      within,
+    )
+
+pub chosen-cases-requires : goal.chosen-cases-requires
+chosen-cases-requires g t c =
+    λ κs within. (
+      smaller.rank_falls 1 2 0 _ _ t refl
+          (smaller.no_more _) c.decreases,
+      within,
+    )
+
+pub operands-loop-e-smaller : goal.operands-loop-e-smaller
+operands-loop-e-smaller g t c =
+    falls _ c.loop-e.e-index c.loop-e-test.true
+
+pub terms-loop-plus-smaller : goal.terms-loop-plus-smaller
+terms-loop-plus-smaller g t c =
+    falls _ c.loop-plus.plus-index c.loop-plus-test.true
+
+pub terms-expression-requires : goal.terms-expression-requires
+terms-expression-requires g t c =
+    λ κs within. (
+      smaller.rank_falls 0 1 0 _ _ t refl
+          (smaller.up-part c.args.all.now c.loop-plus.plus-index c.loop-plus-item.result c.loop-plus-test.true
+          c.loop-plus-item.is) c.decreases,
+      within,
+    )
+
+pub cases-loop-test-smaller : goal.cases-loop-test-smaller
+cases-loop-test-smaller g t c =
+    falls _ c.loop-test.test-index c.loop-test-test.true
+
+pub cases-expression-requires : goal.cases-expression-requires
+cases-expression-requires g t c =
+    λ κs within. (
+      smaller.rank_falls 0 1 0 _ _ t refl
+          (smaller.up-test c.args.choices.now c.loop-test.test-index c.loop-test-item.result c.loop-test-test.true
+          c.loop-test-item.is) c.decreases,
+      within,
+    )
+
+pub cases-expression-requires-in-loop-test : goal.cases-expression-requires-in-loop-test
+cases-expression-requires-in-loop-test g t c =
+    λ κs within. (
+      smaller.rank_falls 0 1 0 _ _ t refl
+          (smaller.up-value c.args.choices.now c.loop-test.test-index c.loop-test-item.result c.loop-test-test.true
+          c.loop-test-item.is) c.decreases,
+      within,
+    )

@@ -9,6 +9,8 @@ use Rattle.gts_core.specs.Adding.{Adds}
 use Rattle.typed_expr.proofs.Opened as opened
 use Rattle.gts_core.proofs.Added as added
 use Rattle.gts_core.proofs.NamedVariables as named
+use borrow.Author.Count.{falls}
+use Rattle.typed_expr.proofs.Shrinking as smaller
 use Rattle.gts_core.proofs.names.+naming.Goals as goal
 
 pub add_named-returns-in-Variable : goal.add_named-returns-in-Variable
@@ -167,3 +169,143 @@ add_cases-loop-test-preserved t c =
 pub add_cases-returns : goal.add_cases-returns
 add_cases-returns t c = named.cases_all _ _ c.args.cases.now c.loop-test.test-index c.loop-test-test.false
     c.loop-test.invariant
+
+-- each call is of something smaller
+pub add_named-add_named-requires : goal.add_named-add_named-requires
+add_named-add_named-requires t c = (
+  smaller.one_falls _ _ t
+      (smaller.less-not c.args.expr.now c.deref.result.now c.in-Not.a c.in-Not.is c.deref.ensures) c.decreases,
+  tt,
+)
+
+pub add_named-add_some-requires : goal.add_named-add_some-requires
+add_named-add_some-requires t c = (
+  smaller.list_falls _ _ t
+      (smaller.less-all c.args.expr.now c.in-All.es c.deref-in-All.result.now c.in-All.is
+      c.deref-in-All.ensures.value) c.decreases,
+  tt,
+)
+
+pub add_named-add_some-requires-in-Any : goal.add_named-add_some-requires-in-Any
+add_named-add_some-requires-in-Any t c = (
+  smaller.list_falls _ _ t
+      (smaller.less-any c.args.expr.now c.in-Any.es c.deref-in-Any.result.now c.in-Any.is
+      c.deref-in-Any.ensures.value) c.decreases,
+  tt,
+)
+
+pub add_named-add_some-requires-in-Product : goal.add_named-add_some-requires-in-Product
+add_named-add_some-requires-in-Product t c = (
+  smaller.list_falls _ _ t
+      (smaller.less-product c.args.expr.now c.in-Product.es c.deref-in-Product.result.now c.in-Product.is
+      c.deref-in-Product.ensures.value) c.decreases,
+  tt,
+)
+
+pub add_named-add_some-requires-in-Least : goal.add_named-add_some-requires-in-Least
+add_named-add_some-requires-in-Least t c = (
+  smaller.list_falls _ _ t
+      (smaller.less-least c.args.expr.now c.in-Least.es c.deref-in-Least.result.now c.in-Least.is
+      c.deref-in-Least.ensures.value) c.decreases,
+  tt,
+)
+
+pub add_named-add_some-requires-in-Greatest : goal.add_named-add_some-requires-in-Greatest
+add_named-add_some-requires-in-Greatest t c = (
+  smaller.list_falls _ _ t
+      (smaller.less-greatest c.args.expr.now c.in-Greatest.es c.deref-in-Greatest.result.now c.in-Greatest.is
+      c.deref-in-Greatest.ensures.value) c.decreases,
+  tt,
+)
+
+pub add_named-add_some-requires-in-Count : goal.add_named-add_some-requires-in-Count
+add_named-add_some-requires-in-Count t c = (
+  smaller.list_falls _ _ t
+      (smaller.less-count c.args.expr.now c.in-Count.es c.deref-in-Count.result.now c.in-Count.is
+      c.deref-in-Count.ensures.value) c.decreases,
+  tt,
+)
+
+pub add_named-add_named-requires-in-Compare : goal.add_named-add_named-requires-in-Compare
+add_named-add_named-requires-in-Compare t c = (
+  smaller.one_falls _ _ t
+      (smaller.less-left c.args.expr.now c.deref-in-Compare.result.now c.in-Compare.field-0 c.in-Compare.a
+      c.in-Compare.b c.in-Compare.is c.deref-in-Compare.ensures) c.decreases,
+  tt,
+)
+
+pub add_named-add_named-requires-in-Compare-2 : goal.add_named-add_named-requires-in-Compare-2
+add_named-add_named-requires-in-Compare-2 t c = (
+  smaller.one_falls _ _ t
+      (smaller.less-right c.args.expr.now c.deref-in-Compare-2.result.now c.in-Compare.field-0 c.in-Compare.a
+      c.in-Compare.b c.in-Compare.is c.deref-in-Compare-2.ensures) c.decreases,
+  tt,
+)
+
+pub add_named-add_parts-requires : goal.add_named-add_parts-requires
+add_named-add_parts-requires t c = (
+  smaller.list_falls _ _ t
+      (smaller.less-parts c.args.expr.now c.in-Sum.parts c.deref-in-Sum.result.now c.in-Sum.is
+      c.deref-in-Sum.ensures.value) c.decreases,
+  tt,
+)
+
+pub add_named-add_cases-requires : goal.add_named-add_cases-requires
+add_named-add_cases-requires t c = (
+  smaller.list_falls _ _ t
+      (smaller.less-cases c.args.expr.now c.in-Choose.cases c.in-Choose.other c.deref-in-Choose.result.now
+      c.in-Choose.is c.deref-in-Choose.ensures.value) c.decreases,
+  tt,
+)
+
+pub add_named-add_named-requires-in-Choose : goal.add_named-add_named-requires-in-Choose
+add_named-add_named-requires-in-Choose t c = (
+  smaller.one_falls _ _ t
+      (smaller.less-other c.args.expr.now c.deref-in-Choose-2.result.now c.in-Choose.cases c.in-Choose.other
+      c.in-Choose.is c.deref-in-Choose-2.ensures) c.decreases,
+  tt,
+)
+
+pub add_some-loop-e-smaller : goal.add_some-loop-e-smaller
+add_some-loop-e-smaller t c =
+    falls _ c.loop-e.e-index c.loop-e-test.true
+
+pub add_some-add_named-requires : goal.add_some-add_named-requires
+add_some-add_named-requires t c = (
+  smaller.item_falls _ _ t
+      (smaller.up-item c.args.es.now c.loop-e.e-index c.e-item.result c.loop-e-test.true
+      c.e-item.is) c.decreases,
+  tt,
+)
+
+pub add_parts-loop-e-smaller : goal.add_parts-loop-e-smaller
+add_parts-loop-e-smaller t c =
+    falls _ c.loop-e.e-index c.loop-e-test.true
+
+pub add_parts-add_named-requires : goal.add_parts-add_named-requires
+add_parts-add_named-requires t c = (
+  smaller.item_falls _ _ t
+      (smaller.up-part c.args.parts.now c.loop-e.e-index c.loop-e-item.result c.loop-e-test.true
+      c.loop-e-item.is) c.decreases,
+  tt,
+)
+
+pub add_cases-loop-test-smaller : goal.add_cases-loop-test-smaller
+add_cases-loop-test-smaller t c =
+    falls _ c.loop-test.test-index c.loop-test-test.true
+
+pub add_cases-add_named-requires : goal.add_cases-add_named-requires
+add_cases-add_named-requires t c = (
+  smaller.item_falls _ _ t
+      (smaller.up-test c.args.cases.now c.loop-test.test-index c.loop-test-item.result c.loop-test-test.true
+      c.loop-test-item.is) c.decreases,
+  tt,
+)
+
+pub add_cases-add_named-requires-in-loop-test : goal.add_cases-add_named-requires-in-loop-test
+add_cases-add_named-requires-in-loop-test t c = (
+  smaller.item_falls _ _ t
+      (smaller.up-value c.args.cases.now c.loop-test.test-index c.loop-test-item.result c.loop-test-test.true
+      c.loop-test-item.is) c.decreases,
+  tt,
+)

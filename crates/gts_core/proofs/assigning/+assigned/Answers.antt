@@ -60,37 +60,33 @@ pub all_assigned-loop-act-smaller : goal.all_assigned-loop-act-smaller
 all_assigned-loop-act-smaller t c = falls _ c.loop-act.act-index c.loop-act-test.true
 
 pub all_assigned-assigned-requires : goal.all_assigned-assigned-requires
-all_assigned-assigned-requires t c =
-    (
-      smaller.item_falls _ _ t
-          (shrinking.up-act c.args.acts.now c.loop-act.act-index c.act-item.result c.loop-act-test.true c.act-item.is)
-          c.decreases,
-      tt,
-    )
+all_assigned-assigned-requires t c = (
+  smaller.item_falls _ _ t
+      (shrinking.up-act c.args.acts.now c.loop-act.act-index c.act-item.result c.loop-act-test.true c.act-item.is)
+      c.decreases,
+  tt,
+)
 
 pub assigned-assigned-requires : goal.assigned-assigned-requires
-assigned-assigned-requires t c =
-    (
-      smaller.one_falls _ _ t
-          (shrinking.less-first c.args.act.now c.deref-in-If.result.now c.in-If.test c.in-If.first c.in-If.second
-          c.in-If.is c.deref-in-If.ensures) c.decreases,
-      tt,
-    )
+assigned-assigned-requires t c = (
+  smaller.one_falls _ _ t
+      (shrinking.less-first c.args.act.now c.deref-in-If.result.now c.in-If.test c.in-If.first c.in-If.second
+      c.in-If.is c.deref-in-If.ensures) c.decreases,
+  tt,
+)
 
 pub assigned-assigned-requires-in-If : goal.assigned-assigned-requires-in-If
-assigned-assigned-requires-in-If t c =
-    (
-      smaller.one_falls _ _ t
-          (shrinking.less-second c.args.act.now c.deref-in-If-2.result.now c.in-If.test c.in-If.first c.in-If.second
-          c.in-If.is c.deref-in-If-2.ensures) c.decreases,
-      tt,
-    )
+assigned-assigned-requires-in-If t c = (
+  smaller.one_falls _ _ t
+      (shrinking.less-second c.args.act.now c.deref-in-If-2.result.now c.in-If.test c.in-If.first c.in-If.second
+      c.in-If.is c.deref-in-If-2.ensures) c.decreases,
+  tt,
+)
 
 pub assigned-all_assigned-requires : goal.assigned-all_assigned-requires
-assigned-all_assigned-requires t c =
-    (
-      smaller.list_falls _ _ t
-          (shrinking.less-acts c.args.act.now c.in-All.acts c.deref-in-All.result.now c.in-All.is
-          c.deref-in-All.ensures.value) c.decreases,
-      tt,
-    )
+assigned-all_assigned-requires t c = (
+  smaller.list_falls _ _ t
+      (shrinking.less-acts c.args.act.now c.in-All.acts c.deref-in-All.result.now c.in-All.is
+      c.deref-in-All.ensures.value) c.decreases,
+  tt,
+)

@@ -127,156 +127,140 @@ copy_expression-returns-in_ok-listed-in-Count t c =
 
 -- each call is of something smaller
 pub copy_expression-copy_expression-requires : goal.copy_expression-copy_expression-requires
-copy_expression-copy_expression-requires t c =
-    (
-      smaller.one_falls _ _ t
-          (smaller.less-not c.args.expr.now c.deref.result.now c.in-Not.a c.in-Not.is c.deref.ensures) c.decreases,
-      tt,
-    )
+copy_expression-copy_expression-requires t c = (
+  smaller.one_falls _ _ t
+      (smaller.less-not c.args.expr.now c.deref.result.now c.in-Not.a c.in-Not.is c.deref.ensures) c.decreases,
+  tt,
+)
 
 pub copy_expression-listed-requires : goal.copy_expression-listed-requires
-copy_expression-listed-requires t c =
-    (
-      smaller.list_falls _ _ t
-          (smaller.less-all c.args.expr.now c.in-All.es c.deref-in-All.result.now c.in-All.is
-          c.deref-in-All.ensures.value) c.decreases,
-      tt,
-    )
+copy_expression-listed-requires t c = (
+  smaller.list_falls _ _ t
+      (smaller.less-all c.args.expr.now c.in-All.es c.deref-in-All.result.now c.in-All.is
+      c.deref-in-All.ensures.value) c.decreases,
+  tt,
+)
 
 pub copy_expression-listed-requires-in-Any : goal.copy_expression-listed-requires-in-Any
-copy_expression-listed-requires-in-Any t c =
-    (
-      smaller.list_falls _ _ t
-          (smaller.less-any c.args.expr.now c.in-Any.es c.deref-in-Any.result.now c.in-Any.is
-          c.deref-in-Any.ensures.value) c.decreases,
-      tt,
-    )
+copy_expression-listed-requires-in-Any t c = (
+  smaller.list_falls _ _ t
+      (smaller.less-any c.args.expr.now c.in-Any.es c.deref-in-Any.result.now c.in-Any.is
+      c.deref-in-Any.ensures.value) c.decreases,
+  tt,
+)
 
 pub copy_expression-listed-requires-in-Product : goal.copy_expression-listed-requires-in-Product
-copy_expression-listed-requires-in-Product t c =
-    (
-      smaller.list_falls _ _ t
-          (smaller.less-product c.args.expr.now c.in-Product.es c.deref-in-Product.result.now c.in-Product.is
-          c.deref-in-Product.ensures.value) c.decreases,
-      tt,
-    )
+copy_expression-listed-requires-in-Product t c = (
+  smaller.list_falls _ _ t
+      (smaller.less-product c.args.expr.now c.in-Product.es c.deref-in-Product.result.now c.in-Product.is
+      c.deref-in-Product.ensures.value) c.decreases,
+  tt,
+)
 
 pub copy_expression-listed-requires-in-Least : goal.copy_expression-listed-requires-in-Least
-copy_expression-listed-requires-in-Least t c =
-    (
-      smaller.list_falls _ _ t
-          (smaller.less-least c.args.expr.now c.in-Least.es c.deref-in-Least.result.now c.in-Least.is
-          c.deref-in-Least.ensures.value) c.decreases,
-      tt,
-    )
+copy_expression-listed-requires-in-Least t c = (
+  smaller.list_falls _ _ t
+      (smaller.less-least c.args.expr.now c.in-Least.es c.deref-in-Least.result.now c.in-Least.is
+      c.deref-in-Least.ensures.value) c.decreases,
+  tt,
+)
 
 pub copy_expression-listed-requires-in-Greatest : goal.copy_expression-listed-requires-in-Greatest
-copy_expression-listed-requires-in-Greatest t c =
-    (
-      smaller.list_falls _ _ t
-          (smaller.less-greatest c.args.expr.now c.in-Greatest.es c.deref-in-Greatest.result.now c.in-Greatest.is
-          c.deref-in-Greatest.ensures.value) c.decreases,
-      tt,
-    )
+copy_expression-listed-requires-in-Greatest t c = (
+  smaller.list_falls _ _ t
+      (smaller.less-greatest c.args.expr.now c.in-Greatest.es c.deref-in-Greatest.result.now c.in-Greatest.is
+      c.deref-in-Greatest.ensures.value) c.decreases,
+  tt,
+)
 
 pub copy_expression-listed-requires-in-Count : goal.copy_expression-listed-requires-in-Count
-copy_expression-listed-requires-in-Count t c =
-    (
-      smaller.list_falls _ _ t
-          (smaller.less-count c.args.expr.now c.in-Count.es c.deref-in-Count.result.now c.in-Count.is
-          c.deref-in-Count.ensures.value) c.decreases,
-      tt,
-    )
+copy_expression-listed-requires-in-Count t c = (
+  smaller.list_falls _ _ t
+      (smaller.less-count c.args.expr.now c.in-Count.es c.deref-in-Count.result.now c.in-Count.is
+      c.deref-in-Count.ensures.value) c.decreases,
+  tt,
+)
 
 pub copy_expression-copy_expression-requires-in-Compare : goal.copy_expression-copy_expression-requires-in-Compare
-copy_expression-copy_expression-requires-in-Compare t c =
-    (
-      smaller.one_falls _ _ t
-          (smaller.less-left c.args.expr.now c.deref-in-Compare.result.now c.in-Compare.relation c.in-Compare.a
-          c.in-Compare.b c.in-Compare.is c.deref-in-Compare.ensures) c.decreases,
-      tt,
-    )
+copy_expression-copy_expression-requires-in-Compare t c = (
+  smaller.one_falls _ _ t
+      (smaller.less-left c.args.expr.now c.deref-in-Compare.result.now c.in-Compare.relation c.in-Compare.a
+      c.in-Compare.b c.in-Compare.is c.deref-in-Compare.ensures) c.decreases,
+  tt,
+)
 
 pub copy_expression-copy_expression-requires-in-Compare-2 : goal.copy_expression-copy_expression-requires-in-Compare-2
-copy_expression-copy_expression-requires-in-Compare-2 t c =
-    (
-      smaller.one_falls _ _ t
-          (smaller.less-right c.args.expr.now c.deref-in-Compare-2.result.now c.in-Compare.relation c.in-Compare.a
-          c.in-Compare.b c.in-Compare.is c.deref-in-Compare-2.ensures) c.decreases,
-      tt,
-    )
+copy_expression-copy_expression-requires-in-Compare-2 t c = (
+  smaller.one_falls _ _ t
+      (smaller.less-right c.args.expr.now c.deref-in-Compare-2.result.now c.in-Compare.relation c.in-Compare.a
+      c.in-Compare.b c.in-Compare.is c.deref-in-Compare-2.ensures) c.decreases,
+  tt,
+)
 
 pub copy_expression-summed-requires : goal.copy_expression-summed-requires
-copy_expression-summed-requires t c =
-    (
-      smaller.list_falls _ _ t
-          (smaller.less-parts c.args.expr.now c.in-Sum.terms c.deref-in-Sum.result.now c.in-Sum.is
-          c.deref-in-Sum.ensures.value) c.decreases,
-      tt,
-    )
+copy_expression-summed-requires t c = (
+  smaller.list_falls _ _ t
+      (smaller.less-parts c.args.expr.now c.in-Sum.terms c.deref-in-Sum.result.now c.in-Sum.is
+      c.deref-in-Sum.ensures.value) c.decreases,
+  tt,
+)
 
 pub copy_expression-chosen-requires : goal.copy_expression-chosen-requires
-copy_expression-chosen-requires t c =
-    (
-      smaller.list_falls _ _ t
-          (smaller.less-cases c.args.expr.now c.in-Choose.choices c.in-Choose.other c.deref-in-Choose.result.now
-          c.in-Choose.is c.deref-in-Choose.ensures.value) c.decreases,
-      tt,
-    )
+copy_expression-chosen-requires t c = (
+  smaller.list_falls _ _ t
+      (smaller.less-cases c.args.expr.now c.in-Choose.choices c.in-Choose.other c.deref-in-Choose.result.now
+      c.in-Choose.is c.deref-in-Choose.ensures.value) c.decreases,
+  tt,
+)
 
 pub copy_expression-copy_expression-requires-in-Choose : goal.copy_expression-copy_expression-requires-in-Choose
-copy_expression-copy_expression-requires-in-Choose t c =
-    (
-      smaller.one_falls _ _ t
-          (smaller.less-other c.args.expr.now c.deref-in-Choose-2.result.now c.in-Choose.choices c.in-Choose.other
-          c.in-Choose.is c.deref-in-Choose-2.ensures) c.decreases,
-      tt,
-    )
+copy_expression-copy_expression-requires-in-Choose t c = (
+  smaller.one_falls _ _ t
+      (smaller.less-other c.args.expr.now c.deref-in-Choose-2.result.now c.in-Choose.choices c.in-Choose.other
+      c.in-Choose.is c.deref-in-Choose-2.ensures) c.decreases,
+  tt,
+)
 
 pub listed-loop-e-smaller : goal.listed-loop-e-smaller
 listed-loop-e-smaller t c =
     falls _ c.loop-e.e-index c.loop-e-test.true
 
 pub listed-copy_expression-requires : goal.listed-copy_expression-requires
-listed-copy_expression-requires t c =
-    (
-      smaller.item_falls _ _ t
-          (smaller.up-item c.args.es.now c.loop-e.e-index c.e-item.result c.loop-e-test.true
-          c.e-item.is) c.decreases,
-      tt,
-    )
+listed-copy_expression-requires t c = (
+  smaller.item_falls _ _ t
+      (smaller.up-item c.args.es.now c.loop-e.e-index c.e-item.result c.loop-e-test.true
+      c.e-item.is) c.decreases,
+  tt,
+)
 
 pub summed-loop-plus-smaller : goal.summed-loop-plus-smaller
 summed-loop-plus-smaller t c =
     falls _ c.loop-plus.plus-index c.loop-plus-test.true
 
 pub summed-copy_expression-requires : goal.summed-copy_expression-requires
-summed-copy_expression-requires t c =
-    (
-      smaller.item_falls _ _ t
-          (smaller.up-part c.args.terms.now c.loop-plus.plus-index c.loop-plus-item.result c.loop-plus-test.true
-          c.loop-plus-item.is) c.decreases,
-      tt,
-    )
+summed-copy_expression-requires t c = (
+  smaller.item_falls _ _ t
+      (smaller.up-part c.args.terms.now c.loop-plus.plus-index c.loop-plus-item.result c.loop-plus-test.true
+      c.loop-plus-item.is) c.decreases,
+  tt,
+)
 
 pub chosen-loop-test-smaller : goal.chosen-loop-test-smaller
 chosen-loop-test-smaller t c =
     falls _ c.loop-test.test-index c.loop-test-test.true
 
 pub chosen-copy_expression-requires : goal.chosen-copy_expression-requires
-chosen-copy_expression-requires t c =
-    (
-      smaller.item_falls _ _ t
-          (smaller.up-test c.args.choices.now c.loop-test.test-index c.loop-test-item.result c.loop-test-test.true
-          c.loop-test-item.is) c.decreases,
-      tt,
-    )
+chosen-copy_expression-requires t c = (
+  smaller.item_falls _ _ t
+      (smaller.up-test c.args.choices.now c.loop-test.test-index c.loop-test-item.result c.loop-test-test.true
+      c.loop-test-item.is) c.decreases,
+  tt,
+)
 
 pub chosen-copy_expression-requires-in-loop-test : goal.chosen-copy_expression-requires-in-loop-test
-chosen-copy_expression-requires-in-loop-test t c =
-    (
-      smaller.item_falls _ _ t
-          (smaller.up-value c.args.choices.now c.loop-test.test-index c.loop-test-item.result c.loop-test-test.true
-          c.loop-test-item.is) c.decreases,
-      tt,
-    )
+chosen-copy_expression-requires-in-loop-test t c = (
+  smaller.item_falls _ _ t
+      (smaller.up-value c.args.choices.now c.loop-test.test-index c.loop-test-item.result c.loop-test-test.true
+      c.loop-test-item.is) c.decreases,
+  tt,
+)

@@ -16,3 +16,4 @@ pub mod Given
 pub mod Closings
 pub mod Follows
 pub mod Anew
+pub mod Smaller

@@ -1,5 +1,5 @@
 -- Values that become known.
-use Rattle.std.proofs.Common.{◌≡◌, ℕ, zero, suc, ◌+◌, ◌<◌, ◌⊎◌, inl, inr, Bool, true, false, List, [], ◌∷◌, length, set, Contains, Option, Some, None, IfSome, refl, sym, ◌∙◌, subst, arith, length-set}
+use Rattle.std.proofs.Common.{◌≡◌, ℕ, zero, suc, ◌+◌, ◌<◌, ◌⊎◌, inl, inr, Bool, true, false, List, [], ◌∷◌, length, set, Contains, Option, Some, None, IfSome, IfNone, refl, sym, ◌∙◌, subst, arith, length-set}
 use Rattle.std.proofs.lemmas.Bool.{cases_eq}
 use Rattle.ar_base.specs.Lists.{Stands, IsOneOf}
 use Rattle.ar_base.proofs.Standing.{stands_one, stands_within, stands_none, one_first}
@@ -13,7 +13,7 @@ use Rattle.gts_core.specs.declared.system.Variable.{Variable}
 use Rattle.gts_core.specs.declared.system.Assign.{Assign}
 use Rattle.gts_core.specs.declared.system.GtsParts.{GtsParts}
 use Rattle.flow_changes.specs.Cone.{Knows}
-use Rattle.flow_changes.specs.Known.{Puts, Touches, Applies, unmarked}
+use Rattle.flow_changes.specs.Known.{Puts, Touches, Applies, IsBarred, unmarked}
 use Rattle.value_changes.proofs.Picks.{set_same, set_other, keeps_same}
 use Rattle.ar_meaning.specs.Reached.{Reaches}
 
@@ -42,6 +42,20 @@ puts_nothing d t set values known there =
 pub puts_same : (d : Domain) (t : ℕ) (v : Value) (values : List Value) (known : List Bool) → Stands known t true
     → Stands values t v → Holds d v → Puts d t (v ∷ []) values known values known false
 puts_same d t v values known m s h = puts_nothing d t (v ∷ []) values known (λ w c. let e = contains-one v w c in (record { marked = m; value = subst (λ (z : Value). Stands values t z) e s }, subst (λ (z : Value). Holds d z) e h))
+
+-- the value that is known already, where it is compared with the new one
+module _ (d : Domain) (t : ℕ) (v old : Value) (values : List Value) (known : List Bool) (m : Stands known t true)
+    (s : Stands values t old) where
+  pub puts_again : (r : Option Bool) → Holds d v → IfSome r (λ changed. (changed ≡ false) × (old ≡ v))
+      → IfSome r (Puts d t (v ∷ []) values known values known)
+  puts_again (Some b) h k =
+      subst (λ (z : Bool). Puts d t (v ∷ []) values known values known z) (sym k.0)
+      (puts_same d t v values known m (subst (λ (z : Value). Stands values t z) k.1 s) h)
+  puts_again None h k = k
+
+  pub barred_again : (r : Option Bool) → IfNone r (old ≡ v → ⊥) → IfNone r (IsBarred d t v values known)
+  barred_again (Some b) k = k
+  barred_again None k = inr (old, record { marked = m; value = s }, k)
 
 module _ (d : Domain) (t : ℕ) (v : Value) (values : List Value) (known : List Bool) (m : Stands known t false)
     (within : t < length values) (h : Holds d v) where

@@ -1,4 +1,5 @@
 use Rattle.std.proofs.Common.{◌≡◌, ◌⊎◌, inl, inr, List, Bool, true, refl, ap, ◌∙◌, sym, subst}
+use borrow.Author.Count.{falls}
 use Rattle.ar_base.specs.Lists.{Stands}
 use Rattle.ar_base.specs.Numbers.{VarId}
 use Rattle.typed_expr.specs.Mentions.{Mentions, Some_mentions, Parts_mention, Cases_mention}
@@ -11,6 +12,7 @@ use Rattle.ar_meaning.proofs.Found.{holds, fails}
 use Rattle.gts_core.proofs.NamedVariables as named
 use Rattle.flow_changes.specs.Known.{MarksEach}
 use Rattle.flow_changes.proofs.NamedMarks.{mark_answer, answer_as, at_level, of_two, remains_start, some_on, some_not, some_all, parts_on, parts_not, parts_all, cases_on, cases_not, cases_all}
+use Rattle.flow_changes.proofs.Smaller as smaller
 use Rattle.flow_changes.proofs.marked.+marked.Goals as goal
 
 pub is_marked-returns-in-Variable : goal.is_marked-returns-in-Variable
@@ -207,3 +209,138 @@ cases_marked-returns-then-not-both t c =
     c.is_marked-in-loop-test.ensures in
     cases_not marks c.args.cases.now c.loop-test.test-index o c.loop-test-test.true c.loop-test-item.is
     c.loop-test.invariant (fails _ c.both.result c.if-not-both.true two)
+
+pub is_marked-is_marked-requires : goal.is_marked-is_marked-requires
+is_marked-is_marked-requires t c = (
+  smaller.one_falls _ _ t
+      (smaller.less-not c.args.expr.now c.deref.result.now c.in-Not.a c.in-Not.is c.deref.ensures) c.decreases,
+  tt,
+)
+
+pub is_marked-some_marked-requires : goal.is_marked-some_marked-requires
+is_marked-some_marked-requires t c = (
+  smaller.list_falls _ _ t
+      (smaller.less-all c.args.expr.now c.in-All.es c.deref-in-All.result.now c.in-All.is
+      c.deref-in-All.ensures.value) c.decreases,
+  tt,
+)
+
+pub is_marked-some_marked-requires-in-Any : goal.is_marked-some_marked-requires-in-Any
+is_marked-some_marked-requires-in-Any t c = (
+  smaller.list_falls _ _ t
+      (smaller.less-any c.args.expr.now c.in-Any.es c.deref-in-Any.result.now c.in-Any.is
+      c.deref-in-Any.ensures.value) c.decreases,
+  tt,
+)
+
+pub is_marked-some_marked-requires-in-Product : goal.is_marked-some_marked-requires-in-Product
+is_marked-some_marked-requires-in-Product t c = (
+  smaller.list_falls _ _ t
+      (smaller.less-product c.args.expr.now c.in-Product.es c.deref-in-Product.result.now c.in-Product.is
+      c.deref-in-Product.ensures.value) c.decreases,
+  tt,
+)
+
+pub is_marked-some_marked-requires-in-Least : goal.is_marked-some_marked-requires-in-Least
+is_marked-some_marked-requires-in-Least t c = (
+  smaller.list_falls _ _ t
+      (smaller.less-least c.args.expr.now c.in-Least.es c.deref-in-Least.result.now c.in-Least.is
+      c.deref-in-Least.ensures.value) c.decreases,
+  tt,
+)
+
+pub is_marked-some_marked-requires-in-Greatest : goal.is_marked-some_marked-requires-in-Greatest
+is_marked-some_marked-requires-in-Greatest t c = (
+  smaller.list_falls _ _ t
+      (smaller.less-greatest c.args.expr.now c.in-Greatest.es c.deref-in-Greatest.result.now c.in-Greatest.is
+      c.deref-in-Greatest.ensures.value) c.decreases,
+  tt,
+)
+
+pub is_marked-some_marked-requires-in-Count : goal.is_marked-some_marked-requires-in-Count
+is_marked-some_marked-requires-in-Count t c = (
+  smaller.list_falls _ _ t
+      (smaller.less-count c.args.expr.now c.in-Count.es c.deref-in-Count.result.now c.in-Count.is
+      c.deref-in-Count.ensures.value) c.decreases,
+  tt,
+)
+
+pub is_marked-is_marked-requires-in-Compare : goal.is_marked-is_marked-requires-in-Compare
+is_marked-is_marked-requires-in-Compare t c = (
+  smaller.one_falls _ _ t
+      (smaller.less-left c.args.expr.now c.deref-in-Compare.result.now c.in-Compare.field-0 c.in-Compare.a
+      c.in-Compare.b c.in-Compare.is c.deref-in-Compare.ensures) c.decreases,
+  tt,
+)
+
+pub is_marked-is_marked-requires-in-Compare-2 : goal.is_marked-is_marked-requires-in-Compare-2
+is_marked-is_marked-requires-in-Compare-2 t c = (
+  smaller.one_falls _ _ t
+      (smaller.less-right c.args.expr.now c.deref-in-Compare-2.result.now c.in-Compare.field-0 c.in-Compare.a
+      c.in-Compare.b c.in-Compare.is c.deref-in-Compare-2.ensures) c.decreases,
+  tt,
+)
+
+pub is_marked-parts_marked-requires : goal.is_marked-parts_marked-requires
+is_marked-parts_marked-requires t c = (
+  smaller.list_falls _ _ t
+      (smaller.less-parts c.args.expr.now c.in-Sum.parts c.deref-in-Sum.result.now c.in-Sum.is
+      c.deref-in-Sum.ensures.value) c.decreases,
+  tt,
+)
+
+pub is_marked-cases_marked-requires : goal.is_marked-cases_marked-requires
+is_marked-cases_marked-requires t c = (
+  smaller.list_falls _ _ t
+      (smaller.less-cases c.args.expr.now c.in-Choose.cases c.in-Choose.other c.deref-in-Choose.result.now
+      c.in-Choose.is c.deref-in-Choose.ensures.value) c.decreases,
+  tt,
+)
+
+pub is_marked-is_marked-requires-in-Choose : goal.is_marked-is_marked-requires-in-Choose
+is_marked-is_marked-requires-in-Choose t c = (
+  smaller.one_falls _ _ t
+      (smaller.less-other c.args.expr.now c.deref-in-Choose-2.result.now c.in-Choose.cases c.in-Choose.other
+      c.in-Choose.is c.deref-in-Choose-2.ensures) c.decreases,
+  tt,
+)
+
+pub some_marked-is_marked-requires : goal.some_marked-is_marked-requires
+some_marked-is_marked-requires t c = (
+  smaller.item_falls _ _ t
+      (smaller.up-item c.args.es.now c.loop-e.e-index c.e-item.result c.loop-e-test.true c.e-item.is) c.decreases,
+  tt,
+)
+
+pub parts_marked-is_marked-requires : goal.parts_marked-is_marked-requires
+parts_marked-is_marked-requires t c = (
+  smaller.item_falls _ _ t
+      (smaller.up-part c.args.parts.now c.loop-e.e-index c.loop-e-item.result c.loop-e-test.true
+      c.loop-e-item.is) c.decreases,
+  tt,
+)
+
+pub cases_marked-is_marked-requires : goal.cases_marked-is_marked-requires
+cases_marked-is_marked-requires t c = (
+  smaller.item_falls _ _ t
+      (smaller.up-test c.args.cases.now c.loop-test.test-index c.loop-test-item.result c.loop-test-test.true
+      c.loop-test-item.is) c.decreases,
+  tt,
+)
+
+pub cases_marked-is_marked-requires-in-loop-test : goal.cases_marked-is_marked-requires-in-loop-test
+cases_marked-is_marked-requires-in-loop-test t c = (
+  smaller.item_falls _ _ t
+      (smaller.up-value c.args.cases.now c.loop-test.test-index c.loop-test-item.result c.loop-test-test.true
+      c.loop-test-item.is) c.decreases,
+  tt,
+)
+
+pub some_marked-loop-e-smaller : goal.some_marked-loop-e-smaller
+some_marked-loop-e-smaller t c = falls _ c.loop-e.e-index c.loop-e-test.true
+
+pub parts_marked-loop-e-smaller : goal.parts_marked-loop-e-smaller
+parts_marked-loop-e-smaller t c = falls _ c.loop-e.e-index c.loop-e-test.true
+
+pub cases_marked-loop-test-smaller : goal.cases_marked-loop-test-smaller
+cases_marked-loop-test-smaller t c = falls _ c.loop-test.test-index c.loop-test-test.true

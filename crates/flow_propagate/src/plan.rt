@@ -1,15 +1,16 @@
 //! The plan of a system's flows.
 
-ghost use Rattle.std.specs.Prelude.{IfOk};
-ghost use Rattle.flow_propagate.specs.Plan.{IsPlan};
+ghost use Rattle.std.specs.Prelude.{◌≡◌, map, IfOk};
+ghost use Rattle.gts_core.specs.Sound.{IsSound};
+ghost use Rattle.flow_propagate.specs.Plan.{AreBlocks, AreReaders, AreGivers, IsPlan, plain_pair};
 
 use crate::dependence::{dependences, flow_places};
 use crate::pairs::Runs;
 use crate::readers::{givers, in_runs, readers};
-use crate::schedule::{in_order, places_in};
+use crate::schedule::{Schedule, scheduled};
 use ar_base::Memory;
 use flow_blocks::{Block, blocks};
-use gts_core::Gts;
+use gts_core::{Gts, GtsParts};
 use std::alloc::Global;
 
 /// How the flows of a system depend on each other, which assignments read and give which variable, and in which order the
@@ -36,16 +37,19 @@ pub struct Plan {
 pub fn make_plan(alloc: Global, gts: &Gts) -> Result<Plan, Memory>
     ensures { IfOk result (λ plan. IsPlan gts.now plan) }
 {
-    let parts = gts.parts();
+    plan_of(alloc, gts.parts())
+}
+
+// The plan of a sound system, by its parts.
+fn plan_of(alloc: Global, parts: &GtsParts) -> Result<Plan, Memory>
+    requires { IsSound parts.now }
+    ensures { IfOk result (λ plan. IsPlan parts.now plan) }
+{
     let pairs = readers(alloc, parts)?;
-    let flows = flow_places(alloc, &parts.variables)?;
-    let graph = dependences(alloc, parts, &flows, &pairs)?;
-    let blocks = blocks(alloc, &graph)?;
-    let readers = in_runs(alloc, &pairs, parts.variables.len())?;
-    let gives = givers(alloc, parts)?;
-    let givers = in_runs(alloc, &gives, parts.variables.len())?;
-    let order = in_order(alloc, parts, &blocks, &readers.pairs)?;
-    let places = places_in(alloc, &order, parts.assigns.len())?;
+    let blocks = classes(alloc, parts, &pairs)?;
+    let readers = reader_runs(alloc, parts, &pairs)?;
+    let givers = giver_runs(alloc, parts)?;
+    let Schedule { order, places } = scheduled(alloc, parts, &blocks, &readers.pairs)?;
     Ok(Plan {
         blocks,
         readers,
@@ -53,4 +57,34 @@ pub fn make_plan(alloc: Global, gts: &Gts) -> Result<Plan, Memory>
         order,
         places,
     })
+}
+
+// The classes of the flows by dependence, in order.
+fn classes(alloc: Global, parts: &GtsParts, pairs: &[(u32, u32)]) -> Result<Vec<Block>, Memory>
+    requires sound { IsSound parts.now }
+    requires readers { AreReaders parts.now pairs.now }
+    ensures { IfOk result (λ classes. AreBlocks parts.now
+        (map (λ b. b.members.items) classes.items)) }
+{
+    let flows = flow_places(alloc, &parts.variables)?;
+    let graph = dependences(alloc, parts, &flows, pairs)?;
+    blocks(alloc, &graph)
+}
+
+// The pairs of a variable and an assignment that names it, and where those of each variable stand.
+fn reader_runs(alloc: Global, parts: &GtsParts, pairs: &[(u32, u32)]) -> Result<Runs, Memory>
+    requires sound { IsSound parts.now }
+    requires readers { AreReaders parts.now pairs.now }
+    ensures { IfOk result (λ runs. map plain_pair runs.pairs.items ≡ pairs.now) }
+{
+    in_runs(alloc, pairs, parts.variables.len())
+}
+
+// The pairs of a variable and an assignment to it, and where those of each variable stand.
+fn giver_runs(alloc: Global, parts: &GtsParts) -> Result<Runs, Memory>
+    requires { IsSound parts.now }
+    ensures { IfOk result (λ runs. AreGivers parts.now (map plain_pair runs.pairs.items)) }
+{
+    let pairs = givers(alloc, parts)?;
+    in_runs(alloc, &pairs, parts.variables.len())
 }

@@ -3,15 +3,37 @@
 ghost use Rattle.std.specs.Prelude.{◌≡◌, ℕ, length, IfOk};
 ghost use Rattle.ar_base.specs.Lists.{Stands};
 ghost use Rattle.gts_core.specs.Sound.{IsSound};
-ghost use Rattle.flow_propagate.specs.Plan.{IsOrder};
+ghost use Rattle.flow_propagate.specs.Plan.{IsOrder, IsSchedule};
 
 use ar_base::{AssignId, Memory, VarId, numbers_below};
 use flow_blocks::Block;
 use gts_core::{GtsParts, Variable};
 use std::alloc::Global;
 
+// An order of the assignments, and the place of each of them in it.
+#[derive(Drop)]
+pub(crate) struct Schedule {
+    pub(crate) order: Vec<u32>,
+    pub(crate) places: Vec<usize>,
+}
+
+// The order in which the assignments are looked at, and their places in it.
+pub(crate) fn scheduled(
+    alloc: Global,
+    parts: &GtsParts,
+    blocks: &[Block],
+    readers: &[(VarId, AssignId)],
+) -> Result<Schedule, Memory>
+    requires { IsSound parts.now }
+    ensures { IfOk result (λ made. IsSchedule parts.now made.order.items made.places.items) }
+{
+    let order = in_order(alloc, parts, blocks, readers)?;
+    let places = places_in(alloc, &order, parts.assigns.len())?;
+    Ok(Schedule { order, places })
+}
+
 // The assignments by the class of the target, then by how many variables they name, then by number.
-pub(crate) fn in_order(
+fn in_order(
     alloc: Global,
     parts: &GtsParts,
     blocks: &[Block],
@@ -28,7 +50,7 @@ pub(crate) fn in_order(
 }
 
 // The place of each number below the count in an order of them.
-pub(crate) fn places_in(alloc: Global, order: &[u32], count: usize) -> Result<Vec<usize>, Memory>
+fn places_in(alloc: Global, order: &[u32], count: usize) -> Result<Vec<usize>, Memory>
     requires { IsOrder count order.now }
     ensures long { IfOk result (λ places. length places.items ≡ count) }
     ensures placed { IfOk result (λ places. (n p : ℕ) → Stands places.items n p

@@ -48,20 +48,39 @@ pub(crate) fn run_checks(
     let words = checking_words(rt, words)?;
     let (whole, _) = verdict(rt, shelf, &words, text)?;
     print!(rt; "{name}: checked {whole}")?;
-    let Some((first, rest)) = text.split_once("\n") else {
-        return println!(rt);
-    };
-    if !first.starts_with("{") {
-        return println!(rt);
-    }
-    let (fewer, lacks) = verdict(rt, shelf, &words, rest)?;
-    print!(rt; ", without a line {fewer} {lacks}")?;
-    if let Some((second, rest)) = rest.split_once("\n") {
-        if second.starts_with("{") {
-            let turned = format!(in rt.alloc(); "{second}\n{first}\n{rest}")?;
-            let (turned, _) = verdict(rt, shelf, &words, turned.as_str())?;
-            print!(rt; ", exchanged {turned}")?;
+    if let Some((first, rest)) = text.split_once("\n") {
+        if first.starts_with("{") {
+            print_without(rt, shelf, &words, rest)?;
+            print_exchanged(rt, shelf, &words, first, rest)?;
         }
     }
     println!(rt)
+}
+
+// Prints what is said of the listing without its first line.
+fn print_without(
+    rt: &HostRuntime,
+    shelf: &mut MemoryShelf,
+    words: &[String],
+    rest: &str,
+) -> io::Result<()> {
+    let (fewer, lacks) = verdict(rt, shelf, words, rest)?;
+    print!(rt; ", without a line {fewer} {lacks}")
+}
+
+// Prints what is said of the listing with its first line behind the second, where that is one of a cut too.
+fn print_exchanged(
+    rt: &HostRuntime,
+    shelf: &mut MemoryShelf,
+    words: &[String],
+    first: &str,
+    rest: &str,
+) -> io::Result<()> {
+    let (second, rest) = rest.split_once("\n").unwrap_or(("", ""));
+    if !second.starts_with("{") {
+        return Ok(());
+    }
+    let turned = format!(in rt.alloc(); "{second}\n{first}\n{rest}")?;
+    let (turned, _) = verdict(rt, shelf, words, turned.as_str())?;
+    print!(rt; ", exchanged {turned}")
 }

@@ -161,6 +161,30 @@ fn turning_states(rt: &HostRuntime) -> Result<String, AllocError> {
     Ok(text)
 }
 
+// The declarations of so many flows.
+fn declared_flows(rt: &HostRuntime, count: usize) -> Result<String, AllocError> {
+    let mut text = String::from_str(rt.alloc(), "N f0")?;
+    for flow in 1..count {
+        let next = format!(in rt.alloc(); ", f{flow}")?;
+        text.push_str(&next)?;
+    }
+    Ok(text)
+}
+
+// The assignments of so many flows that count 60 states, and of flows that count so many of them each, and the number of
+// all.
+fn counting(rt: &HostRuntime, whole: u32, fewer: &str) -> Result<(String, usize), AllocError> {
+    let mut text = counted(rt, 0, 60)?;
+    let mut count: usize = 1;
+    let parts = fewer.split(' ').filter_map(|part| part.parse::<u32>().ok());
+    for states in (1..whole).map(|_| 60).chain(parts) {
+        let next = counted(rt, count, states)?;
+        text.push_str(&next)?;
+        count = count.saturating_add(1);
+    }
+    Ok((text, count))
+}
+
 /// A main block with 60 states, so many flows that count them all, and flows that count so many of
 /// them each.
 pub(crate) fn counting_flows(
@@ -168,16 +192,8 @@ pub(crate) fn counting_flows(
     whole: u32,
     fewer: &str,
 ) -> Result<String, AllocError> {
-    let mut flows = String::from_str(rt.alloc(), "N f0")?;
-    let mut assertions = counted(rt, 0, 60)?;
-    let parts = fewer.split(' ').filter_map(|part| part.parse::<u32>().ok());
-    for (place, states) in (1..whole).map(|_| 60).chain(parts).enumerate() {
-        let flow = place.saturating_add(1);
-        let next = format!(in rt.alloc(); ", f{flow}")?;
-        flows.push_str(&next)?;
-        let next = counted(rt, flow, states)?;
-        assertions.push_str(&next)?;
-    }
+    let (assertions, count) = counting(rt, whole, fewer)?;
+    let flows = declared_flows(rt, count)?;
     let states = turning_states(rt)?;
     format!(in rt.alloc();
         "domain N [0, 60] block B {flows} (reset = 0); observer Boolean o = s1;{states} assertion{assertions} end"
@@ -205,22 +221,38 @@ fn one_failed(rt: &HostRuntime, row: &[String]) -> Result<String, AllocError> {
     Ok(text)
 }
 
-/// A main block with two rows of so many instances, whose observer is that one of each row has failed.
-pub(crate) fn two_rows(rt: &HostRuntime, count: u32) -> Result<String, AllocError> {
+// The declarations of a row of instances.
+fn declared(rt: &HostRuntime, row: &[String]) -> Result<String, AllocError> {
+    let mut text = String::new(rt.alloc());
+    for name in row {
+        let next = format!(in rt.alloc(); " C {name};")?;
+        text.push_str(&next)?;
+    }
+    Ok(text)
+}
+
+// The observer that one of each row has failed.
+fn lost(rt: &HostRuntime, first: &[String], second: &[String]) -> Result<String, AllocError> {
+    let first = one_failed(rt, first)?;
+    let second = one_failed(rt, second)?;
+    format!(in rt.alloc(); " observer Boolean lost = {first} and {second}; end")
+}
+
+// A main block with these two rows of instances, and the observer.
+fn rows_of(rt: &HostRuntime, first: &[String], second: &[String]) -> Result<String, AllocError> {
     let mut text = String::from_str(
         rt.alloc(),
         "class C Boolean works (init = true); event fail; transition fail: works -> works := false; end block B",
     )?;
-    let rows = [row(rt, "a", count)?, row(rt, "b", count)?];
-    for row in &rows {
-        for name in row {
-            let next = format!(in rt.alloc(); " C {name};")?;
-            text.push_str(&next)?;
-        }
-    }
-    let first = one_failed(rt, &rows[0])?;
-    let second = one_failed(rt, &rows[1])?;
-    let observer = format!(in rt.alloc(); " observer Boolean lost = {first} and {second}; end")?;
-    text.push_str(&observer)?;
+    text.push_str(&declared(rt, first)?)?;
+    text.push_str(&declared(rt, second)?)?;
+    text.push_str(&lost(rt, first, second)?)?;
     Ok(text)
+}
+
+/// A main block with two rows of so many instances, whose observer is that one of each row has failed.
+pub(crate) fn two_rows(rt: &HostRuntime, count: u32) -> Result<String, AllocError> {
+    let first = row(rt, "a", count)?;
+    let second = row(rt, "b", count)?;
+    rows_of(rt, &first, &second)
 }

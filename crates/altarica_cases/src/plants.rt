@@ -133,12 +133,27 @@ fn list(rt: &HostRuntime, plant: &Plant) -> io::Result<()> {
     let status = altarica(rt.alloc(), &words, &mut shelf, &mut sink).number();
     compare(rt, plant.name, ".cuts", status, sink.bytes())?;
     if status == 0 {
-        run_orders(rt, plant.name, &words, sink.bytes())?;
-        let mut models = MemoryShelf::new(rt.alloc());
-        let name = file(rt, plant.name, ".alt")?;
-        let model = fs::read(rt, name.as_str())?;
-        models.place(name.as_str(), &model).map_err(no_memory)?;
-        run_checks(rt, plant.name, &mut models, &words, sink.bytes())?;
+        use_listing(rt, plant, &words, sink.bytes())?;
     }
     Ok(())
+}
+
+// Fires the orders of the listing of a plant's cuts, and gives it back to be checked.
+fn use_listing(
+    rt: &HostRuntime,
+    plant: &Plant,
+    words: &[String],
+    listing: &[u8],
+) -> io::Result<()> {
+    run_orders(rt, plant.name, words, listing)?;
+    let mut shelf = MemoryShelf::new(rt.alloc());
+    place_model(rt, &mut shelf, plant)?;
+    run_checks(rt, plant.name, &mut shelf, words, listing)
+}
+
+// Places the model of a plant on a shelf in memory.
+fn place_model(rt: &HostRuntime, shelf: &mut MemoryShelf, plant: &Plant) -> io::Result<()> {
+    let name = file(rt, plant.name, ".alt")?;
+    let model = fs::read(rt, name.as_str())?;
+    shelf.place(name.as_str(), &model).map_err(no_memory)
 }

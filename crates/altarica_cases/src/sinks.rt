@@ -17,22 +17,40 @@ const PIECE: usize = 65_536;
 /// has can go, and whether these are the first bytes of the whole.
 pub(crate) fn run_sinks(rt: &HostRuntime) -> io::Result<()> {
     let mut shelf = MemoryShelf::new(rt.alloc());
-    let model = two_rows(rt, 115)?;
-    shelf.place("model", model.as_bytes()).map_err(no_memory)?;
+    place_model(rt, &mut shelf)?;
     let mut whole = MemorySink::new(rt.alloc(), WHOLE).map_err(no_memory)?;
     let status = list(rt, &mut shelf, &mut whole)?;
-    let length = whole.bytes().len();
-    println!(rt; "long-listing: status {status} bytes {length}")?;
+    println!(rt;
+        "long-listing: status {status} bytes {}",
+        whole.bytes().len()
+    )?;
+    fail_calls(rt, &mut shelf, whole.bytes())?;
+    end_rooms(rt, &mut shelf, whole.bytes())
+}
+
+// Places the model.
+fn place_model(rt: &HostRuntime, shelf: &mut MemoryShelf) -> io::Result<()> {
+    let model = two_rows(rt, 115)?;
+    shelf.place("model", model.as_bytes()).map_err(no_memory)
+}
+
+// Lists the cuts to sinks of which a call fails.
+fn fail_calls(rt: &HostRuntime, shelf: &mut MemoryShelf, whole: &[u8]) -> io::Result<()> {
     for call in 1..7 {
         let mut sink = MemorySink::new(rt.alloc(), WHOLE).map_err(no_memory)?;
         sink.fail_at(&[call]).map_err(no_memory)?;
         print!(rt; "long-listing-put-{call}: ")?;
-        list_in_part(rt, &mut shelf, &mut sink, whole.bytes())?;
+        list_in_part(rt, shelf, &mut sink, whole)?;
     }
+    Ok(())
+}
+
+// Lists the cuts to sinks whose room ends within a piece.
+fn end_rooms(rt: &HostRuntime, shelf: &mut MemoryShelf, whole: &[u8]) -> io::Result<()> {
     for room in [0, 65_000, 100_000, 200_000, 300_000] {
         let mut sink = MemorySink::new(rt.alloc(), room).map_err(no_memory)?;
         print!(rt; "long-listing-room-{room}: ")?;
-        list_in_part(rt, &mut shelf, &mut sink, whole.bytes())?;
+        list_in_part(rt, shelf, &mut sink, whole)?;
     }
     Ok(())
 }

@@ -15,17 +15,31 @@ use std::io;
 /// The room for a text, in bytes.
 const ROOM: usize = 1_048_576;
 
-/// Prints each text with its tree of units, the limit that it passes, or the rule that it breaks and where.
+/// Prints each text with its tree of units, the limit that it passes, or the rule that it breaks and where; then long
+/// texts at the limits and past them.
 pub fn print_trees(rt: &HostRuntime) -> io::Result<()> {
     for text in &CASES {
         println!(rt; "{text}")?;
         print!(rt; "= ")?;
         print_answer(rt, text, true)?;
     }
+    print_depths(rt)?;
+    print_numbers_of_units(rt)?;
+    print_numbers_of_things(rt)?;
+    print_nodes(rt)
+}
+
+// Blocks inside each other.
+fn print_depths(rt: &HostRuntime) -> io::Result<()> {
     for count in 63..66 {
         print!(rt; "{count} blocks inside each other below the main block = ")?;
         print_answer(rt, blocks_inside(rt, count)?.as_str(), false)?;
     }
+    Ok(())
+}
+
+// Classes, each with two of the one before, instances of a class, and clones of the units of the block before.
+fn print_numbers_of_units(rt: &HostRuntime) -> io::Result<()> {
     for levels in 13..15 {
         print!(rt; "{levels} classes, each with two of the one before = ")?;
         print_answer(rt, twice_each(rt, levels)?.as_str(), false)?;
@@ -35,7 +49,11 @@ pub fn print_trees(rt: &HostRuntime) -> io::Result<()> {
         print_answer(rt, empty_units(rt, count)?.as_str(), false)?;
     }
     print!(rt; "40 blocks, each with two clones of a unit of the one before = ")?;
-    print_answer(rt, clones_twice(rt, 40)?.as_str(), false)?;
+    print_answer(rt, clones_twice(rt, 40)?.as_str(), false)
+}
+
+// Variables and events.
+fn print_numbers_of_things(rt: &HostRuntime) -> io::Result<()> {
     for member in ["", "Boolean w (init = true);"] {
         print!(rt; "1,024 instances of a class with 32 variables, and {member:?} = ")?;
         let text = classes_of(rt, 1_024, "Boolean", " (init = true)", member)?;
@@ -46,6 +64,11 @@ pub fn print_trees(rt: &HostRuntime) -> io::Result<()> {
         let text = classes_of(rt, 512, "event", "", member)?;
         print_answer(rt, text.as_str(), false)?;
     }
+    Ok(())
+}
+
+// Nodes of the tree.
+fn print_nodes(rt: &HostRuntime) -> io::Result<()> {
     for member in ["", "event e;"] {
         print!(rt; "71 units of 28,168 nodes, and 72 nodes with {member:?} = ")?;
         print_answer(rt, wide_observers(rt, 28_166, member)?.as_str(), false)?;

@@ -43,14 +43,22 @@ pub(crate) fn analyse(alloc: Global, text: &[u8], observer: u32) -> Option<Analy
     ensures { IfSome result (λ a. IsAnalysed a) }
 {
     let system = flat_system(alloc, text)?;
-    let events = system.parts().events.len() as u32;
     if observer as usize >= system.parts().observers.len() {
         return None;
     }
-    let Ok(forest) = forest_of(alloc, &system) else {
+    analysed(alloc, &system, observer)
+}
+
+// What a system means, and the observer.
+fn analysed(alloc: Global, system: &Gts, observer: u32) -> Option<Analysed>
+    requires { observer < length system.now.observers.items }
+    ensures { IfSome result (λ a. IsAnalysed a) }
+{
+    let events = system.parts().events.len() as u32;
+    let Ok(forest) = forest_of(alloc, system) else {
         return None;
     };
-    let Ok(equations) = table_of(alloc, &system, &forest, observer) else {
+    let Ok(equations) = table_of(alloc, system, &forest, observer) else {
         return None;
     };
     Some(Analysed {

@@ -11,6 +11,8 @@
 //! is the two families of the cut. Where it declares them in turn, the walk stores all that is needed.
 #![tactic(auto)]
 
+ghost use Rattle.system_cases.specs.Analysed.{IsAnalysed};
+
 mod analysing;
 mod families;
 mod firing;
@@ -20,6 +22,7 @@ mod stored;
 
 use analysing::{Analysed, analyse, flat_system};
 use firing::firable_sets;
+use flow_blocks::Block;
 use flow_propagate::make_plan;
 use gate_diagrams::{Drawn, Family, diagrams};
 use needing::Needing;
@@ -78,12 +81,19 @@ fn compare(rt: &HostRuntime, name: &str, a: &Analysed, family: &Family) -> io::R
 // Draws a model, and compares what is stored with what is needed.
 fn draw(rt: &HostRuntime, name: &str, observer: u32) -> io::Result<()> {
     let text = fs::read(rt, name)?;
-    let Some(a) = analyse(rt.alloc(), &text, observer) else {
-        return println!(rt; "{name}: not analysed");
-    };
+    match analyse(rt.alloc(), &text, observer) {
+        Some(a) => draw_analysed(rt, name, &a),
+        None => println!(rt; "{name}: not analysed"),
+    }
+}
+
+// The same of what a model means.
+fn draw_analysed(rt: &HostRuntime, name: &str, a: &Analysed) -> io::Result<()>
+    requires { IsAnalysed a.now }
+{
     match diagrams(rt.alloc(), &a.equations, &a.forest, 1_000) {
-        Ok(Drawn::Conflicts(family)) => compare(rt, name, &a, &family),
-        Ok(Drawn::Cuts(family)) => compare(rt, name, &a, &family),
+        Ok(Drawn::Conflicts(family)) => compare(rt, name, a, &family),
+        Ok(Drawn::Cuts(family)) => compare(rt, name, a, &family),
         Err(_) => println!(rt; "{name}: not drawn"),
     }
 }
@@ -94,13 +104,18 @@ fn show_plan(rt: &HostRuntime, name: &str) -> io::Result<()> {
     let Some(system) = flat_system(rt.alloc(), &text) else {
         return println!(rt; "{name}: no system");
     };
-    let Ok(plan) = make_plan(rt.alloc(), &system) else {
-        return println!(rt; "{name}: no plan");
-    };
+    match make_plan(rt.alloc(), &system) {
+        Ok(plan) => show_classes(rt, name, &plan.blocks),
+        Err(_) => println!(rt; "{name}: no plan"),
+    }
+}
+
+// Prints the members of each class.
+fn show_classes(rt: &HostRuntime, name: &str, classes: &[Block]) -> io::Result<()> {
     print!(rt; "{name}: plan")?;
-    for block in &plan.blocks {
+    for class in classes {
         print!(rt; " {{")?;
-        for member in &block.members {
+        for member in &class.members {
             print!(rt; " {member}")?;
         }
         print!(rt; " }}")?;

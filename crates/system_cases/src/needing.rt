@@ -156,13 +156,23 @@ impl<'a> Needing<'a> {
     fn add_least(&mut self, rt: &HostRuntime, family: &[u64]) -> Result<(), AllocError> {
         let least = minimal(rt, family)?;
         self.add_sections(rt, &least)?;
-        if let Some(event) = least_event(family) {
-            let (upper, lower) = halves(rt, family, event)?;
-            let upper = minimal(rt, &upper)?;
-            let lower = minimal(rt, &lower)?;
-            self.add_parts(rt, &upper, &lower)?;
+        match least_event(family) {
+            Some(event) => self.add_least_halves(rt, family, event),
+            None => Ok(()),
         }
-        Ok(())
+    }
+
+    // Takes up the parts of the least sets with an event and of those without it.
+    fn add_least_halves(
+        &mut self,
+        rt: &HostRuntime,
+        family: &[u64],
+        event: u64,
+    ) -> Result<(), AllocError> {
+        let (upper, lower) = halves(rt, family, event)?;
+        let upper = minimal(rt, &upper)?;
+        let lower = minimal(rt, &lower)?;
+        self.add_parts(rt, &upper, &lower)
     }
 
     // Takes the halves of a family up.

@@ -18,19 +18,26 @@ pub(crate) fn show_steps(rt: &HostRuntime, name: &str) -> io::Result<()> {
     if system.parts().ways.len() < 2 {
         return println!(rt; "{name}: no two ways");
     }
-    let Ok(mut stepper) = Stepper::start(rt.alloc(), &system) else {
-        return println!(rt; "{name}: no start");
-    };
+    match Stepper::start(rt.alloc(), &system) {
+        Ok(mut stepper) => run_steps(rt, name, &mut stepper),
+        Err(_) => println!(rt; "{name}: no start"),
+    }
+}
+
+// The steps from where the stepper stands.
+fn run_steps(rt: &HostRuntime, name: &str, stepper: &mut Stepper) -> io::Result<()>
+    requires { 1 < length stepper.old.system.ways.items }
+{
     print!(rt; "{name}:")?;
     show_values(rt, stepper.values())?;
-    fire(rt, &mut stepper, WayId::new(0))?;
-    fire(rt, &mut stepper, WayId::new(1))?;
-    fire(rt, &mut stepper, WayId::new(1))?;
-    back(rt, &mut stepper)?;
-    fire(rt, &mut stepper, WayId::new(0))?;
-    fire(rt, &mut stepper, WayId::new(1))?;
-    back(rt, &mut stepper)?;
-    back(rt, &mut stepper)
+    fire(rt, stepper, WayId::new(0))?;
+    fire(rt, stepper, WayId::new(1))?;
+    fire(rt, stepper, WayId::new(1))?;
+    back(rt, stepper)?;
+    fire(rt, stepper, WayId::new(0))?;
+    fire(rt, stepper, WayId::new(1))?;
+    back(rt, stepper)?;
+    back(rt, stepper)
 }
 
 // Fires a way, and prints what the call tells.

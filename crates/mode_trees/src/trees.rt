@@ -42,8 +42,7 @@ fn add_below(
     };
     below.push(edge)?;
     add_below(edges, edge.to, 0, room - 1, below)?;
-    add_below(edges, mode, edge.event.n as u64 + 1, room, below)?;
-    Ok(())
+    add_below(edges, mode, edge.event.n as u64 + 1, room, below)
 }
 
 // The edge of the least event from number `low` on among those that leave a mode.

@@ -1,11 +1,13 @@
 -- The assignments that wait.
-use Rattle.std.proofs.Common.{◌≡◌, ℕ, zero, suc, ◌+◌, ◌<◌, ◌≤◌, ◌⊎◌, inl, inr, List, [], ◌∷◌, ◌++◌, map, length, get_or, set, refl, sym, ap, ◌∙◌, subst, arith}
+use Rattle.std.proofs.Common.{◌≡◌, ◌↔◌, ℕ, zero, suc, ◌+◌, ◌<◌, ◌≤◌, ◌⊎◌, inl, inr, Result, Ok, Err, OnOk, List, [], ◌∷◌, map, length, get_or, set, refl, sym, ap, ◌∙◌, subst, arith}
+use Rattle.std.specs.BTreeSet.{BTreeSet, btree_set_len}
 use Rattle.std.specs.List.Sorted.{IsNonDecreasingBy, IsPermutation}
 use Rattle.std.proofs.lemmas.Bool.{cases_eq}
 use Rattle.std.proofs.lemmas.List.Sorted.{Contains-permutation, IsPermutation-sym}
 use Rattle.std.proofs.lemmas.Option.{slice_get-get_or}
 use Rattle.ar_base.specs.Lists.{Stands, IsOneOf}
 use Rattle.ar_base.proofs.Standing.{stands_one, stands_within, stands_some, stands_map, stands_map_back, one_contains, contains_one, at_most}
+use Rattle.ar_base.specs.declared.faults.Memory.{Memory}
 use Rattle.gts_core.specs.declared.system.GtsParts.{GtsParts}
 use Rattle.flow_propagate.specs.Plan.{ComesBefore, AreReaders, IsOrder, Reader, plain_pair}
 use Rattle.flow_propagate.specs.Closing.{IsAgain, WaitsAt, Waits, IsWorklist, TakesPlace, Takes, AddsWork}
@@ -63,6 +65,51 @@ pub none_waits : (count : ℕ) (w : Worklist) → IsWorklist count w → ((p : �
     → (n : ℕ) → Waits w n → ⊥
 none_waits count w h lacks n k = lacks k.place (stands_within w.order.now k.place n (h.placed n k.place k.stands))
     k.waits
+
+-- where the assignment's place waits, nothing has to be added
+pub adds_none : (count n place : ℕ) (w : Worklist) → IsWorklist count w → Stands w.places.now n place → WaitsAt w place
+    → AddsWork count 1 (λ m. m ≡ n) w w
+adds_none count n place w h st waits = record {
+  is = h;
+  few = omega arith;
+  keeps = λ m k. k;
+  adds = λ m e. subst (λ (z : ℕ). Waits w z) (sym e) (record { place = place; stands = st; waits = waits });
+}
+
+-- the worklist with its places that were added again
+abbrev pub with_again : Worklist → BTreeSet ℕ → Worklist
+with_again w again = record { order = w.order; places = w.places; fresh = w.fresh; again = again }
+
+-- the assignment's place was added again
+pub adds_again : (count n place : ℕ) (w : Worklist) (again : BTreeSet ℕ) → IsWorklist count w
+    → Stands w.places.now n place → ((p : ℕ) → IsAgain again p ↔ (IsAgain w.again p ⊎ (p ≡ place)))
+    → btree_set_len again ≤ btree_set_len w.again + 1 → AddsWork count 1 (λ m. m ≡ n) w (with_again w again)
+adds_again count n place w again h st all few = record {
+  is = record {
+    long = h.long;
+    placed = h.placed;
+    below = h.below;
+    reached = h.reached;
+    within = λ p a. elim ((all p).0 a) [
+      | inl b ↦ h.within p b
+      | inr e ↦ subst (λ (z : ℕ). z < length w.order.now) (sym e)
+          (stands_within w.order.now place n (h.placed n place st))
+    ];
+  };
+  few = omega (arith, few);
+  keeps = λ m k. record {
+    place = k.place;
+    stands = k.stands;
+    waits = elim k.waits [ inl f ↦ inl f | inr a ↦ inr ((all k.place).1 (inl a)) ];
+  };
+  adds = λ m e. subst (λ (z : ℕ). Waits (with_again w again) z) (sym e)
+      (record { place = place; stands = st; waits = inr ((all place).1 (inr refl)) });
+}
+
+-- what holds of a success by two facts of it
+pub ok_by : (P S Q : Type 0) (r : Result (Unit {0}) Memory) → (P → S → Q) → OnOk r P → OnOk r S → OnOk r Q
+ok_by P S Q (Ok x) f p s = f p s
+ok_by P S Q (Err e) f p s = tt
 
 -- the assignments of the first so many pairs
 abbrev pub IsAmong : List Reader → ℕ → ℕ → Type 0

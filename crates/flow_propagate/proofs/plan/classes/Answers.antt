@@ -3,8 +3,6 @@ use Rattle.ar_base.proofs.Results.{ok_map}
 use Rattle.flow_blocks.specs.Blocks.{AreBelow, Follow}
 use Rattle.flow_blocks.specs.declared.graph.Block.{Block}
 use Rattle.gts_core.specs.declared.system.Variable.{Variable}
-use Rattle.ar_meaning.specs.Dependence.{flow_count}
-use Rattle.gts_core.specs.View.{net_of}
 use Rattle.flow_propagate.specs.Dependence.{flows_in, ArePlaces}
 use Rattle.flow_propagate.proofs.Numbered.{count_from}
 use Rattle.flow_propagate.proofs.FlowUses.{uses_below}

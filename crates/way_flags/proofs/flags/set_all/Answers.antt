@@ -1,4 +1,4 @@
-use Rattle.std.proofs.Common.{Bool, List, get_or, ap, ◌∙◌, arith}
+use Rattle.std.proofs.Common.{◌<◌, ℕ, Bool, List, get_or, sym, ap, subst, ◌∙◌, arith}
 use Rattle.ar_base.proofs.Standing.{stands_get}
 use Rattle.ar_base.specs.Lists.{Stands}
 use Rattle.ar_base.specs.Numbers.{WayId}
@@ -9,6 +9,22 @@ use Rattle.way_flags.proofs.flags.set_all.Goals as goal
 
 pub loop-way-init : goal.loop-way-init
 loop-way-init c = record { long = c.requires.long; flag = λ k id h s u m. absurd (omega (arith, h)) }
+
+pub index-requires : goal.index-requires
+index-requires c =
+    let order = c.args.order.now in
+    let i = c.loop-way.way-index in
+    let id : WayId = get_or order i (record { n = 0; of = record {} }) in
+    subst (λ (z : ℕ). id.n < z) (sym c.args.parts.now.ways.ok.0)
+    (c.requires.order.inside i id (stands_get order i (record { n = 0; of = record {} }) c.loop-way-test.true))
+
+pub index_mut-requires : goal.index_mut-requires
+index_mut-requires c =
+    let order = c.args.order.now in
+    let i = c.loop-way.way-index in
+    let id : WayId = get_or order i (record { n = 0; of = record {} }) in
+    subst (λ (z : ℕ). id.n < z) (sym (c.loop-way.flags.ok.0 ∙ c.loop-way.invariant.long))
+    (c.requires.order.inside i id (stands_get order i (record { n = 0; of = record {} }) c.loop-way-test.true))
 
 pub loop-way-preserved : goal.loop-way-preserved
 loop-way-preserved c =

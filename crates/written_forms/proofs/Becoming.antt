@@ -13,10 +13,10 @@ use Rattle.typed_expr.specs.Yields.{Level}
 use Rattle.typed_expr.specs.declared.expr.Relation.{Relation}
 use Rattle.typed_expr.specs.declared.expr.Expr.{Expr, Constant, out-Expr}
 use Rattle.typed_expr.specs.declared.expr.Expr.TheOpen as form
-use Rattle.typed_expr.specs.declared.expr.Expr.TheViews.{Not, All, Any, Compare, Sum, Product, Least, Greatest, Count, Choose, outs-Not, outs-All, outs-Any, outs-Compare, outs-Sum, outs-Product, outs-Least, outs-Greatest, outs-Count, outs-Choose}
+use Rattle.typed_expr.specs.declared.expr.Expr.TheViews.{All, Any, Sum, Product, Least, Greatest, Count, outs-All, outs-Any, outs-Sum, outs-Product, outs-Least, outs-Greatest, outs-Count}
 use Rattle.typed_expr.proofs.Opened.{opened-constant}
 use Rattle.written_forms.specs.Operands.{RawLevel, level_of}
-use Rattle.written_forms.specs.Translating.{leaf_level, StandsFor, BecomesBy, All_become_by, Parts_become_by, Cases_become_by, Becomes}
+use Rattle.written_forms.specs.Translating.{leaf_level, StandsFor, BecomesBy, All_become_by, Parts_become_by, Cases_become_by, Becomes, IsOpposite, IsNegative, IsComparison, IsChoice}
 use Rattle.written_forms.specs.Relations.{relation_of}
 use Rattle.written_forms.specs.Translating as t
 use Rattle.written_forms.specs.declared.naming.Leaf.{Leaf}
@@ -45,22 +45,24 @@ module _ (leaves : Path → Leaf) where
   path_becomes r p l e i j h = as_one r e (raw.Path p) (leaf_level l) (opened.form-path _ _ i) h
       (t.path (ap leaf_level (sym j)))
 
-  pub not_becomes : (r : RawExpr) (a : Box RawExpr Global) (b : Box (Expr VarId) Global) → r.form ≡ written.Not a
-      → BecomesBy leaves a.value b.value → BecomesBy leaves r (Not b)
-  not_becomes r a b i h = as_one r (Not b) (raw.Not a) (form.Not b) (opened.form-not _ _ i) (outs-Not b) (t.opposite h)
+  pub not_becomes : (r : RawExpr) (a : Box RawExpr Global) (d e : Expr VarId) → r.form ≡ written.Not a
+      → BecomesBy leaves a.value d → IsOpposite d e → BecomesBy leaves r e
+  not_becomes r a d e i h o = as_one r e (raw.Not a) (form.Not o.operand) (opened.form-not _ _ i) o.is
+      (t.opposite (subst (λ (z : Expr VarId). BecomesBy leaves a.value z) (sym o.is_operand) h))
 
-  pub minus_becomes : (r : RawExpr) (a : Box RawExpr Global) (ps : Vec (Bool × Expr VarId) Global) (e : Expr VarId)
-      → r.form ≡ written.Minus a → BecomesBy leaves a.value e
-      → ps.items ≡ (false, e) ∷ [] → BecomesBy leaves r (Sum ps)
-  minus_becomes r a ps e i h j = as_one r (Sum ps) (raw.Minus a) (form.Sum ps) (opened.form-minus _ _ i) (outs-Sum ps)
-      (t.negative e h j)
+  pub minus_becomes : (r : RawExpr) (a : Box RawExpr Global) (d e : Expr VarId) → r.form ≡ written.Minus a
+      → BecomesBy leaves a.value d → IsNegative d e → BecomesBy leaves r e
+  minus_becomes r a d e i h o = as_one r e (raw.Minus a) (form.Sum o.parts) (opened.form-minus _ _ i) o.is
+      (t.negative d h o.are)
 
-  pub compare_becomes : (r : RawExpr) (o : RawRelation) (q : Relation) (a b : Box RawExpr Global)
-      (d e : Box (Expr VarId) Global) → r.form ≡ written.Compare o a b → q ≡ relation_of o
-      → BecomesBy leaves a.value d.value → BecomesBy leaves b.value e.value → BecomesBy leaves r (Compare q d e)
-  compare_becomes r o q a b d e i j h k =
-      as_one r (Compare q d e) (raw.Compare o a b) (form.Compare (relation_of o) d e) (opened.form-compare _ _ _ _ i)
-      (subst (λ z. out-Expr VarId (Compare q d e) ≡ form.Compare z d e) j (outs-Compare q d e)) (t.compared h k)
+  pub compare_becomes : (r : RawExpr) (o : RawRelation) (q : Relation) (a b : Box RawExpr Global) (x y e : Expr VarId)
+      → r.form ≡ written.Compare o a b → q ≡ relation_of o → BecomesBy leaves a.value x → BecomesBy leaves b.value y
+      → IsComparison q x y e → BecomesBy leaves r e
+  compare_becomes r o q a b x y e i j h k is =
+      as_one r e (raw.Compare o a b) (form.Compare (relation_of o) is.left is.right) (opened.form-compare _ _ _ _ i)
+      (subst (λ (z : Relation). out-Expr VarId e ≡ form.Compare z is.left is.right) j is.is)
+      (t.compared (subst (λ (z : Expr VarId). BecomesBy leaves a.value z) (sym is.is_left) h)
+      (subst (λ (z : Expr VarId). BecomesBy leaves b.value z) (sym is.is_right) k))
 
   module _ (r : RawExpr) (rs : Vec RawExpr Global) (es : Vec (Expr VarId) Global)
       (h : All_become_by leaves rs.items es.items) where
@@ -91,11 +93,12 @@ module _ (leaves : Path → Leaf) where
   sum_becomes r ps qs h i = as_one r (Sum qs) (raw.Sum ps) (form.Sum qs) (opened.form-sum _ _ i) (outs-Sum qs) (t.sum h)
 
   pub choice_becomes : (r : RawExpr) (cs : Vec (RawExpr × RawExpr) Global) (a : Box RawExpr Global)
-      (ds : Vec (Expr VarId × Expr VarId) Global) (b : Box (Expr VarId) Global)
-      → Cases_become_by leaves cs.items ds.items → BecomesBy leaves a.value b.value → r.form ≡ written.Choose cs a
-      → BecomesBy leaves r (Choose ds b)
-  choice_becomes r cs a ds b h k i = as_one r (Choose ds b) (raw.Choose cs a) (form.Choose ds b)
-      (opened.form-choice _ _ _ i) (outs-Choose ds b) (t.choice h k)
+      (ds : Vec (Expr VarId × Expr VarId) Global) (d e : Expr VarId)
+      → Cases_become_by leaves cs.items ds.items → BecomesBy leaves a.value d → r.form ≡ written.Choose cs a
+      → IsChoice ds d e → BecomesBy leaves r e
+  choice_becomes r cs a ds d e h k i o = as_one r e (raw.Choose cs a) (form.Choose ds o.other)
+      (opened.form-choice _ _ _ i) o.is
+      (t.choice h (subst (λ (z : Expr VarId). BecomesBy leaves a.value z) (sym o.is_other) k))
 
   -- one more item
   all_more : (a : RawExpr) (b : Expr VarId) {rs : List RawExpr} {es : List (Expr VarId)} → All_become_by leaves rs es

@@ -8,6 +8,7 @@ use Rattle.ar_syntax.specs.declared.expressions.RawRelation.{RawRelation}
 use Rattle.ar_syntax.specs.declared.paths.Path.{Path}
 use Rattle.domains.specs.declared.Value.TheVariants.{Truth, Whole}
 use Rattle.typed_expr.specs.Yields.{Level}
+use Rattle.typed_expr.specs.declared.expr.Relation.{Relation}
 use Rattle.typed_expr.specs.declared.expr.Expr.{Expr, out-Expr}
 use Rattle.typed_expr.specs.declared.expr.Expr.TheOpen.{Constant, Variable, Not, All, Any, Compare, Sum, Product, Least, Greatest, Count, Choose}
 use Rattle.written_forms.specs.Operands.{RawLevel, level_of}
@@ -74,6 +75,34 @@ mutual
         → Becomes names (level_of q) (out-Expr V d)
         → Becomes names (level_of r) (out-Expr V e) → Cases_become names rs es
         → Cases_become names ((q, r) ∷ rs) ((d, e) ∷ es)
+
+-- Forms over what operands become
+
+-- the expression is the negation of this one
+pub record IsOpposite (a e : Expr VarId) : Type 0 where
+  pub operand : Box (Expr VarId) Global
+  pub is : out-Expr VarId e ≡ Not operand
+  pub is_operand : operand.value ≡ a
+
+-- the expression is the sum of this one alone, taken away
+pub record IsNegative (a e : Expr VarId) : Type 0 where
+  pub parts : Vec (Bool × Expr VarId) Global
+  pub is : out-Expr VarId e ≡ Sum parts
+  pub are : parts.items ≡ (false, a) ∷ []
+
+-- the expression is the comparison of these two
+pub record IsComparison (q : Relation) (a b e : Expr VarId) : Type 0 where
+  pub left : Box (Expr VarId) Global
+  pub right : Box (Expr VarId) Global
+  pub is : out-Expr VarId e ≡ Compare q left right
+  pub is_left : left.value ≡ a
+  pub is_right : right.value ≡ b
+
+-- the expression is the choice of these cases, with this one where no test holds
+pub record IsChoice (cases : Vec (Expr VarId × Expr VarId) Global) (a e : Expr VarId) : Type 0 where
+  pub other : Box (Expr VarId) Global
+  pub is : out-Expr VarId e ≡ Choose cases other
+  pub is_other : other.value ≡ a
 
 -- Leaves
 

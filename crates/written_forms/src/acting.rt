@@ -96,7 +96,15 @@ fn set_to(target: VarId, at: Place, value: VarId) -> Act
 fn conditional(alloc: Global, test: Expr<VarId>, first: Act, second: Act) -> Result<Act, Memory>
     ensures { IfOk result (IsConditional test first second) }
 {
+    let (here, there) = boxed(alloc, first, second)?;
+    Ok(Act::If(test, here, there))
+}
+
+// The two branches, each in a box of its own.
+fn boxed(alloc: Global, first: Act, second: Act) -> Result<(Box<Act>, Box<Act>), Memory>
+    ensures { IfOk result (λ boxes. (boxes.0.value ≡ first) × (boxes.1.value ≡ second)) }
+{
     let here = Box::new(alloc, first)?;
     let there = Box::new(alloc, second)?;
-    Ok(Act::If(test, here, there))
+    Ok((here, there))
 }

@@ -1,4 +1,5 @@
-use Rattle.std.proofs.Common.{List, Bool, sym, subst}
+use Rattle.std.proofs.Common.{List, Bool, subst}
+use Rattle.ar_base.proofs.Results.{ok_map}
 use Rattle.ar_syntax.specs.declared.expressions.RawExpr.{RawExpr}
 use Rattle.written_forms.specs.Translating.{BecomesBy, All_become_by, Parts_become_by, Cases_become_by}
 use Rattle.written_forms.proofs.Becoming as becoming
@@ -26,26 +27,29 @@ translated-returns-in-Path g t c =
     becoming.path_becomes leaves c.args.expr.now c.in-Path.path c.leaf.result c.leaf_expression.result c.in-Path.is
     c.leaf.ensures c.leaf_expression.ensures
 
-pub translated-returns-in_ok-new-in-Not : goal.translated-returns-in_ok-new-in-Not
-translated-returns-in_ok-new-in-Not g t c =
+pub translated-returns-in_ok-operand-in-Not : goal.translated-returns-in_ok-operand-in-Not
+translated-returns-in_ok-operand-in-Not g t c =
     let leaves = (g.L.Leaves.leaf_at c.args.leaves.now) in
     let k : BecomesBy leaves c.in-Not.a.value c.in_ok-operand-in-Not.operand =
     subst (λ z. BecomesBy leaves z c.in_ok-operand-in-Not.operand) c.deref.ensures
     c.in_ok-operand-in-Not.ensures in
-    becoming.not_becomes leaves c.args.expr.now c.in-Not.a c.in_ok-new-in-Not.field-0 c.in-Not.is
-    (subst (λ z. BecomesBy leaves c.in-Not.a.value z) (sym c.in_ok-new-in-Not.ensures.ok) k)
+    ok_map c.opposite.result
+    (λ e o. becoming.not_becomes leaves c.args.expr.now c.in-Not.a c.in_ok-operand-in-Not.operand e c.in-Not.is k o)
+    c.opposite.ensures
 
-pub translated-returns-in_ok-taken_away-in-Minus : goal.translated-returns-in_ok-taken_away-in-Minus
-translated-returns-in_ok-taken_away-in-Minus g t c =
+pub translated-returns-in_ok-operand-in-Minus : goal.translated-returns-in_ok-operand-in-Minus
+translated-returns-in_ok-operand-in-Minus g t c =
     let leaves = (g.L.Leaves.leaf_at c.args.leaves.now) in
     let k : BecomesBy leaves c.in-Minus.a.value c.in_ok-operand-in-Minus.operand =
     subst (λ z. BecomesBy leaves z c.in_ok-operand-in-Minus.operand) c.deref-in-Minus.ensures
     c.in_ok-operand-in-Minus.ensures in
-    becoming.minus_becomes leaves c.args.expr.now c.in-Minus.a c.in_ok-taken_away-in-Minus.field-0
-    c.in_ok-operand-in-Minus.operand c.in-Minus.is k c.in_ok-taken_away-in-Minus.ensures
+    ok_map c.negative.result
+    (λ e o. becoming.minus_becomes leaves c.args.expr.now c.in-Minus.a c.in_ok-operand-in-Minus.operand e c.in-Minus.is
+    k o)
+    c.negative.ensures
 
-pub translated-returns-in_ok-right-in-Compare : goal.translated-returns-in_ok-right-in-Compare
-translated-returns-in_ok-right-in-Compare g t c =
+pub translated-returns-in_ok-second-in-Compare : goal.translated-returns-in_ok-second-in-Compare
+translated-returns-in_ok-second-in-Compare g t c =
     let leaves = (g.L.Leaves.leaf_at c.args.leaves.now) in
     let k : BecomesBy leaves c.in-Compare.a.value c.in_ok-first-in-Compare.first =
     subst (λ z. BecomesBy leaves z c.in_ok-first-in-Compare.first) c.deref-in-Compare.ensures
@@ -53,10 +57,11 @@ translated-returns-in_ok-right-in-Compare g t c =
     let l : BecomesBy leaves c.in-Compare.b.value c.in_ok-second-in-Compare.second =
     subst (λ z. BecomesBy leaves z c.in_ok-second-in-Compare.second) c.deref-in-Compare-2.ensures
     c.in_ok-second-in-Compare.ensures in
-    becoming.compare_becomes leaves c.args.expr.now c.in-Compare.relation c.relation_by.result c.in-Compare.a
-    c.in-Compare.b c.in_ok-left-in-Compare.left c.in_ok-right-in-Compare.right c.in-Compare.is c.relation_by.ensures
-    (subst (λ z. BecomesBy leaves c.in-Compare.a.value z) (sym c.in_ok-left-in-Compare.ensures.ok) k)
-    (subst (λ z. BecomesBy leaves c.in-Compare.b.value z) (sym c.in_ok-right-in-Compare.ensures.ok) l)
+    ok_map c.compared.result
+    (λ e o. becoming.compare_becomes leaves c.args.expr.now c.in-Compare.relation c.relation_by.result c.in-Compare.a
+    c.in-Compare.b c.in_ok-first-in-Compare.first c.in_ok-second-in-Compare.second e c.in-Compare.is
+    c.relation_by.ensures k l o)
+    c.compared.ensures
 
 pub translated-returns-in_ok-terms_translated-in-Sum : goal.translated-returns-in_ok-terms_translated-in-Sum
 translated-returns-in_ok-terms_translated-in-Sum g t c =
@@ -65,17 +70,19 @@ translated-returns-in_ok-terms_translated-in-Sum g t c =
     (subst (λ (z : List (Bool × RawExpr)). Parts_become_by leaves z c.in_ok-terms_translated-in-Sum.field-0.items)
     c.deref-in-Sum.ensures.value c.in_ok-terms_translated-in-Sum.ensures) c.in-Sum.is
 
-pub translated-returns-in_ok-new-in-Choose : goal.translated-returns-in_ok-new-in-Choose
-translated-returns-in_ok-new-in-Choose g t c =
+pub translated-returns-in_ok-last-in-Choose : goal.translated-returns-in_ok-last-in-Choose
+translated-returns-in_ok-last-in-Choose g t c =
     let leaves = (g.L.Leaves.leaf_at c.args.leaves.now) in
     let k : BecomesBy leaves c.in-Choose.other.value c.in_ok-last-in-Choose.last =
     subst (λ z. BecomesBy leaves z c.in_ok-last-in-Choose.last) c.deref-in-Choose-2.ensures
     c.in_ok-last-in-Choose.ensures in
-    becoming.choice_becomes leaves c.args.expr.now c.in-Choose.choices c.in-Choose.other c.in_ok-cases-in-Choose.cases
-    c.in_ok-new-in-Choose.field-0
-    (subst (λ (z : List (RawExpr × RawExpr)). Cases_become_by leaves z c.in_ok-cases-in-Choose.cases.items)
-    c.deref-in-Choose.ensures.value c.in_ok-cases-in-Choose.ensures)
-    (subst (λ z. BecomesBy leaves c.in-Choose.other.value z) (sym c.in_ok-new-in-Choose.ensures.ok) k) c.in-Choose.is
+    let cases =
+    subst (λ (z : List (RawExpr × RawExpr)). Cases_become_by leaves z c.in_ok-cases-in-Choose.cases.items)
+    c.deref-in-Choose.ensures.value c.in_ok-cases-in-Choose.ensures in
+    ok_map c.chosen.result
+    (λ e o. becoming.choice_becomes leaves c.args.expr.now c.in-Choose.choices c.in-Choose.other
+    c.in_ok-cases-in-Choose.cases c.in_ok-last-in-Choose.last e cases k c.in-Choose.is o)
+    c.chosen.ensures
 
 pub translated-returns-in_ok-all_translated-in-All : goal.translated-returns-in_ok-all_translated-in-All
 translated-returns-in_ok-all_translated-in-All g t c =

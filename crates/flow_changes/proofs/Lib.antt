@@ -16,4 +16,3 @@ pub mod Given
 pub mod Closings
 pub mod Follows
 pub mod Anew
-pub mod Smaller

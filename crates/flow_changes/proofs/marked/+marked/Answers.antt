@@ -12,7 +12,7 @@ use Rattle.ar_meaning.proofs.Found.{holds, fails}
 use Rattle.gts_core.proofs.NamedVariables as named
 use Rattle.flow_changes.specs.Known.{MarksEach}
 use Rattle.flow_changes.proofs.NamedMarks.{mark_answer, answer_as, at_level, of_two, remains_start, some_on, some_not, some_all, parts_on, parts_not, parts_all, cases_on, cases_not, cases_all}
-use Rattle.flow_changes.proofs.Smaller as smaller
+use Rattle.typed_expr.proofs.Shrinking as smaller
 use Rattle.flow_changes.proofs.marked.+marked.Goals as goal
 
 pub is_marked-returns-in-Variable : goal.is_marked-returns-in-Variable

@@ -46,11 +46,11 @@ pub(crate) fn analyse(alloc: Global, text: &[u8], observer: u32) -> Option<Analy
     if observer as usize >= system.parts().observers.len() {
         return None;
     }
-    analysed(alloc, &system, observer)
+    analyse_system(alloc, &system, observer)
 }
 
 // What a system means, and the observer.
-fn analysed(alloc: Global, system: &Gts, observer: u32) -> Option<Analysed>
+fn analyse_system(alloc: Global, system: &Gts, observer: u32) -> Option<Analysed>
     requires { observer < length system.now.observers.items }
     ensures { IfSome result (λ a. IsAnalysed a) }
 {

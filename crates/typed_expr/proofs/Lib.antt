@@ -6,6 +6,7 @@ pub mod Shrinking
 mod Gathering
 mod Forms
 mod Loops
+mod SoFar
 pub mod Opened
 mod Arms
 pub mod Kinded

@@ -69,6 +69,7 @@ pub record Told {V : Type 0} (facts : V → Value → Type 0) (b other this : Bo
   pub opposite : IsTrue other ↔ Yields facts e (Truth (not b))
   pub same : IsTrue this ↔ Yields facts e (Truth b)
 
+-- the answer says what is told, and no value on the way is too wide; or it stopped where one is
 abbrev pub Tells : {V : Type 0} → (V → Value → Type 0) → Option ℕ → Bool → Result (Bool × Bool) Stop → Level V → Type 0
 Tells facts most b (Ok r) e = Told facts b r.0 r.1 e × (AtLimit most (λ n. IsWide facts n e) → ⊥)
 Tells facts most b (Err stop) e = Stopped most (λ n. IsWide facts n e) stop

@@ -1,5 +1,5 @@
 -- One step of a walk.
-use Rattle.std.proofs.Common.{◌≡◌, ◌+◌, ◌-◌, ◌*◌, ◌^◌, ◌++◌, ◌⊎◌, inl, inr, ℕ, suc, Bool, true, false, List, [], ◌∷◌, Option, Some, None, option_map, slice_get, refl, sym, Result, Ok, Err, IfOk, ◌∙◌, ap, subst, arith, append_assoc, append-nil}
+use Rattle.std.proofs.Common.{◌≡◌, ◌<◌, ◌+◌, ◌-◌, ◌*◌, ◌^◌, ◌++◌, length, ◌⊎◌, inl, inr, ℕ, suc, Bool, true, false, List, [], ◌∷◌, Option, Some, None, option_map, slice_get, refl, sym, Result, Ok, Err, IfOk, ◌∙◌, ap, subst, arith, append_assoc, append-nil}
 use Rattle.std.specs.Borrow.{Bor}
 use Rattle.std.proofs.lemmas.Option.{same_Some}
 use Rattle.ar_base.specs.Lists.{Stands}
@@ -201,6 +201,21 @@ kept_weighs top old mid new r e h = go r h
     go (On f) h = let k = same in omega (arith, h, k)
     go (Into f) h = let k = same in omega (arith, h, k)
     go Done h = let k = same in omega (arith, h, k)
+
+-- an answer leaves no more to look at, and a name that leads to a unit leaves fewer names
+pub answer_weighs : (top : Frame) (old new : Table) (a x : ℕ) (c : Known) (r : Step) → r ≡ Done
+    → IsSet old new a x c 0 → Weighs top old new r
+answer_weighs top old new a x c r e s = rw e (omega (arith, same))
+  where
+    count : new.count ≡ old.count
+    count = let k = s.count in omega (arith, k)
+
+    same : weight new ≡ weight old
+    same = ap (λ n. (16777216 - n) * 2 ^ 65) count
+
+pub unit_weighs : (n : ℕ) (names rest : List NameId) (x : NameId) → names ≡ x ∷ rest
+    → n + length rest < n + length names
+unit_weighs n names rest x e = let k = ap length e in omega (arith, k)
 
 pub arrived_alias : (top : Frame) (old new : Table) (r : Step) → top.is_clone ≡ false → top.rest.now ≡ [] → r ≡ Done
     → IsSet old new top.unit top.name.n (ToUnit top.at) 0 → IsStep top old new r

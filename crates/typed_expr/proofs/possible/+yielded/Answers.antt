@@ -12,7 +12,8 @@ use Rattle.typed_expr.specs.declared.value_set.Stop.{Stop}
 use Rattle.typed_expr.proofs.Gathering.{err-same, keeps-nothing}
 use Rattle.typed_expr.proofs.Arms as arm
 use Rattle.typed_expr.proofs.Forms as form
-use Rattle.typed_expr.proofs.Loops as loop
+use Rattle.typed_expr.proofs.SoFar as loop
+use Rattle.typed_expr.proofs.Loops.{wide-here}
 use Rattle.typed_expr.proofs.Shrinking as smaller
 use Rattle.typed_expr.proofs.possible.+yielded.Goals as goal
 
@@ -148,7 +149,7 @@ tally-returns-in_err-other g t c =
     err-same
     (λ (r : Result (Bool × Bool) Stop). Tallies facts c.args.most c.args.b r c.args.es.now) c.from_residual.result
     c.in_err-other.field-0.0 c.from_residual.ensures.1
-    (loop.wide-here facts c.args.most c.args.es.now c.loop-e.e-index c.e-item.result c.in_err-other.field-0.0
+    (wide-here facts c.args.most c.args.es.now c.loop-e.e-index c.e-item.result c.in_err-other.field-0.0
     c.loop-e-test.true c.e-item.is c.in_err-other.ensures)
 
 pub tally-loop-e-init : goal.tally-loop-e-init

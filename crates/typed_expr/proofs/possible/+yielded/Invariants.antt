@@ -1,5 +1,5 @@
 use Rattle.typed_expr.specs.Yields.{facts_of}
-use Rattle.typed_expr.proofs.Loops.{TallySoFar, FoldSoFar, SumSoFar, ChoiceSoFar}
+use Rattle.typed_expr.proofs.SoFar.{TallySoFar, FoldSoFar, SumSoFar, ChoiceSoFar}
 use Rattle.typed_expr.proofs.possible.+yielded.Given as goal
 
 -- the operands so far

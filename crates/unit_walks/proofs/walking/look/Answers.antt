@@ -1,7 +1,8 @@
 use Rattle.std.proofs.Common.{◌≡◌, Some, refl, sym, ◌∙◌, ap}
 use Rattle.unit_walks.specs.Forms.{form_at}
 use Rattle.unit_walks.specs.declared.forms.UnitForm.TheVariants as form
-use Rattle.unit_walks.proofs.Stepping.{if_ok, look_absent, look_inner, look_clone, look_alias}
+use Rattle.unit_walks.specs.declared.tables.Known.TheVariants as known
+use Rattle.unit_walks.proofs.Stepping.{if_ok, answer_weighs, look_absent, look_inner, look_clone, look_alias}
 use Rattle.class_table.proofs.MemberNames.{none_of}
 use Rattle.unit_walks.proofs.TableSteps.{unit_there}
 use Rattle.unit_walks.proofs.walking.look.Goals as goal
@@ -47,3 +48,18 @@ returns-in-Some-Alias-clause-step c =
     (λ r h. look_alias c.args.forms.now c.args.top.now c.args.table.now c.in-Some.here c.args.name.n
     c.in-Some.ensures c.follow-in-Some-Alias.new.table r c.in-Some-Alias.path e h)
     c.follow-in-Some-Alias.ensures.step
+
+pub returns-in_default-clause-weighs : goal.returns-in_default-clause-weighs
+returns-in_default-clause-weighs c = if_ok c.answer.result (λ r h. answer_weighs c.args.top.now c.args.table.now
+    c.answer.new.table c.args.top.now.unit c.args.top.now.name.n known.Nothing r h.0 h.1) c.answer.ensures
+
+pub returns-in-None-clause-weighs : goal.returns-in-None-clause-weighs
+returns-in-None-clause-weighs c = if_ok c.answer-in-None.result
+    (λ r h. answer_weighs c.args.top.now c.args.table.now c.answer-in-None.new.table c.args.top.now.unit
+    c.args.top.now.name.n known.Nothing r h.0 h.1) c.answer-in-None.ensures
+
+pub returns-in-Some-Clone-clause-weighs : goal.returns-in-Some-Clone-clause-weighs
+returns-in-Some-Clone-clause-weighs c = c.follow.ensures.weighs
+
+pub returns-in-Some-Alias-clause-weighs : goal.returns-in-Some-Alias-clause-weighs
+returns-in-Some-Alias-clause-weighs c = c.follow-in-Some-Alias.ensures.weighs

@@ -128,6 +128,19 @@ module _ (model : Model) (main : Option (List ℕ)) (d : Declared) where
       → Ok x ≡ kept_rule 4 f → KeptBelow model main d 5
   passes4 f x k h e = passes_test 4 f (kept_ok 4 f x e) k (tests4 f h)
 
+  -- the answer of the last of them, where the members are listed
+  pub answers4 : (bodies : List Body) (f : Option Place) (r : Result (Unit {0}) RuleFault) → r ≡ kept_rule 4 f
+      → KeptBelow model main d 4 → IsEarliest (BreaksNames d) f → IsListed d bodies
+      → Meets {X = Unit {0}} (TestsBelow 5 model main) (λ (e : Declared) (u : Unit {0}). IsListed e bodies) d r
+  answers4 bodies f r e k h l =
+      subst (λ (z : Result (Unit {0}) RuleFault). Meets {X = Unit {0}} (TestsBelow 5 model main)
+      (λ (e : Declared) (u : Unit {0}). IsListed e bodies) d z) (sym e) (by f h)
+    where
+      by : (f : Option Place) → IsEarliest (BreaksNames d) f → Meets {X = Unit {0}} (TestsBelow 5 model main)
+          (λ (e : Declared) (u : Unit {0}). IsListed e bodies) d (kept_rule 4 f)
+      by None h = (d, kept (passes4 None tt k h refl), l)
+      by (Some p) h = refuses4 (Some p) (Rule 4 p) 5 k h refl
+
   -- the tests that passed
   kept_all : (n : ℕ) (e : Declared) → TestsBelow n model main d (Ok e) → KeptBelow model main e n
   kept_all n e (kept k) = k
@@ -139,6 +152,10 @@ module _ (model : Model) (main : Option (List ℕ)) (d : Declared) where
       → TestsBelow n model main d (Ok e) → holds e xs → KeptBelow model main d n × holds d xs
   passed holds n e xs t h = subst (λ (f : Declared). KeptBelow model main f n × holds f xs) (same_declared n e t)
       (kept_all n e t, h)
+
+  pub passed_all : (bodies : List Body) (e : Declared) → TestsBelow 5 model main d (Ok e) → IsListed e bodies
+      → KeptBelow model main d 5 × IsListed d bodies
+  passed_all bodies e t l = passed (λ (f : Declared) (bs : List Body). IsListed f bs) 5 e bodies t l
 
   -- a refusal of earlier tests is one of later tests too
   later_answer : (n m : ℕ) (a : Result Declared RuleFault) (x : RuleFault) → a ≡ Err x → TestsBelow n model main d a

@@ -130,6 +130,14 @@ pub again_none : (d : Declared) (body : ℕ) (o : Owned) → ((c : ℕ) (p : Pla
     → IsEarliest (IsAgain d body o) None
 again_none d body o n = nowhere (λ p h. n h.class p h.names)
 
+-- a member that puts nothing inside, or a block, names no class
+pub again_no_body : (d : Declared) (body : ℕ) (o : Owned) → None ≡ inside d o → IsEarliest (IsAgain d body o) None
+again_no_body d body o e = again_none d body o (λ c p f. let g = e ∙ f in cc)
+
+pub again_no_name : (d : Declared) (body : ℕ) (o : Owned) (c : ℕ) (at : Option Place) → at ≡ None
+    → Some (c, at) ≡ inside d o → IsEarliest (IsAgain d body o) None
+again_no_name d body o c at e f = again_none d body o (λ k p g. let h = same_Some _ _ (f ∙ g) in let i = ap (λ (z : ℕ × Option Place). z.1) h in cc)
+
 pub again_there : (d : Declared) (body : ℕ) (o : Owned) (c : ℕ) (at : Place) → inside d o ≡ Some (c, Some at)
     → IsWithin d c body → IsEarliest (IsAgain d body o) (Some at)
 again_there d body o c at e w = there (record { class = c; names = e; again = w })

@@ -3,16 +3,17 @@ use Rattle.std.proofs.Common.{◌≡◌, ℕ, ◌+◌, ◌≤◌, List, [], ◌�
 use Rattle.std.proofs.lemmas.List.{append-nil}
 use Rattle.std.specs.Global.{Global}
 use Rattle.ar_base.specs.Lists.{Along, none as along_none, one_and as along_and}
-use Rattle.ar_base.specs.Numbers.{NameId}
+use Rattle.ar_base.specs.Numbers.{NameId, BodyId}
 use Rattle.ar_base.specs.declared.places.Place.{Place}
 use Rattle.ar_base.proofs.Standing.{along_length}
-use Rattle.ar_syntax.specs.declared.members.Member.{Member, out-Member}
+use Rattle.ar_syntax.specs.declared.members.Member.{Member, out-Member, roll-Member, roll-out-Member}
 use Rattle.ar_syntax.specs.declared.members.Member.TheOpen as member
+use Rattle.ar_syntax.specs.declared.members.Member.TheViews as view
 use Rattle.ar_syntax.specs.declared.members.Unit.{Unit as UnitTree}
 use Rattle.class_table.proofs.Taken.{set_between, get_between}
 use Rattle.class_table.specs.Declaring.{MemberForm, TextBody, is_block, Lays, Lays_one, none, one_and, plain, block}
 use Rattle.class_table.specs.Tables.{IsBodyOf}
-use Rattle.class_table.specs.Laying.{LaysUnit, LaysMember, LaysBlock, KeepsOwn}
+use Rattle.class_table.specs.Laying.{LaysUnit, LaysMember, AddsMember, KeepsOwn}
 use Rattle.class_table.specs.declared.tables.Body.{Body}
 use Rattle.class_table.specs.declared.tables.Owned.{Owned}
 use Rattle.class_table.specs.declared.tables.Owned.TheVariants.{Plain, Nested}
@@ -94,18 +95,15 @@ so_far_end u own old mid new place p s k = record {
 }
 
 -- a block is laid by its unit
-pub member_block : (u : UnitTree) (o : Owned) (old new : List Body) → LaysBlock u o old new
-    → (f : MemberForm) (m : Member) → f ≡ member.Block u → out-Member m ≡ f → LaysMember m o old new
-member_block u o old new l f m e i = record {
-  bodies = l.laid.bodies;
-  joined = l.laid.joined;
-  inner = record { name = u.name; at = u.at; own = l.laid.own } ∷ l.laid.inner;
-  as_text = l.laid.as_text;
-  lays = subst (λ (q : Owned). Lays_one (length old) m (out-Member m) q
-      (record { name = u.name; at = u.at; own = l.laid.own } ∷ l.laid.inner)) (sym l.kept)
-      (subst (λ (g : MemberForm). Lays_one (length old) m g (Nested u.name u.at l.id)
-      (record { name = u.name; at = u.at; own = l.laid.own } ∷ l.laid.inner)) (sym (i ∙ e))
-      (block l.number l.laid.lays));
+pub member_block : (u : UnitTree) (id : BodyId) (old new : List Body) → id.n ≡ length old → LaysUnit u old new
+    → (f : MemberForm) (m : Member) → f ≡ member.Block u → out-Member m ≡ f → LaysMember m (Nested u.name u.at id) old new
+member_block u id old new n l f m e i = record {
+  bodies = l.bodies;
+  joined = l.joined;
+  inner = record { name = u.name; at = u.at; own = l.own } ∷ l.inner;
+  as_text = l.as_text;
+  lays = subst (λ (g : MemberForm). Lays_one (length old) m g (Nested u.name u.at id)
+      (record { name = u.name; at = u.at; own = l.own } ∷ l.inner)) (sym (i ∙ e)) (block n l.lays);
 }
 
 -- any other member stays
@@ -117,6 +115,18 @@ member_plain m old e = record {
   as_text = along_none;
   lays = plain e;
 }
+
+-- a member that is no block
+pub not_block : (m : Member) → ((u : UnitTree) → m ≡ view.Block u → ⊥) → is_block (out-Member m) ≡ false
+not_block m n = by (out-Member m) refl
+  where
+    back : (u : UnitTree) → out-Member m ≡ member.Block u → m ≡ view.Block u
+    back u e = sym (roll-out-Member m)
+        ∙ (ap roll-Member (e ∙ sym (view.outs-Block u)) ∙ roll-out-Member (view.Block u))
+
+    by : (f : MemberForm) → out-Member m ≡ f → is_block f ≡ false
+    by (member.Block u) e = absurd (n u (back u e))
+    by f e = refl
 
 -- the members of a body between two parts are written
 pub keep_kept : (own : Vec Owned Global) (bodies : List Body) (place : ℕ) (d : Body)
@@ -153,13 +163,13 @@ on_start u rest len own old new b e c f g h i =
     record { done = []; all = e; count = c; so_far = so_far_start u.name u.at own old new b f g h i }
 
 pub on_next : (u : UnitTree) (rest rest' : List Member) (len len' : ℕ) (own own' : List Owned) (old mid new : List Body)
-    (m : Member) (o : Owned) → rest ≡ m ∷ rest' → len' + 1 ≡ len → own' ≡ own ++ o ∷ []
-    → LayingOn u rest len own old mid → LaysMember m o mid new → LayingOn u rest' len' own' old new
-on_next u rest rest' len len' own own' old mid new m o e c f h l = record {
+    (m : Member) → rest ≡ m ∷ rest' → len' + 1 ≡ len → LayingOn u rest len own old mid → AddsMember m own own' mid new
+    → LayingOn u rest' len' own' old new
+on_next u rest rest' len len' own own' old mid new m e c h l = record {
   done = h.done ++ m ∷ [];
   all = append_assoc h.done (m ∷ []) rest' ∙ (ap (λ (ms : List Member). h.done ++ ms) (sym e) ∙ h.all);
   count = let a = ap (λ (ms : List Member). length ms) e in let b = h.count in omega (arith, a, b, c);
-  so_far = so_far_next u.name u.at h.done own own' old mid new m o f h.so_far l;
+  so_far = so_far_next u.name u.at h.done own own' old mid new m l.kept l.added h.so_far l.laid;
 }
 
 pub on_end : (u : UnitTree) (rest : List Member) (len : ℕ) (own : Vec Owned Global) (old mid new : List Body)

@@ -4,15 +4,19 @@ use Rattle.std.specs.Global.{Global}
 use Rattle.std.specs.List.{flat_map}
 use Rattle.ar_base.specs.Lists.{Along}
 use Rattle.ar_base.specs.Numbers.{NameId, BodyId}
+use Rattle.ar_base.specs.declared.places.Place.{Place}
 use Rattle.ar_syntax.specs.declared.items.Item.{Item}
 use Rattle.ar_syntax.specs.declared.members.Member.{Member, out-Member}
 use Rattle.ar_syntax.specs.declared.members.Unit.{Unit as UnitTree}
 use Rattle.class_table.specs.Declaring.{TextBody, NamedType, Lays, Lays_one, Lays_items, symbols_of, FirstUses}
 use Rattle.class_table.specs.Tables.{IsBodyOf, IsNamedType}
+use Rattle.class_table.specs.Symbols.{AreNumbered, list_of}
 use Rattle.class_table.specs.declared.declaring.Declared.{Declared as Parts}
+use Rattle.class_table.specs.declared.declaring.Pieces.{Pieces}
+use Rattle.class_table.specs.declared.symbols.Symbols.{Symbols}
+use Rattle.class_table.specs.declared.tables.TypeBody.{TypeBody}
 use Rattle.class_table.specs.declared.tables.Body.{Body}
 use Rattle.class_table.specs.declared.tables.Owned.{Owned}
-use Rattle.class_table.specs.declared.tables.Owned.TheVariants.{Nested}
 
 -- behind these bodies stand those of this unit and of the blocks in it
 pub record LaysUnit (u : UnitTree) (old new : List Body) : Type 0 where
@@ -31,6 +35,19 @@ pub record LaysMember (m : Member) (o : Owned) (old new : List Body) : Type 0 wh
   pub as_text : Along IsBodyOf bodies inner
   pub lays : Lays_one (length old) m (out-Member m) o inner
 
+-- behind these bodies stands one of this name and place
+pub record AddsBody (name : NameId) (at : Place) (old new : List Body) : Type 0 where
+  pub body : Body
+  pub has_name : body.name ≡ name
+  pub has_place : body.at ≡ at
+  pub joined : new ≡ old ++ body ∷ []
+
+-- this member was added to those of a body, and behind the bodies stand those of the blocks in it
+pub record AddsMember (m : Member) (own own' : List Owned) (old new : List Body) : Type 0 where
+  pub kept : Owned
+  pub added : own' ≡ own ++ kept ∷ []
+  pub laid : LaysMember m kept old new
+
 -- the parts are those of these items
 pub record AreParts (items : List Item) (p : Parts) : Type 0 where
   pub bodies : List TextBody
@@ -40,14 +57,22 @@ pub record AreParts (items : List Item) (p : Parts) : Type 0 where
   pub symbols : FirstUses [] (flat_map symbols_of items) (map (λ (x : NameId). x.n) p.symbols.items)
   pub lays : Lays_items 0 items bodies types (map (λ (b : BodyId). b.n) p.blocks.items)
 
+-- these items declare so much
+pub record PartsSoFar (items : List Item) (bodies : List Body) (kinds : List (NameId × TypeBody)) (symbols : Symbols)
+    (blocks : List BodyId) : Type 0 where
+  pub texts : List TextBody
+  pub named : List (ℕ × NamedType)
+  pub as_text : Along IsBodyOf bodies texts
+  pub as_types : Along (IsNamedType (list_of symbols)) kinds named
+  pub uses : FirstUses [] (flat_map symbols_of items) (list_of symbols)
+  pub lays : Lays_items 0 items texts named (map (λ (b : BodyId). b.n) blocks)
+  pub numbered : AreNumbered symbols
+
+-- these items declare the pieces
+abbrev pub ArePieces : List Item → Pieces → Type 0
+ArePieces items p = PartsSoFar items p.bodies.items p.types.items p.symbols p.blocks.items
+
 -- the body between the two parts has these members
 pub record KeepsOwn (own : Vec Owned Global) (old new : List Body) (place : ℕ) : Type 0 where
   pub kept : (front rest : List Body) (b : Body) → old ≡ front ++ b ∷ rest → place ≡ length front
       → new ≡ front ++ record b { own = own } ∷ rest
-
--- the block is kept by its body, which is laid
-pub record LaysBlock (u : UnitTree) (o : Owned) (old new : List Body) : Type 0 where
-  pub id : BodyId
-  pub kept : o ≡ Nested u.name u.at id
-  pub number : id.n ≡ length old
-  pub laid : LaysUnit u old new

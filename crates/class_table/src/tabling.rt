@@ -48,21 +48,6 @@ fn first_inside_itself(
     first_contained(alloc, bodies, types)
 }
 
-// The bodies with their members listed.
-fn list_all(
-    alloc: Global,
-    mut bodies: Vec<Body>,
-    types: &TypeKinds,
-    order: &[u32],
-) -> Result<Vec<Body>, Memory>
-    requires { (d : Declaration) × Shows d bodies.items types.now × CanList d order.now }
-    ensures { (d : Declaration) → Shows d bodies.items types.now → CanList d order.now
-        → IfOk result (λ listed. IsListed d listed.items) }
-{
-    list_members(alloc, &mut bodies, types, order)?;
-    Ok(bodies)
-}
-
 // The items taken apart, where rule L1 is kept.
 fn taken_apart(alloc: Global, items: Vec<Item>) -> Result<Declared, RuleFault>
     ensures parts { Meets TakesApart (λ parts answer. answer ≡ parts) items.items result }
@@ -90,24 +75,23 @@ fn ordered(alloc: Global, bodies: &[Body], kinds: &TypeKinds) -> Result<Vec<u32>
     Ok(order)
 }
 
-// The bodies with their members listed, where rules L2 to L4 are kept.
-fn listed(
+// Lists the members of the bodies, where rules L2 to L4 are kept.
+fn list_all(
     alloc: Global,
-    bodies: Vec<Body>,
+    bodies: &mut [Body],
     types: &[(NameId, TypeBody)],
-) -> Result<Vec<Body>, RuleFault>
-    requires few { length bodies.items ≤ 16777216 }
+) -> Result<(), RuleFault>
+    requires few { length bodies.old ≤ 16777216 }
     requires declared { (model : Tree) × (main : Option (List ℕ)) × (d : Declaration)
-        × KeepsDeclared model d bodies.items types.now × KeptBelow model main d 2 }
+        × KeepsDeclared model d bodies.old types.now × KeptBelow model main d 2 }
     ensures { (model : Tree) (main : Option (List ℕ)) (d : Declaration)
-        → KeepsDeclared model d bodies.items types.now → KeptBelow model main d 2
-        → Meets (TestsBelow 5 model main) (λ d answer. IsListed d answer.items) d result }
+        → KeepsDeclared model d bodies.old types.now → KeptBelow model main d 2
+        → Meets (TestsBelow 5 model main) (λ d _. IsListed d bodies.new) d result }
 {
     let kinds = TypeKinds::new(alloc, types)?;
-    let order = ordered(alloc, &bodies, &kinds)?;
-    let with_members = list_all(alloc, bodies, &kinds, &order)?;
-    keep(4, first_named_twice(alloc, &with_members, &kinds)?)?;
-    Ok(with_members)
+    let order = ordered(alloc, bodies, &kinds)?;
+    list_members(alloc, bodies, &kinds, &order)?;
+    keep(4, first_named_twice(alloc, bodies, &kinds)?)
 }
 
 /// The table of a model, whose main block is the top-level block of the name `main`, else the last one. Refused with
@@ -117,21 +101,16 @@ pub fn table(alloc: Global, model: Model, main: Option<&str>) -> Result<Classes,
         result }
 {
     let Model { names, items, end } = model;
-    let Declared {
-        bodies,
-        types,
-        symbols,
-        blocks,
-    } = taken_apart(alloc, items)?;
-    let bodies = listed(alloc, bodies, &types)?;
-    let Some(main) = main_block(&names, &bodies, &blocks, main) else {
+    let mut declared = taken_apart(alloc, items)?;
+    list_all(alloc, &mut declared.bodies, &declared.types)?;
+    let Some(main) = main_block(&names, &declared.bodies, &declared.blocks, main) else {
         return Err(RuleFault::Rule(5, end));
     };
     Ok(Classes {
         names,
-        bodies,
-        types,
-        symbols,
+        bodies: declared.bodies,
+        types: declared.types,
+        symbols: declared.symbols,
         main,
     })
 }

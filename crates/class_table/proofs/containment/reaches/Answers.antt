@@ -2,6 +2,7 @@ use Rattle.std.proofs.Common.{rules, arith, refl, subst, sym, ap, ◌∙◌, ◌
 use Rattle.std.proofs.lemmas.List.{take_at, length-replicate}
 use Rattle.class_table.proofs.MemberNames.{copied_get, copied_past, none_of}
 use Rattle.ar_base.proofs.Standing.{one_here}
+use Rattle.ar_base.proofs.Truths.{not_both}
 use Rattle.class_table.specs.Rules.{IsWithin}
 use Rattle.class_table.proofs.Searches.{search_start, search_next, search_end, search_fits, none_open, has_body}
 use Rattle.class_table.proofs.containment.reaches.Goals as goal
@@ -40,7 +41,7 @@ returns-in_default c = λ d known.
     let g = rw c.deref.ensures.value at c.get.ensures.lookup in
     let e = sym c.copied.ensures ∙ none_of c.copied.result c.in_default.not-Some in
     let l = copied_past c.loop-next.opened.items c.loop-next.next _ g.0 e in
-    (λ f. absurd (cc), λ w. absurd (search_end d _ _ _ _ _ _ (has_body d _ known.as_text) c.requires l h w))
+    (λ f. absurd (not_both false refl f), λ w. absurd (search_end d _ _ _ _ _ _ (has_body d _ known.as_text) c.requires l h w))
 
 pub returns-then-body-to : goal.returns-then-body-to
 returns-then-body-to c = λ d known.
@@ -56,4 +57,4 @@ pub returns : goal.returns
 returns c = λ d known.
     let h = c.loop-next.invariant d known in
     let fits = search_fits d _ _ _ _ _ _ h in
-    (λ f. absurd (cc), λ w. absurd (search_end d _ _ _ _ _ _ (has_body d _ known.as_text) c.requires (omega arith) h w))
+    (λ f. absurd (not_both false refl f), λ w. absurd (search_end d _ _ _ _ _ _ (has_body d _ known.as_text) c.requires (omega arith) h w))

@@ -1,5 +1,7 @@
 use Rattle.std.proofs.Common.{◌≡◌, ℕ, ◌-◌, inl, inr, true, false, List, length, take, slice_get, Some, refl, sym, ap, ◌∙◌, subst}
 use Rattle.ar_base.specs.Lists.{Stands, IsOneOf}
+use Rattle.ar_base.proofs.Standing.{stands_get, stands_one}
+use Rattle.ar_base.proofs.Truths.{not_both}
 use Rattle.class_table.proofs.Taken.{last_or_before, stands_take}
 use Rattle.class_table.proofs.Ordered.{is_true}
 use Rattle.class_table.proofs.order.next_awaited.Goals as goal
@@ -38,3 +40,30 @@ loop-body-preserved c =
         ]
       ];
     }
+
+pub loop-body-init : goal.loop-body-init
+loop-body-init c = record { fewer = λ b one. one; kept = λ b one. inr one }
+
+pub returns-then-not-placed-place-clause-some : goal.returns-then-not-placed-place-clause-some
+returns-then-not-placed-place-clause-some c =
+    let items = c.loop-body.row.items in
+    let at = last_is items c.deref.result.now c.in-Some.body c.deref.ensures.value
+    (sym c.last.ensures.value ∙ sym c.copied.ensures ∙ c.in-Some.is) in
+    let there = c.loop-body.invariant.fewer c.in-Some.body (record { place = length items - 1; stands = at }) in
+    let low = c.requires c.in-Some.body there in (
+      there,
+      λ s. not_both _ c.if-not-placed-place.true
+          (stands_one c.args.placed.now c.in-Some.body _ true (stands_get c.args.placed.now c.in-Some.body false low) s),
+    )
+
+pub returns-then-not-placed-place-clause-fewer : goal.returns-then-not-placed-place-clause-fewer
+returns-then-not-placed-place-clause-fewer c = c.loop-body.invariant.fewer
+
+pub returns-then-not-placed-place-clause-kept : goal.returns-then-not-placed-place-clause-kept
+returns-then-not-placed-place-clause-kept c = c.loop-body.invariant.kept
+
+pub returns-clause-fewer : goal.returns-clause-fewer
+returns-clause-fewer c = c.loop-body.invariant.fewer
+
+pub returns-clause-kept : goal.returns-clause-kept
+returns-clause-kept c = c.loop-body.invariant.kept

@@ -2,6 +2,12 @@ use Rattle.std.proofs.Common.{arith}
 use Rattle.class_table.proofs.Ordered.{sorted, order_fits}
 use Rattle.class_table.proofs.order.Sorting.release_all.Goals as goal
 
+pub loop-next-init : goal.loop-next-init
+loop-next-init c = λ rows h. h
+
+pub loop-next-preserved : goal.loop-next-preserved
+loop-next-preserved c = λ rows h. c.in_ok-release.ensures rows (c.loop-next.invariant rows h)
+
 pub release-requires : goal.release-requires
 release-requires c = record {
   sorts = record { rows = c.requires.rows; is = c.loop-next.invariant c.requires.rows c.requires.is };

@@ -46,22 +46,23 @@ module _ {A : Type 0} where
   pub stands_next : (xs : List A) (a : A) (ys : List A) → Stands (xs ++ a ∷ ys) (length xs) a
   stands_next xs a ys = stands_right xs (a ∷ ys) 0 (length xs) a (omega arith) refl
 
+  -- in a list of one item nothing else stands, and nowhere but at its head
+  pub stands_alone : (a : A) (n : ℕ) (x : A) → Stands (a ∷ []) n x → (n ≡ 0) × (x ≡ a)
+  stands_alone a zero x p = (refl, cc)
+  stands_alone a (suc zero) x p = cc
+  stands_alone a (suc (suc n)) x p = cc
+
   -- a new item keeps the items different
   pub different_more : (xs : List A) (a : A) → AreDifferent xs → HasNo xs (λ x. x ≡ a) → AreDifferent (xs ++ a ∷ [])
   different_more xs a d lacks = record
       { one = λ m n x p q. both m n x (stands_split xs (a ∷ []) m x p) (stands_split xs (a ∷ []) n x q) }
     where
-      one_item : (k : ℕ) (x : A) → Stands (a ∷ []) k x → (k ≡ 0) × (x ≡ a)
-      one_item zero x p = (refl, cc)
-      one_item (suc zero) x p = cc
-      one_item (suc (suc k)) x p = cc
-
       both : (m n : ℕ) (x : A) → Stands xs m x ⊎ ((k : ℕ) × (m ≡ length xs + k) × Stands (a ∷ []) k x)
           → Stands xs n x ⊎ ((k : ℕ) × (n ≡ length xs + k) × Stands (a ∷ []) k x) → m ≡ n
       both m n x (inl p) (inl q) = d.one m n x p q
-      both m n x (inl p) (inr q) = absurd (lacks.has_not m x p (one_item q.0 x q.2).1)
-      both m n x (inr p) (inl q) = absurd (lacks.has_not n x q (one_item p.0 x p.2).1)
-      both m n x (inr p) (inr q) = let e = (one_item p.0 x p.2).0 in let f = (one_item q.0 x q.2).0 in omega (arith, p.1, q.1)
+      both m n x (inl p) (inr q) = absurd (lacks.has_not m x p (stands_alone a q.0 x q.2).1)
+      both m n x (inr p) (inl q) = absurd (lacks.has_not n x q (stands_alone a p.0 x p.2).1)
+      both m n x (inr p) (inr q) = let e = (stands_alone a p.0 x p.2).0 in let f = (stands_alone a q.0 x q.2).0 in omega (arith, p.1, q.1)
 
   -- no item stands in the empty list
   pub stands_none : (n : ℕ) (a : A) → Stands [] n a → ⊥

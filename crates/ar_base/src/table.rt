@@ -1,12 +1,14 @@
 //! The table of names.
 
-ghost use Rattle.std.specs.Prelude.{◌≡◌, ◌^◌, ◌-◌, ◌<◌, ◌≤◌, [], length, IfOk, IfSome, IfNone, OnErr};
+ghost use Rattle.std.specs.Prelude.{◌≡◌, ◌^◌, ◌-◌, ◌<◌, ◌≤◌, ℕ, List, Some, [], length, IfOk, IfSome, IfNone, OnOk, OnErr, if◌then◌else◌};
+ghost use Rattle.std.specs.HashMap.{get_by_text};
+ghost use Rattle.std.specs.Str.{bytes_eq};
 ghost use Rattle.ar_base.specs.Lists.{Stands, HasNo, AreDifferent};
 ghost use Rattle.ar_base.specs.Texts.{Interns};
 
 use crate::{Memory, NameId};
-use indexmap::IndexSet;
 use std::alloc::Global;
+use std::collections::HashMap;
 use std::marker::Model;
 use std::str::from_utf8;
 
@@ -14,19 +16,20 @@ use std::str::from_utf8;
 /// number of a name is its text's place in the table.
 #[derive(Drop)]
 pub struct Names {
-    texts: IndexSet<String>,
+    texts: Vec<String>,
+    numbers: HashMap<String, u32>,
 }
 
 impl Model for Names {
     ghost use Rattle.std.specs.Prelude.{ℕ, ◌<◌, ◌^◌, List, length};
-    ghost use Rattle.ar_base.specs.Lists.{AreDifferent};
-    ghost use Rattle.ar_base.specs.Texts.{bytes_of_all, AreUtf8};
+    ghost use Rattle.std.specs.HashMap.{get_by_text};
+    ghost use Rattle.ar_base.specs.Texts.{bytes_of_all, AreUtf8, AreNumbered};
 
     ghost Value = { List (List ℕ) };
 
-    ghost view = { λ t. bytes_of_all t.texts.keys };
+    ghost view = { λ t. bytes_of_all t.texts.items };
 
-    ghost invariant = { λ t. (length t.texts.keys < 2 ^ 32) × AreDifferent (bytes_of_all t.texts.keys) × AreUtf8 (bytes_of_all t.texts.keys) };
+    ghost invariant = { λ t. (length t.texts.items < 2 ^ 32) × AreUtf8 (bytes_of_all t.texts.items) × AreNumbered (bytes_of_all t.texts.items) (get_by_text t.numbers) };
 }
 
 impl Names {
@@ -35,7 +38,8 @@ impl Names {
         ensures { result ≡ [] }
     {
         Names {
-            texts: IndexSet::new(alloc),
+            texts: Vec::new(alloc),
+            numbers: HashMap::new(alloc),
         }
     }
 
@@ -51,9 +55,16 @@ impl Names {
         if let Some(name) = self.find(text) {
             return Ok(name);
         }
-        let owned = String::from_str(*self.texts.allocator(), text)?;
-        let (place, _) = self.texts.insert_full(owned)?;
-        Ok(NameId::new(place as u32))
+        let alloc = *self.texts.allocator();
+        let number = self.texts.len() as u32;
+        self.texts.push(String::from_str(alloc, text)?)?;
+        match enter(alloc, &mut self.numbers, text, number) {
+            Ok(()) => Ok(NameId::new(number)),
+            Err(fault) => {
+                self.texts.pop();
+                Err(fault)
+            }
+        }
     }
 
     /// The number of a text, or None exactly where the table lacks it. Takes no memory.
@@ -62,8 +73,8 @@ impl Names {
         ensures absent { IfNone result (HasNo self.now (λ t. t ≡ text.now)) }
         ensures different { AreDifferent self.now }
     {
-        let place = self.texts.get_index_of(text)?;
-        Some(NameId::new(place as u32))
+        let number = self.numbers.get(text)?;
+        Some(NameId::new(*number))
     }
 
     /// The number of the text with these bytes, or None exactly where the table lacks it; bytes that
@@ -85,7 +96,7 @@ impl Names {
         ensures text { IfSome result (λ text. Stands self.now name.n text.now) }
         ensures past { IfNone result (length self.now ≤ name.n) }
     {
-        let text = self.texts.get_index(name.n as usize)?;
+        let text = self.texts.get(name.n as usize)?;
         Some(text.as_str())
     }
 
@@ -95,9 +106,22 @@ impl Names {
         ensures text { Stands self.now name.n result.now }
         ensures different { AreDifferent self.now }
     {
-        match self.texts.get_index(name.n as usize) {
-            Some(text) => text.as_str(),
-            None => "",
-        }
+        self.texts[name.n as usize].as_str()
     }
+}
+
+/// Puts a number under a text. After a refusal the numbers are as they were.
+fn enter(
+    alloc: Global,
+    numbers: &mut HashMap<String, u32>,
+    text: &str,
+    number: u32,
+) -> Result<(), Memory>
+    ensures entered { OnOk result ((other : List ℕ) → get_by_text numbers.new other
+        ≡ (if bytes_eq text.now other then Some number else get_by_text numbers.old other)) }
+    ensures err { OnErr result (numbers.new.entries ≡ numbers.old.entries) }
+{
+    let owned = String::from_str(alloc, text)?;
+    numbers.insert(owned, number)?;
+    Ok(())
 }

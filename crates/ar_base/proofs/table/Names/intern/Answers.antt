@@ -1,51 +1,66 @@
 -- A known text keeps the table, and a new one goes last.
-use Rattle.std.proofs.Common.{◌≡◌, ℕ, List, [], ◌∷◌, ◌++◌, length, sym, ap, ◌∙◌, subst, arith}
-use Rattle.ar_base.specs.Lists.{HasNo, AreDifferent}
-use Rattle.ar_base.specs.Texts.{bytes_of_all, Interns, known, added}
+use Rattle.std.proofs.Common.{◌≡◌, ℕ, List, Some, [], ◌∷◌, ◌++◌, length, sym, ap, ◌∙◌, subst, if◌then◌else◌, arith}
+use Rattle.std.specs.HashMap.{get_by_text}
+use Rattle.std.specs.Str.{bytes_eq}
 use Rattle.std.specs.String.{string_bytes}
-use Rattle.std.proofs.lemmas.List.{length-map}
-use Rattle.ar_base.proofs.Tables.{IsGrown, grown, different_grown, utf8_grown}
+use Rattle.std.proofs.lemmas.List.{length-map, map-append}
+use Rattle.ar_base.specs.Lists.{Stands, HasNo}
+use Rattle.ar_base.specs.Texts.{bytes_of_all, AreUtf8, AreNumbered, Interns, known, added}
+use Rattle.ar_base.proofs.Standing.{stands_next}
+use Rattle.ar_base.proofs.Tables.{differ, numbered_more, utf8_more}
 use Rattle.ar_base.proofs.table.Names.intern.Goals as goal
 
 pub returns-in-Some-clause-texts : goal.returns-in-Some-clause-texts
 returns-in-Some-clause-texts c = known (record { place = c.in-Some.name.n; stands = c.in-Some.ensures.found })
 
-lacks_it : (c : goal.After-new) → HasNo (bytes_of_all c.self.inside.texts.keys) (λ t. t ≡ c.args.text.now)
-lacks_it c = subst (λ (all : List (List ℕ)). HasNo all (λ t. t ≡ c.args.text.now)) (sym c.self.view_is)
+-- the texts before the new one
+abbrev before : goal.After-new → List (List ℕ)
+before c = bytes_of_all c.self.inside.texts.items
+
+is_new : (c : goal.After-new) → HasNo (before c) (λ t. t ≡ c.args.text.now)
+is_new c = subst (λ (all : List (List ℕ)). HasNo all (λ t. t ≡ c.args.text.now)) (sym c.self.view_is)
     c.in_default.ensures.absent
 
-is_grown : (c : goal.After-new) → IsGrown c.self.inside.texts.keys c.insert_full.new.self.keys c.args.text.now
-    c.in_ok-place.place
-is_grown c =
-    let h = c.in_ok-place.ensures.stored in
-    grown c.self.inside.texts.keys c.insert_full.new.self.keys c.in_ok-owned.owned c.in_ok-place.place h.0
-    c.args.text.now
-    c.in_ok-place.ensures.keys h.1 h.2 c.in_ok-owned.ensures.ok (lacks_it c)
+texts : (c : goal.After-new) → bytes_of_all c.push.new.self.items ≡ before c ++ c.args.text.now ∷ []
+texts c = ap bytes_of_all c.in_ok-push.ensures.items
+    ∙ map-append string_bytes c.self.inside.texts.items (c.in_ok-from_str.field-0 ∷ [])
+    ∙ ap (λ (t : List ℕ). before c ++ t ∷ []) c.in_ok-from_str.ensures.ok
 
-differ : (c : goal.After-new) → AreDifferent (bytes_of_all c.insert_full.new.self.keys)
-differ c = different_grown c.self.inside.texts.keys c.insert_full.new.self.keys c.args.text.now c.in_ok-place.place
-    (is_grown c) c.self.invariant.1 (lacks_it c)
+number : (c : goal.After-new) → c.len-number.result ≡ length (before c)
+number c =
+    let place = c.len-number.ensures in
+    let long = length-map c.self.inside.texts.items string_bytes in
+    omega arith
 
-pub invariant_of-self-2 : goal.invariant_of-self-2
-invariant_of-self-2 c =
-    let long = (is_grown c).long in
-    let same : length c.args.self.now ≡ length c.self.inside.texts.keys =
-    ap length (sym c.self.view_is) ∙ length-map c.self.inside.texts.keys string_bytes in
-    let room = c.requires in (
+numbered : (c : goal.After-new) → AreNumbered (bytes_of_all c.push.new.self.items) (get_by_text c.enter.new.numbers)
+numbered c = subst (λ (all : List (List ℕ)). AreNumbered all (get_by_text c.enter.new.numbers)) (sym (texts c))
+    (numbered_more (before c) (get_by_text c.self.inside.numbers) c.self.invariant.2 c.args.text.now
+    (get_by_text c.enter.new.numbers) (is_new c) (λ t. c.in-Ok.ensures.entered t
+    ∙ ap (λ (n : ℕ). if bytes_eq c.args.text.now t then Some n else get_by_text c.self.inside.numbers t) (number c)))
+
+pub invariant_of-self-in-Ok : goal.invariant_of-self-in-Ok
+invariant_of-self-in-Ok c =
+    let room = c.requires in
+    let was : length c.args.self.now ≡ length c.self.inside.texts.items =
+    ap length (sym c.self.view_is) ∙ length-map c.self.inside.texts.items string_bytes in
+    let longer = c.in_ok-push.ensures.len in (
       omega arith,
-      differ c,
-      utf8_grown c.self.inside.texts.keys c.insert_full.new.self.keys c.args.text.now
-          c.in_ok-place.place (is_grown c) c.self.invariant.2 c.utf8.text,
+      subst AreUtf8 (sym (texts c)) (utf8_more (before c) c.args.text.now c.self.invariant.1 c.utf8.text),
+      numbered c,
     )
 
-pub returns-clause-number : goal.returns-clause-number
-returns-clause-number c = rw c.new.ensures (is_grown c).stands
+pub returns-in-Ok-clause-number : goal.returns-in-Ok-clause-number
+returns-in-Ok-clause-number c =
+    rw c.new.ensures (subst (λ (all : List (List ℕ)). Stands all c.len-number.result c.args.text.now) (sym (texts c))
+    (subst (λ (n : ℕ). Stands (before c ++ c.args.text.now ∷ []) n c.args.text.now) (sym (number c))
+    (stands_next (before c) c.args.text.now [])))
 
-pub returns-clause-texts : goal.returns-clause-texts
-returns-clause-texts c =
+pub returns-in-Ok-clause-texts : goal.returns-in-Ok-clause-texts
+returns-in-Ok-clause-texts c =
     subst (λ (all : List (List ℕ)). Interns c.args.self.now c.args.text.now all)
-    (ap (λ (all : List (List ℕ)). all ++ c.args.text.now ∷ []) (sym c.self.view_is) ∙ sym (is_grown c).texts)
+    (ap (λ (all : List (List ℕ)). all ++ c.args.text.now ∷ []) (sym c.self.view_is) ∙ sym (texts c))
     (added c.in_default.ensures.absent)
 
-pub returns-clause-different : goal.returns-clause-different
-returns-clause-different c = differ c
+pub returns-in-Ok-clause-different : goal.returns-in-Ok-clause-different
+returns-in-Ok-clause-different c =
+    differ (bytes_of_all c.push.new.self.items) (get_by_text c.enter.new.numbers) (numbered c)

@@ -13,7 +13,7 @@ use Rattle.class_table.specs.Declaring.Lays_items.{none, domain, class, block}
 use Rattle.class_table.specs.Tables.{IsBodyOf, IsTypeOf, IsNamedType}
 use Rattle.class_table.specs.Tables.IsTypeOf.{class as class_type}
 use Rattle.class_table.specs.Symbols.{AreNumbered, UsesMore, list_of}
-use Rattle.class_table.specs.Laying.{LaysUnit, AreParts, PartsSoFar}
+use Rattle.class_table.specs.Laying.{LaysUnit, AreParts}
 use Rattle.class_table.specs.declared.symbols.Symbols.{Symbols}
 use Rattle.class_table.specs.declared.declaring.Declared.{Declared as Parts}
 use Rattle.class_table.specs.declared.tables.Body.{Body}
@@ -51,7 +51,17 @@ flat_next [] y = append-nil (symbols_of y)
 flat_next (x ∷ xs) y = ap (λ (zs : List ℕ). symbols_of x ++ zs) (flat_next xs y)
     ∙ sym (append_assoc (symbols_of x) (flat_map symbols_of xs) (symbols_of y))
 
--- nothing is taken apart yet
+-- what is taken apart so far
+pub record PartsSoFar (items : List Item) (bodies : List Body) (kinds : List (NameId × TypeBody)) (symbols : Symbols)
+    (blocks : List BodyId) : Type 0 where
+  pub texts : List TextBody
+  pub named : List (ℕ × NamedType)
+  pub as_text : Along IsBodyOf bodies texts
+  pub as_types : Along (IsNamedType (list_of symbols)) kinds named
+  pub uses : FirstUses [] (flat_map symbols_of items) (list_of symbols)
+  pub lays : Lays_items 0 items texts named (map (λ (b : BodyId). b.n) blocks)
+  pub numbered : AreNumbered symbols
+
 pub parts_start : (bodies : List Body) (kinds : List (NameId × TypeBody)) (s : Symbols) (blocks : List BodyId)
     → bodies ≡ [] → kinds ≡ [] → list_of s ≡ [] → blocks ≡ [] → AreNumbered s → PartsSoFar [] bodies kinds s blocks
 parts_start bodies kinds s blocks e f g h n = record {

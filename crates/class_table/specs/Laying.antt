@@ -10,11 +10,7 @@ use Rattle.ar_syntax.specs.declared.members.Member.{Member, out-Member}
 use Rattle.ar_syntax.specs.declared.members.Unit.{Unit as UnitTree}
 use Rattle.class_table.specs.Declaring.{TextBody, NamedType, Lays, Lays_one, Lays_items, symbols_of, FirstUses}
 use Rattle.class_table.specs.Tables.{IsBodyOf, IsNamedType}
-use Rattle.class_table.specs.Symbols.{AreNumbered, list_of}
 use Rattle.class_table.specs.declared.declaring.Declared.{Declared as Parts}
-use Rattle.class_table.specs.declared.declaring.Pieces.{Pieces}
-use Rattle.class_table.specs.declared.symbols.Symbols.{Symbols}
-use Rattle.class_table.specs.declared.tables.TypeBody.{TypeBody}
 use Rattle.class_table.specs.declared.tables.Body.{Body}
 use Rattle.class_table.specs.declared.tables.Owned.{Owned}
 
@@ -56,21 +52,6 @@ pub record AreParts (items : List Item) (p : Parts) : Type 0 where
   pub as_types : Along (IsNamedType (map (λ (x : NameId). x.n) p.symbols.items)) p.types.items types
   pub symbols : FirstUses [] (flat_map symbols_of items) (map (λ (x : NameId). x.n) p.symbols.items)
   pub lays : Lays_items 0 items bodies types (map (λ (b : BodyId). b.n) p.blocks.items)
-
--- these items declare so much
-pub record PartsSoFar (items : List Item) (bodies : List Body) (kinds : List (NameId × TypeBody)) (symbols : Symbols)
-    (blocks : List BodyId) : Type 0 where
-  pub texts : List TextBody
-  pub named : List (ℕ × NamedType)
-  pub as_text : Along IsBodyOf bodies texts
-  pub as_types : Along (IsNamedType (list_of symbols)) kinds named
-  pub uses : FirstUses [] (flat_map symbols_of items) (list_of symbols)
-  pub lays : Lays_items 0 items texts named (map (λ (b : BodyId). b.n) blocks)
-  pub numbered : AreNumbered symbols
-
--- these items declare the pieces
-abbrev pub ArePieces : List Item → Pieces → Type 0
-ArePieces items p = PartsSoFar items p.bodies.items p.types.items p.symbols p.blocks.items
 
 -- the body between the two parts has these members
 pub record KeepsOwn (own : Vec Owned Global) (old new : List Body) (place : ℕ) : Type 0 where

@@ -1,9 +1,7 @@
 //! What a model declares.
 
-ghost use Rattle.std.specs.Prelude.{◌≤◌, ◌++◌, ◌∷◌, [], List, length, IfOk, OnOk};
-ghost use Rattle.ar_syntax.specs.declared.items.Item.{Item};
-ghost use Rattle.class_table.specs.Laying.{AreParts, ArePieces};
-ghost use Rattle.class_table.specs.Symbols.{AreNumbered};
+ghost use Rattle.std.specs.Prelude.{◌≤◌, length, IfOk};
+ghost use Rattle.class_table.specs.Laying.{AreParts};
 
 use crate::laying::lay_unit;
 use crate::symbols::Symbols;
@@ -21,77 +19,33 @@ pub(crate) struct Declared {
     pub blocks: Vec<BodyId>,
 }
 
-/// What the items so far declare.
-#[derive(Drop)]
-struct Pieces {
-    bodies: Vec<Body>,
-    types: Vec<(NameId, TypeBody)>,
-    symbols: Symbols,
-    blocks: Vec<BodyId>,
-}
-
 /// Takes the items apart: bodies are numbered in the order of their headings, symbols in that of their first use.
 pub(crate) fn declare(alloc: Global, items: Vec<Item>) -> Result<Declared, Memory>
     ensures parts { IfOk result (AreParts items.items) }
     ensures few { IfOk result (λ d. length d.bodies.items ≤ 16777216) }
 {
-    let mut pieces = Pieces::new(alloc);
+    let mut bodies = Vec::new(alloc);
+    let mut types = Vec::new(alloc);
+    let mut symbols = Symbols::new(alloc);
+    let mut blocks = Vec::new(alloc);
     for item in items {
-        pieces.add(alloc, item)?;
+        match item {
+            Item::Domain(domain) => {
+                let body = symbols.domain(alloc, &domain.body)?;
+                types.push((domain.name, body))?;
+            }
+            Item::Class(unit) => {
+                let name = unit.name;
+                let body = lay_unit(alloc, &mut bodies, unit)?;
+                types.push((name, TypeBody::Class(body)))?;
+            }
+            Item::Block(unit) => blocks.push(lay_unit(alloc, &mut bodies, unit)?)?,
+        }
     }
-    let Pieces {
-        bodies,
-        types,
-        symbols,
-        blocks,
-    } = pieces;
     Ok(Declared {
         bodies,
         types,
         symbols: symbols.list,
         blocks,
     })
-}
-
-impl Pieces {
-    // Nothing yet. Takes no memory.
-    fn new(alloc: Global) -> Pieces
-        ensures pieces { ArePieces [] result }
-        ensures few { length result.bodies.items ≤ 16777216 }
-    {
-        Pieces {
-            bodies: Vec::new(alloc),
-            types: Vec::new(alloc),
-            symbols: Symbols::new(alloc),
-            blocks: Vec::new(alloc),
-        }
-    }
-
-    // Adds what an item declares.
-    fn add(&mut self, alloc: Global, item: Item) -> Result<(), Memory>
-        requires { AreNumbered self.old.symbols }
-        ensures pieces { (items : List Item) → ArePieces items self.old
-            → OnOk result (ArePieces (items ++ item ∷ []) self.new) }
-        ensures few { length self.old.bodies.items ≤ 16777216
-            → OnOk result (length self.new.bodies.items ≤ 16777216) }
-    {
-        match item {
-            Item::Domain(domain) => {
-                let body = self.symbols.domain(alloc, &domain.body)?;
-                self.types.push((domain.name, body))?;
-                Ok(())
-            }
-            Item::Class(unit) => {
-                let name = unit.name;
-                let body = lay_unit(alloc, &mut self.bodies, unit)?;
-                self.types.push((name, TypeBody::Class(body)))?;
-                Ok(())
-            }
-            Item::Block(unit) => {
-                let body = lay_unit(alloc, &mut self.bodies, unit)?;
-                self.blocks.push(body)?;
-                Ok(())
-            }
-        }
-    }
 }

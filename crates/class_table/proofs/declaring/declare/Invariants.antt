@@ -4,7 +4,7 @@ use Rattle.class_table.proofs.declaring.declare.Given as goal
 
 abbrev pub invariant-loop-item : goal.invariant-loop-item
 invariant-loop-item l = record {
-  parts : PartsOn l.fn.items.items l.item-iterator.rest.items l.item-iterator.rest.len l.pieces.bodies.items
-      l.pieces.types.items l.pieces.symbols l.pieces.blocks.items;
-  few : length l.pieces.bodies.items ≤ 16777216;
+  parts : PartsOn l.fn.items.items l.item-iterator.rest.items l.item-iterator.rest.len l.bodies.items l.types.items
+      l.symbols l.blocks.items;
+  few : length l.bodies.items ≤ 16777216;
 }

@@ -1,9 +1,13 @@
 -- A known text keeps the table, and a new one goes last.
-use Rattle.std.proofs.Common.{◌≡◌, ℕ, List, Some, [], ◌∷◌, ◌++◌, length, sym, ap, ◌∙◌, subst, if◌then◌else◌, arith}
+use Rattle.std.proofs.Common.{◌≡◌, ℕ, ◌<◌, ◌-◌, ◌^◌, List, Some, [], ◌∷◌, ◌++◌, length, take, sym, ap, ◌∙◌, subst, if◌then◌else◌, arith}
+use Rattle.std.specs.Global.{Global}
+use Rattle.std.specs.Map.{lookup}
+use Rattle.std.specs.Vec.{vec_len}
+use Rattle.std.specs.declared.string.String.{String}
 use Rattle.std.specs.HashMap.{get_by_text}
 use Rattle.std.specs.Str.{bytes_eq}
 use Rattle.std.specs.String.{string_bytes}
-use Rattle.std.proofs.lemmas.List.{length-map, map-append}
+use Rattle.std.proofs.lemmas.List.{length-map, map-append, take_at}
 use Rattle.ar_base.specs.Lists.{Stands, HasNo}
 use Rattle.ar_base.specs.Texts.{bytes_of_all, AreUtf8, AreNumbered, Interns, known, added}
 use Rattle.ar_base.proofs.Standing.{stands_next}
@@ -64,3 +68,24 @@ returns-in-Ok-clause-texts c =
 pub returns-in-Ok-clause-different : goal.returns-in-Ok-clause-different
 returns-in-Ok-clause-different c =
     differ (bytes_of_all c.push.new.self.items) (get_by_text c.enter.new.numbers) (numbered c)
+
+-- the texts after the new one was taken back
+kept : (c : goal.Joined-pop) → c.pop.new.self.items ≡ c.self.inside.texts.items
+kept c =
+    let longer = c.in_ok-push.ensures.len in
+    c.pop.ensures.rest
+    ∙ ap (take (vec_len c.push.new.self - 1)) c.in_ok-push.ensures.items
+    ∙ take_at c.self.inside.texts.items (c.in_ok-from_str.field-0 ∷ []) (vec_len c.push.new.self - 1) (omega arith)
+
+pub invariant_of-self-in-Err : goal.invariant_of-self-in-Err
+invariant_of-self-in-Err c = (
+  subst (λ (texts : List (String Global)). length texts < 2 ^ 32) (sym (kept c)) c.self.invariant.0,
+  subst (λ (texts : List (String Global)). AreUtf8 (bytes_of_all texts)) (sym (kept c)) c.self.invariant.1,
+  subst (λ (texts : List (String Global)). AreNumbered (bytes_of_all texts) (get_by_text c.enter.new.numbers))
+      (sym (kept c))
+      (subst (λ (entries : List (String Global × ℕ)). AreNumbered (bytes_of_all c.self.inside.texts.items)
+      (λ t. lookup (λ k. bytes_eq t (string_bytes k)) entries)) (sym c.in-Err.ensures.err) c.self.invariant.2),
+)
+
+pub returns-in-Err-clause-err : goal.returns-in-Err-clause-err
+returns-in-Err-clause-err c = ap bytes_of_all (kept c) ∙ c.self.view_is

@@ -18,8 +18,8 @@ use Rattle.ar_grammar.specs.Words.{Tokens, token, ◌▸◌, between, each, sepa
 use Rattle.ar_grammar.specs.Expressions.{Node, one, more, ReadsProduct, ReadsTerm, ReadsTerms, ReadsSum, ReadsCompare, two, sign_of, negated, plain, ReadsIf, choice, ReadsPrimary, ReadsExpr, ReadsNot, ReadsMinus}
 use Rattle.ar_grammar.specs.Chains.{separator_of, chain_of, operand_form, chain_form, ends_operand, ends_chain, IsComparison, IsOneCase}
 use Rattle.ar_grammar.specs.Results.{kind_at, Spans, Eats, begins_term, is_relation, ends_path, ends_product, ends_sum, ends_not, ends_and}
-use Rattle.ar_grammar.proofs.Finding.{spans_then}
-use Rattle.ar_grammar.proofs.ExpressionForms.{then_some, token_some, node_some, Places, node_made, and_left}
+use Rattle.ar_grammar.proofs.Finding.{spans_then, spans_map}
+use Rattle.ar_grammar.proofs.ExpressionForms.{then_assoc, then_some, token_some, node_some, Places, node_made, and_left}
 
 -- Expr
 
@@ -45,15 +45,15 @@ expr_plain_in (suc n) e next ts some h =
 
 -- "if" Expr "then" Expr "else" Expr
 
-pub if_made : (n : ℕ) (test value other : RawExpr) (f : RawForm) (e : RawExpr) {old mid rest last new : Tokens}
+pub if_made : (n : ℕ) (test value other : RawExpr) (f : RawForm) (e : RawExpr) {old rest last new : Tokens}
     → IsOneCase test value other f → Places e f old new →
-    Spans (between (Reserved IF) (Reserved THEN) (Node (ReadsExpr n) test)) old mid
-    → Spans (Node (ReadsExpr n) value) mid rest → Spans (token (Reserved ELSE)) rest last
-    → Spans (Node (ReadsExpr n) other) last new → Spans (Node (ReadsIf (ReadsExpr n)) e) old new
-if_made n test value other f e c p a b t d =
+    Spans (between (Reserved IF) (Reserved THEN) (Node (ReadsExpr n) test) ▸ Node (ReadsExpr n) value) old rest
+    → Spans (token (Reserved ELSE)) rest last → Spans (Node (ReadsExpr n) other) last new
+    → Spans (Node (ReadsIf (ReadsExpr n)) e) old new
+if_made n test value other f e c p a t d =
     node_made (between (Reserved IF) (Reserved THEN) (Node (ReadsExpr n) test) ▸ Node (ReadsExpr n) value ▸ token
     (Reserved ELSE) ▸ Node (ReadsExpr n) other) (ReadsIf (ReadsExpr n)) e f p
-    (spans_then a (spans_then b (spans_then t d)))
+    (spans_map (spans_then a (spans_then t d)) (λ next ts h. then_assoc h))
     (λ next ts h. then_some h (λ next ts g. then_some g (token_some (Reserved IF))))
     (λ next ts h. record {
       cases = c.cases;

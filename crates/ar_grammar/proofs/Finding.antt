@@ -1,5 +1,5 @@
 -- How what is said of one call gives what is said of calls one after the other.
-use Rattle.std.proofs.Common.{◌≡◌, ◌≢◌, ℕ, suc, ◌-◌, Bool, true, false, List, [], ◌∷◌, ◌++◌, Result, Ok, Err, IsErrAnd, refl, sym, ap, ◌∙◌, subst, append_assoc, arith}
+use Rattle.std.proofs.Common.{◌≡◌, ◌≢◌, ℕ, suc, ◌-◌, Bool, true, false, List, [], ◌∷◌, ◌++◌, Box, Global, Result, Ok, Err, IfOk, IfErr, IsErrAnd, refl, sym, ap, ◌∙◌, subst, append_assoc, arith}
 use Rattle.std.proofs.lemmas.List.{append-nil}
 use Rattle.ar_lexer.specs.declared.token.TokenKind.{TokenKind}
 use Rattle.ar_lexer.proofs.NumberLemmas.{cons_tail}
@@ -202,6 +202,21 @@ finds_memory {left = left} {r = r} front e failed =
       passed = e;
       only = λ p n other ts after same h w s. arrives_memory left n r other after failed;
     }
+
+-- all went well, but that memory may have run out at the end
+pub finds_kept : {A B : Type 0} {P : ℕ → Form} {ends : TokenKind → Bool} {left : ℕ} {x : A} (r : Result B Refusal)
+    {old new : Tokens} → Finds P ends left (Ok x) old new → IfErr r (λ e. e ≡ Memory) → Finds P ends left r old new
+finds_kept (Ok y) f h = finds_ok y f
+finds_kept (Err e) f h = finds_memory f.front f.passed h
+
+pub kept_as : (P Q : Type 0) (r : Result (Unit {0}) Refusal) → (P → Q) → IfOk r (λ _. P) → IfOk r (λ _. Q)
+kept_as P Q (Ok x) f h = f h
+kept_as P Q (Err e) f h = tt
+
+pub boxed_takes : {A : Type 0} (One : A → Form) (r : Result (Box A Global) Refusal) (x : A) {old new : Tokens}
+    → IfOk r (λ b. b.value ≡ x) → Spans (One x) old new → Takes (λ b. One b.value) r old new
+boxed_takes One (Ok b) x {old} {new} e s = subst (λ (y : _). Spans (One y) old new) (sym e) s
+boxed_takes One (Err f) x e s = tt
 
 -- one more production is open
 abbrev pub inside : (ℕ → Form) → ℕ → Form

@@ -17,3 +17,4 @@ pub mod MemberParts
 pub mod BodyParts
 pub mod BodyTexts
 pub mod ItemParts
+pub mod Measures

@@ -1,5 +1,5 @@
 -- How what a refusal of one call tells gives what refusals of calls one after the other tell.
-use Rattle.std.proofs.Common.{◌≡◌, ◌≢◌, ℕ, suc, ◌+◌, ◌-◌, ◌≤◌, Bool, true, false, List, [], ◌∷◌, ◌++◌, Result, Ok, Err, IsErrAnd, refl, sym, ap, ◌∙◌, subst, append_assoc, arith, inl}
+use Rattle.std.proofs.Common.{◌≡◌, ◌≢◌, ℕ, suc, ◌+◌, ◌-◌, ◌≤◌, Bool, true, false, List, [], ◌∷◌, ◌++◌, Result, Ok, Err, IfErr, IsErrAnd, refl, sym, ap, ◌∙◌, subst, append_assoc, arith, inl}
 use Rattle.std.specs.Bool.{OnTrue, OnFalse}
 use Rattle.ar_lexer.specs.declared.token.TokenKind.{TokenKind}
 use Rattle.ar_lexer.specs.declared.token.TokenKind.TheVariants.{End}
@@ -294,6 +294,11 @@ pub halts_memory : {A : Type 0} (P : ℕ → Form) (left : ℕ) (old new : Token
     → IsErrAnd r (λ x. x ≡ Memory) → Halts P left r old new
 halts_memory P left old new (Ok x) h = elim h [ ]
 halts_memory P left old new (Err x) h = λ n. absurd (n h)
+
+pub halts_kept : {A : Type 0} (P : ℕ → Form) (left : ℕ) (old new : Tokens) (r : Result A Refusal)
+    → IfErr r (λ e. e ≡ Memory) → Halts P left r old new
+halts_kept P left old new (Ok x) h = tt
+halts_kept P left old new (Err x) h = λ n. absurd (n h)
 
 pub halts_over : {A : Type 0} {P Q : ℕ → Form} {left left' : ℕ} {old old' new new' : Tokens} (r : Result A Refusal)
     → Halts P left r old new → ((e : Refusal) → Refuses P left e old new → Refuses Q left' e old' new')

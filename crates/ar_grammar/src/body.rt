@@ -15,6 +15,7 @@ ghost use Rattle.ar_grammar.specs.Results.{Takes, Finds, Halts, Spans, anything,
 use crate::begins::{begins_body, begins_later, begins_member, begins_section};
 use crate::cursor::{Parser, no_room};
 use crate::lexeme::Refusal;
+use crate::lists::put;
 use ar_base::{NameId, Place, Span};
 use ar_lexer::{TokenKind, signs, words};
 use ar_syntax::{Member, Path, RawExpr, TypeName, Unit};
@@ -181,13 +182,13 @@ impl<'a> Parser<'a> {
             self.new.rest.now }
         ensures stuck { Halts (body_tokens deep) left result self.old.rest.now self.new.rest.now }
     {
-        let mut members = Vec::new(self.alloc);
         if left == 0 {
             if begins_body(self.kind()) {
                 return Err(no_room(true));
             }
-            return Ok(members);
+            return Ok(Vec::new(self.alloc));
         }
+        let mut members = Vec::new(self.alloc);
         self.members(left - 1, &mut members)?;
         self.sections(left - 1, &mut members)?;
         Ok(members)
@@ -219,8 +220,7 @@ impl<'a> Parser<'a> {
     {
         if self.is_at(TokenKind::Name) {
             let declaration = self.declaration(left)?;
-            members.push(declaration)?;
-            return Ok(());
+            return put(members, declaration);
         }
         self.keyed(left, members)
     }
@@ -241,12 +241,10 @@ impl<'a> Parser<'a> {
         }
         if self.eat(TokenKind::Reserved(words::BLOCK)) {
             let unit = self.unit(left)?;
-            members.push(Member::Block(unit))?;
-            return Ok(());
+            return put(members, Member::Block(unit));
         }
         let member = self.single(left)?;
-        members.push(member)?;
-        Ok(())
+        put(members, member)
     }
 
     /// Takes [ Section { Section | Keyed } ].

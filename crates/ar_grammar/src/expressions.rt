@@ -14,6 +14,7 @@ ghost use Rattle.ar_grammar.specs.Parts.{operand_tokens, chain_tokens, term_toke
 use crate::begins::{begins_expr, begins_minus, begins_not};
 use crate::cursor::{Parser, no_room};
 use crate::lexeme::Refusal;
+use crate::lists::{in_box, list_of, put};
 use crate::terms::{Chain, call_of, chain_of, separator_of};
 use ar_lexer::{TokenKind, signs, words};
 use ar_syntax::{RawExpr, RawForm};
@@ -60,6 +61,29 @@ impl<'a> Parser<'a> {
         Ok(inner)
     }
 
+    /// Takes a test between two tokens and the value behind them.
+    #[cycle(expression)]
+    fn case(
+        &mut self,
+        opens: TokenKind,
+        closes: TokenKind,
+        left: u32,
+    ) -> Result<(RawExpr, RawExpr), Refusal>
+        requires opens { opens ≢ End }
+        requires closes { closes ≢ End }
+        requires ends { ends_expr closes ≡ true }
+        ensures found { Takes (λ x. between opens closes (Node (ReadsExpr left) x.0)
+            ▸ Node (ReadsExpr left) x.1) result self.old.rest.now self.new.rest.now }
+        ensures only { Finds (λ n. between opens closes (expr_tokens deep n) ▸ expr_tokens deep n)
+            ends_expr left result self.old.rest.now self.new.rest.now }
+        ensures stuck { Halts (λ n. between opens closes (expr_tokens deep n) ▸ expr_tokens deep n) left
+            result self.old.rest.now self.new.rest.now }
+    {
+        let test = self.enclosed(opens, closes, left)?;
+        let value = self.expr(left)?;
+        Ok((test, value))
+    }
+
     /// Takes a choice between two values: "if" Expr "then" Expr "else" Expr.
     #[cycle(expression)]
     fn choice(&mut self, left: u32) -> Result<RawExpr, Refusal>
@@ -71,15 +95,14 @@ impl<'a> Parser<'a> {
             self.new.rest.now }
     {
         let start = self.rest;
-        let test = self.enclosed(
+        let case = self.case(
             TokenKind::Reserved(words::IF),
             TokenKind::Reserved(words::THEN),
             left,
         )?;
-        let value = self.expr(left)?;
         self.expect(TokenKind::Reserved(words::ELSE))?;
         let other = self.expr(left)?;
-        let form = self.one_case(test, value, other)?;
+        let form = self.one_case(case, other)?;
         Ok(self.node(start, form))
     }
 
@@ -97,8 +120,7 @@ impl<'a> Parser<'a> {
         if !self.is_at(separator_of(chain)) {
             return Ok(first);
         }
-        let mut operands = Vec::new(self.alloc);
-        operands.push(first)?;
+        let mut operands = list_of(self.alloc, first)?;
         self.more_operands(chain, left, &mut operands)?;
         Ok(self.node(start, chain_of(chain, operands)))
     }
@@ -124,7 +146,7 @@ impl<'a> Parser<'a> {
         let separator = separator_of(chain);
         while self.eat(separator) {
             let operand = self.operand(chain, left)?;
-            operands.push(operand)?;
+            put(operands, operand)?;
         }
         Ok(())
     }
@@ -159,7 +181,7 @@ impl<'a> Parser<'a> {
         let start = self.rest;
         if self.eat(TokenKind::Reserved(words::NOT)) {
             let operand = self.not(left - 1)?;
-            let boxed = Box::new(self.alloc, operand)?;
+            let boxed = in_box(self.alloc, operand)?;
             return Ok(self.node(start, RawForm::Not(boxed)));
         }
         self.compare(left - 1)
@@ -202,8 +224,7 @@ impl<'a> Parser<'a> {
         if !self.is_at_term() {
             return Ok(first);
         }
-        let mut terms = Vec::new(self.alloc);
-        terms.push((true, first))?;
+        let mut terms = list_of(self.alloc, (true, first))?;
         self.more_terms(left, &mut terms)?;
         Ok(self.node(start, RawForm::Sum(terms)))
     }
@@ -222,7 +243,7 @@ impl<'a> Parser<'a> {
     {
         while let Some(plus) = self.eat_plus() {
             let term = self.chain(Chain::Product, left)?;
-            terms.push((plus, term))?;
+            put(terms, (plus, term))?;
         }
         Ok(())
     }
@@ -241,7 +262,7 @@ impl<'a> Parser<'a> {
         let start = self.rest;
         if self.eat(TokenKind::Sign(signs::MINUS)) {
             let operand = self.minus(left - 1)?;
-            let boxed = Box::new(self.alloc, operand)?;
+            let boxed = in_box(self.alloc, operand)?;
             return Ok(self.node(start, RawForm::Minus(boxed)));
         }
         self.primary(left - 1)
@@ -292,8 +313,7 @@ impl<'a> Parser<'a> {
     {
         self.expect(TokenKind::Sign(signs::OPEN_PARENTHESIS))?;
         let first = self.expr(left)?;
-        let mut operands = Vec::new(self.alloc);
-        operands.push(first)?;
+        let mut operands = list_of(self.alloc, first)?;
         self.more_arguments(left, &mut operands)?;
         self.expect(TokenKind::Sign(signs::CLOSE_PARENTHESIS))?;
         Ok(operands)
@@ -313,7 +333,7 @@ impl<'a> Parser<'a> {
     {
         while self.eat(TokenKind::Sign(signs::COMMA)) {
             let operand = self.expr(left)?;
-            operands.push(operand)?;
+            put(operands, operand)?;
         }
         Ok(())
     }
@@ -341,7 +361,7 @@ impl<'a> Parser<'a> {
             TokenKind::Sign(signs::CLOSE_BRACE),
             left,
         )?;
-        let boxed = Box::new(self.alloc, other)?;
+        let boxed = in_box(self.alloc, other)?;
         Ok(self.node(start, RawForm::Choose(cases, boxed)))
     }
 
@@ -358,13 +378,12 @@ impl<'a> Parser<'a> {
     {
         let mut cases = Vec::new(self.alloc);
         while self.is_at(TokenKind::Reserved(words::CASE)) {
-            let test = self.enclosed(
+            let case = self.case(
                 TokenKind::Reserved(words::CASE),
                 TokenKind::Sign(signs::COLON),
                 left,
             )?;
-            let value = self.expr(left)?;
-            cases.push((test, value))?;
+            put(&mut cases, case)?;
         }
         Ok(cases)
     }

@@ -13,6 +13,7 @@ ghost use Rattle.ar_grammar.specs.Results.{kind_at, Takes, Finds, Halts, Spans, 
 use crate::begins::begins_instr;
 use crate::cursor::{Parser, no_room};
 use crate::lexeme::Refusal;
+use crate::lists::{in_box, put};
 use ar_lexer::{TokenKind, signs, words};
 use ar_syntax::{Instr, Path};
 
@@ -51,10 +52,22 @@ impl<'a> Parser<'a> {
             TokenKind::Reserved(words::THEN),
             left,
         )?;
-        let inner = self.instr(left)?;
+        let yes = self.branch(left)?;
         let no = self.other_branch(left)?;
-        let yes = Box::new(self.alloc, inner)?;
         Ok(Instr::If(test, yes, no))
+    }
+
+    /// Takes the instruction of a branch.
+    #[cycle(instruction)]
+    fn branch(&mut self, left: u32) -> Result<Box<Instr>, Refusal>
+        ensures found { Takes (λ branch. ReadsInstr left branch.value) result self.old.rest.now
+            self.new.rest.now }
+        ensures only { Finds (instr_tokens deep) anything left result self.old.rest.now
+            self.new.rest.now }
+        ensures stuck { Halts (instr_tokens deep) left result self.old.rest.now self.new.rest.now }
+    {
+        let inner = self.instr(left)?;
+        in_box(self.alloc, inner)
     }
 
     /// Takes [ "else" Instr ].
@@ -68,9 +81,8 @@ impl<'a> Parser<'a> {
             self.old.rest.now self.new.rest.now }
     {
         if self.eat(TokenKind::Reserved(words::ELSE)) {
-            let inner = self.instr(left)?;
-            let boxed = Box::new(self.alloc, inner)?;
-            return Ok(Some(boxed));
+            let branch = self.branch(left)?;
+            return Ok(Some(branch));
         }
         Ok(None)
     }
@@ -103,7 +115,7 @@ impl<'a> Parser<'a> {
     {
         while !self.is_at(TokenKind::Sign(signs::CLOSE_BRACE)) {
             let inner = self.instr(left)?;
-            instrs.push(inner)?;
+            put(instrs, inner)?;
         }
         Ok(())
     }

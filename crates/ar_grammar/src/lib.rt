@@ -7,6 +7,7 @@ mod cursor;
 mod expressions;
 mod instructions;
 mod lexeme;
+mod lists;
 mod members;
 mod model;
 mod paths;

@@ -15,6 +15,7 @@ ghost use Rattle.ar_grammar.specs.Results.{kind_at, Takes, Finds, Halts, Spans, 
 use crate::begins::begins_instr;
 use crate::cursor::Parser;
 use crate::lexeme::Refusal;
+use crate::lists::{list_of, put};
 use ar_lexer::{TokenKind, signs, words};
 use ar_syntax::{Instr, Member, Part, RawExpr, Setting, TypeForm, TypeName, Word};
 
@@ -77,7 +78,7 @@ impl<'a> Parser<'a> {
     {
         while self.eat(TokenKind::Sign(signs::DOT)) {
             let word = self.word()?;
-            target.push(word)?;
+            put(target, word)?;
         }
         Ok(())
     }
@@ -92,8 +93,7 @@ impl<'a> Parser<'a> {
             result self.old.rest.now self.new.rest.now }
     {
         let first = self.word()?;
-        let mut target = Vec::new(self.alloc);
-        target.push(first)?;
+        let mut target = list_of(self.alloc, first)?;
         self.more_words(&mut target)?;
         Ok(target)
     }
@@ -126,7 +126,7 @@ impl<'a> Parser<'a> {
     {
         while self.eat(TokenKind::Sign(signs::COMMA)) {
             let setting = self.setting(left)?;
-            settings.push(setting)?;
+            put(settings, setting)?;
         }
         Ok(())
     }
@@ -140,13 +140,12 @@ impl<'a> Parser<'a> {
         ensures stuck { Halts (λ n. settings_tokens (expr_tokens deep n)) left result self.old.rest.now
             self.new.rest.now }
     {
-        let mut settings = Vec::new(self.alloc);
         if !self.is_at(TokenKind::Sign(signs::OPEN_PARENTHESIS)) {
-            return Ok(settings);
+            return Ok(Vec::new(self.alloc));
         }
         self.expect(TokenKind::Sign(signs::OPEN_PARENTHESIS))?;
         let first = self.setting(left)?;
-        settings.push(first)?;
+        let mut settings = list_of(self.alloc, first)?;
         self.more_settings(left, &mut settings)?;
         self.expect(TokenKind::Sign(signs::CLOSE_PARENTHESIS))?;
         Ok(settings)
@@ -192,7 +191,7 @@ impl<'a> Parser<'a> {
     {
         while self.eat(TokenKind::Sign(signs::COMMA)) {
             let event = self.event(left)?;
-            members.push(event)?;
+            put(members, event)?;
         }
         Ok(())
     }
@@ -210,7 +209,7 @@ impl<'a> Parser<'a> {
     {
         self.expect(TokenKind::Reserved(words::EVENT))?;
         let first = self.event(left)?;
-        members.push(first)?;
+        put(members, first)?;
         self.more_events(left, members)?;
         self.expect(TokenKind::Sign(signs::SEMICOLON))?;
         Ok(())
@@ -241,7 +240,7 @@ impl<'a> Parser<'a> {
     {
         while self.eat(TokenKind::Sign(signs::COMMA)) {
             let hidden = self.hidden()?;
-            members.push(hidden)?;
+            put(members, hidden)?;
         }
         Ok(())
     }
@@ -260,7 +259,7 @@ impl<'a> Parser<'a> {
     {
         self.expect(TokenKind::Reserved(words::HIDE))?;
         let first = self.hidden()?;
-        members.push(first)?;
+        put(members, first)?;
         self.more_hidden(members)?;
         self.expect(TokenKind::Sign(signs::SEMICOLON))?;
         Ok(())
@@ -307,7 +306,7 @@ impl<'a> Parser<'a> {
     {
         while self.eat(TokenKind::Sign(signs::AMPERSAND)) {
             let part = self.part()?;
-            parts.push(part)?;
+            put(parts, part)?;
         }
         Ok(())
     }
@@ -322,8 +321,7 @@ impl<'a> Parser<'a> {
             self.new.rest.now }
     {
         let first = self.part()?;
-        let mut parts = Vec::new(self.alloc);
-        parts.push(first)?;
+        let mut parts = list_of(self.alloc, first)?;
         self.more_parts(&mut parts)?;
         self.expect(TokenKind::Sign(signs::SEMICOLON))?;
         Ok(parts)
@@ -383,7 +381,7 @@ impl<'a> Parser<'a> {
     {
         while self.is_at(TokenKind::Name) {
             let transition = self.transition(left)?;
-            members.push(transition)?;
+            put(members, transition)?;
         }
         Ok(())
     }
@@ -400,7 +398,7 @@ impl<'a> Parser<'a> {
     {
         while begins_instr(self.kind()) {
             let instr = self.instr(left)?;
-            members.push(Member::Assert(instr))?;
+            put(members, Member::Assert(instr))?;
         }
         Ok(())
     }

@@ -12,6 +12,7 @@ ghost use Rattle.ar_grammar.specs.Results.{Takes, Finds, Halts, Spans, Gets, Pla
 use crate::begins::begins_item;
 use crate::cursor::Parser;
 use crate::lexeme::Refusal;
+use crate::lists::{list_of, put};
 use ar_lexer::{TokenKind, signs, words};
 use ar_syntax::{DomainBody, DomainDecl, Item};
 
@@ -128,7 +129,7 @@ impl<'a> Parser<'a> {
     {
         while begins_item(self.kind()) {
             let item = self.item(left)?;
-            items.push(item)?;
+            put(items, item)?;
         }
         Ok(())
     }
@@ -143,8 +144,7 @@ impl<'a> Parser<'a> {
         ensures stuck { Halts (model_tokens deep) left result self.old.rest.now self.new.rest.now }
     {
         let first = self.item(left)?;
-        let mut items = Vec::new(self.alloc);
-        items.push(first)?;
+        let mut items = list_of(self.alloc, first)?;
         self.more_items(left, &mut items)?;
         Ok(items)
     }

@@ -10,6 +10,7 @@ ghost use Rattle.ar_grammar.specs.Results.{Takes, Finds, Halts, Spans, anything,
 
 use crate::cursor::Parser;
 use crate::lexeme::Refusal;
+use crate::lists::{list_of, put};
 use ar_base::{NameId, Place};
 use ar_lexer::{TokenKind, signs, words};
 use ar_syntax::{Path, PathStart};
@@ -39,7 +40,7 @@ impl<'a> Parser<'a> {
     {
         while self.eat(TokenKind::Sign(signs::COMMA)) {
             let name = self.placed_name()?;
-            names.push(name)?;
+            put(names, name)?;
         }
         Ok(())
     }
@@ -54,8 +55,7 @@ impl<'a> Parser<'a> {
             self.new.rest.now }
     {
         let first = self.placed_name()?;
-        let mut names = Vec::new(self.alloc);
-        names.push(first)?;
+        let mut names = list_of(self.alloc, first)?;
         self.more_names(&mut names)?;
         Ok(names)
     }
@@ -91,7 +91,7 @@ impl<'a> Parser<'a> {
     {
         while self.eat(TokenKind::Sign(signs::DOT)) {
             let name = self.name()?;
-            names.push(name.name)?;
+            put(names, name.name)?;
         }
         Ok(())
     }
@@ -107,8 +107,7 @@ impl<'a> Parser<'a> {
         let at = self.place();
         let start = self.path_start()?;
         let first = self.name()?;
-        let mut names = Vec::new(self.alloc);
-        names.push(first.name)?;
+        let mut names = list_of(self.alloc, first.name)?;
         self.more_steps(&mut names)?;
         Ok(Path { start, names, at })
     }

@@ -12,6 +12,7 @@ ghost use Rattle.ar_grammar.specs.Texts.{begins_constant, begins_call};
 
 use crate::cursor::Parser;
 use crate::lexeme::{Lexeme, Refusal};
+use crate::lists::{in_box, list_of};
 use ar_lexer::{TokenKind, signs, words};
 use ar_syntax::{RawExpr, RawForm, RawRelation};
 
@@ -236,24 +237,22 @@ impl<'a> Parser<'a> {
         ensures made { IfOk result (IsComparison relation first second) }
         ensures err { IfErr result (λ e. e ≡ Memory) }
     {
-        let first = Box::new(self.alloc, first)?;
-        let second = Box::new(self.alloc, second)?;
+        let first = in_box(self.alloc, first)?;
+        let second = in_box(self.alloc, second)?;
         Ok(RawForm::Compare(relation, first, second))
     }
 
     /// The form of a choice with one case.
     pub(crate) fn one_case(
         &self,
-        test: RawExpr,
-        value: RawExpr,
+        case: (RawExpr, RawExpr),
         other: RawExpr,
     ) -> Result<RawForm, Refusal>
-        ensures made { IfOk result (IsOneCase test value other) }
+        ensures made { IfOk result (IsOneCase case.0 case.1 other) }
         ensures err { IfErr result (λ e. e ≡ Memory) }
     {
-        let mut cases = Vec::new(self.alloc);
-        cases.push((test, value))?;
-        let other = Box::new(self.alloc, other)?;
+        let cases = list_of(self.alloc, case)?;
+        let other = in_box(self.alloc, other)?;
         Ok(RawForm::Choose(cases, other))
     }
 }

@@ -4,7 +4,7 @@ use Rattle.ar_syntax.specs.declared.members.Member.TheVariants as member
 use Rattle.ar_grammar.specs.Words.{between}
 use Rattle.ar_grammar.specs.Members.{ReadsKeyed, single, block, event, hide, ReadsMember, keyed, ReadsLater, ReadsBody}
 use Rattle.ar_grammar.specs.Results.{kind_at, begins_section, begins_later, begins_member, begins_body, ends_body}
-use Rattle.ar_grammar.proofs.Finding.{finds_then, finds_fails, finds_given, finds_plain, finds_err, finds_ok, finds_memory, finds_deep, finds_nothing, finds_token, finds_from, loops_stop, loops_fail, spans_then, spans_token, spans_expected, spans_from, spans_map, eats_kind, follows_token, follows_any}
+use Rattle.ar_grammar.proofs.Finding.{finds_then, finds_fails, finds_given, finds_plain, finds_err, finds_ok, finds_kept, kept_as, finds_deep, finds_nothing, finds_token, finds_from, loops_stop, loops_fail, spans_then, spans_token, spans_expected, spans_from, spans_map, eats_kind, follows_token, follows_any}
 use Rattle.ar_grammar.proofs.BodyParts.{spans_first, member_declared, keyed_event, keyed_hide, keyed_block, keyed_single, member_first, member_named, member_keyed, member_open, later_open, later_first, later_section, later_keyed, later_follows, sections_none, sections_parts, sections_follow, finds_body, body_empty, body_some, body_in, groups_push}
 use Rattle.std.proofs.Common.{inl, inr}
 use Rattle.ar_lexer.specs.declared.signs.TheConstants.{SEMICOLON, COMMA}
@@ -12,8 +12,9 @@ use Rattle.ar_lexer.specs.declared.words.TheConstants.{EVENT, HIDE}
 use Rattle.ar_grammar.specs.Words.{separated_by}
 use Rattle.ar_grammar.specs.Members.{ReadsSection, ReadsEvent, ReadsHidden}
 use Rattle.ar_grammar.proofs.BodyParts.{adds_map, sections_added, sections_nothing}
+use Rattle.ar_grammar.proofs.Measures.{falls, falls_inside}
 use Rattle.ar_grammar.proofs.cursor.Parser.+body.Goals as goal
-use Rattle.ar_grammar.proofs.Standing.{halts_err, halts_over, refuses_fails, refuses_then, refuses_map, refuses_inside, refuses_from, refuses_given, refuses_turn, refuses_deep, passes, passes_token, begins_then, begins_token, begins_no_more, begins_maybe}
+use Rattle.ar_grammar.proofs.Standing.{halts_err, halts_over, halts_kept, refuses_fails, refuses_then, refuses_map, refuses_inside, refuses_from, refuses_given, refuses_turn, refuses_deep, passes, passes_token, begins_then, begins_token, begins_no_more, begins_maybe}
 use Rattle.ar_grammar.proofs.BodyParts.{member_of_declared, keyed_of_single, later_clear}
 use Rattle.ar_grammar.proofs.BodyTexts.{some_body, some_member, body_at, moves_body, moves_section, moves_laters, turns_members}
 use Rattle.ar_grammar.proofs.Turning.{turns_placed}
@@ -105,15 +106,12 @@ member-returns-in_err-declaration-clause-only t c =
     finds_given (finds_err c.in_err-declaration.ensures.only c.from_residual.ensures.1)
     (λ n next ts h s k. (member_named n next ts h (k ∙ c.if-is_at.ensures.yes), s))
 
-pub member-returns-in_err-push-clause-only : goal.member-returns-in_err-push-clause-only
-member-returns-in_err-push-clause-only t c = let f = c.in_ok-declaration.ensures.only in finds_memory f.front f.passed c.from_residual-in_err-push.ensures.1
-
 pub member-returns-then-is_at-clause-found : goal.member-returns-then-is_at-clause-found
-member-returns-then-is_at-clause-found t c = let s = c.in_ok-declaration.ensures.found in (c.in_ok-declaration.declaration ∷ [], c.in_ok-push.ensures.items, record { front = s.front; split = s.split; form = member_declared c.args.left (ReadsBody c.args.left) _ _ s.front s.form (spans_first s ∙ c.if-is_at.ensures.yes) })
+member-returns-then-is_at-clause-found t c = let s = c.in_ok-declaration.ensures.found in kept_as _ _ c.put.result (λ e. (c.in_ok-declaration.declaration ∷ [], e, record { front = s.front; split = s.split; form = member_declared c.args.left (ReadsBody c.args.left) _ _ s.front s.form (spans_first s ∙ c.if-is_at.ensures.yes) })) c.put.ensures.items
 
 pub member-returns-then-is_at-clause-only : goal.member-returns-then-is_at-clause-only
 member-returns-then-is_at-clause-only t c =
-    finds_given (finds_ok _ c.in_ok-declaration.ensures.only)
+    finds_given (finds_kept _ c.in_ok-declaration.ensures.only c.put.ensures.err)
     (λ n next ts h s k. (member_named n next ts h (k ∙ c.if-is_at.ensures.yes), s))
 
 pub member-returns-clause-found : goal.member-returns-clause-found
@@ -148,20 +146,19 @@ keyed-returns-in_err-unit-clause-only t c =
     (finds_err c.in_err-unit.ensures.only c.from_residual.ensures.1) follows_any)
     (λ n next ts h s k. (keyed_block n next ts h (k ∙ eats_kind c.if-eat.ensures.taken), s))
 
-pub keyed-returns-in_err-push-clause-only : goal.keyed-returns-in_err-push-clause-only
-keyed-returns-in_err-push-clause-only t c = let f = finds_then (finds_token c.if-eat.ensures.taken) c.in_ok-unit.ensures.only follows_any in finds_memory f.front f.passed c.from_residual-in_err-push.ensures.1
-
 pub keyed-returns-then-eat-clause-found : goal.keyed-returns-then-eat-clause-found
-keyed-returns-then-eat-clause-found t c = (
-  member.Block c.in_ok-unit.unit ∷ [],
-  c.in_ok-push.ensures.items,
-  spans_map
-      (spans_then (spans_token c.if-eat.ensures.taken) c.in_ok-unit.ensures.found) (λ next ts h. block _ refl h),
-)
+keyed-returns-then-eat-clause-found t c =
+    kept_as _ _ c.put.result (λ e. (
+      member.Block c.in_ok-unit.unit ∷ [],
+      e,
+      spans_map
+          (spans_then (spans_token c.if-eat.ensures.taken) c.in_ok-unit.ensures.found) (λ next ts h. block _ refl h),
+    )) c.put.ensures.items
 
 pub keyed-returns-then-eat-clause-only : goal.keyed-returns-then-eat-clause-only
 keyed-returns-then-eat-clause-only t c =
-    finds_given (finds_then (finds_token c.if-eat.ensures.taken) (finds_ok _ c.in_ok-unit.ensures.only) follows_any)
+    finds_given (finds_then (finds_token c.if-eat.ensures.taken)
+    (finds_kept _ c.in_ok-unit.ensures.only c.put.ensures.err) follows_any)
     (λ n next ts h s k. (keyed_block n next ts h (k ∙ eats_kind c.if-eat.ensures.taken), s))
 
 pub keyed-returns-in_err-member-clause-only : goal.keyed-returns-in_err-member-clause-only
@@ -175,20 +172,18 @@ keyed-returns-in_err-member-clause-only t c =
       s,
     ))) c.if-eat.ensures.left
 
-pub keyed-returns-in_err-push-2-clause-only : goal.keyed-returns-in_err-push-2-clause-only
-keyed-returns-in_err-push-2-clause-only t c = let f = finds_from c.in_ok-member.ensures.only c.if-eat.ensures.left in finds_memory f.front f.passed c.from_residual-in_err-push-2.ensures.1
-
 pub keyed-returns-clause-found : goal.keyed-returns-clause-found
-keyed-returns-clause-found t c = (
-  c.in_ok-member.member ∷ [],
-  c.in_ok-push-2.ensures.items,
-  spans_from
-      (spans_map c.in_ok-member.ensures.found (λ next ts h. single _ refl h)) (sym c.if-eat.ensures.left),
-)
+keyed-returns-clause-found t c =
+    kept_as _ _ c.put-2.result (λ e. (
+      c.in_ok-member.member ∷ [],
+      e,
+      spans_from
+          (spans_map c.in_ok-member.ensures.found (λ next ts h. single _ refl h)) (sym c.if-eat.ensures.left),
+    )) c.put-2.ensures.items
 
 pub keyed-returns-clause-only : goal.keyed-returns-clause-only
 keyed-returns-clause-only t c = finds_from
-    (finds_given (finds_ok _ c.in_ok-member.ensures.only)
+    (finds_given (finds_kept _ c.in_ok-member.ensures.only c.put-2.ensures.err)
     (λ n next ts h s k. (
       keyed_single n next ts h
           (λ e. c.if-is_at.ensures.no (ap kind_at (sym c.if-eat.ensures.left) ∙ sym k ∙ e))
@@ -361,3 +356,39 @@ later_clause-returns-then-begins_section-clause-stuck t c =
 
 pub later_clause-returns-clause-stuck : goal.later_clause-returns-clause-stuck
 later_clause-returns-clause-stuck t c = halts_over _ c.keyed.ensures.stuck (λ e r. refuses_map r (λ m next ts h. inr h))
+
+pub member-returns-then-is_at-clause-stuck : goal.member-returns-then-is_at-clause-stuck
+member-returns-then-is_at-clause-stuck t c = halts_kept _ _ _ _ _ c.put.ensures.err
+
+pub keyed-returns-then-eat-clause-stuck : goal.keyed-returns-then-eat-clause-stuck
+keyed-returns-then-eat-clause-stuck t c = halts_kept _ _ _ _ _ c.put.ensures.err
+
+pub keyed-returns-clause-stuck : goal.keyed-returns-clause-stuck
+keyed-returns-clause-stuck t c = halts_kept _ _ _ _ _ c.put-2.ensures.err
+
+pub unit-body-requires : goal.unit-body-requires
+unit-body-requires t c = (falls 0 1 0 _ t refl c.decreases, tt)
+
+pub body-members-requires : goal.body-members-requires
+body-members-requires t c = (falls_inside 4 0 3 _ t refl c.if-left-eq0.false c.decreases, tt)
+
+pub body-sections-requires : goal.body-sections-requires
+body-sections-requires t c = (falls_inside 5 0 2 _ t refl c.if-left-eq0.false c.decreases, tt)
+
+pub members-member-requires : goal.members-member-requires
+members-member-requires t c = (falls 3 4 0 _ t refl c.decreases, tt)
+
+pub member-keyed-requires : goal.member-keyed-requires
+member-keyed-requires t c = (falls 2 3 0 _ t refl c.decreases, tt)
+
+pub keyed-unit-requires : goal.keyed-unit-requires
+keyed-unit-requires t c = (falls 1 2 0 _ t refl c.decreases, tt)
+
+pub sections-later_clauses-requires : goal.sections-later_clauses-requires
+sections-later_clauses-requires t c = (falls 4 5 0 _ t refl c.decreases, tt)
+
+pub later_clauses-later_clause-requires : goal.later_clauses-later_clause-requires
+later_clauses-later_clause-requires t c = (falls 3 4 0 _ t refl c.decreases, tt)
+
+pub later_clause-keyed-requires : goal.later_clause-keyed-requires
+later_clause-keyed-requires t c = (falls 2 3 0 _ t refl c.decreases, tt)

@@ -1,4 +1,4 @@
-use Rattle.std.proofs.Common.{◌≡◌, ◌-◌, length, Err, true, false, refl, sym, ap, ◌∙◌, subst}
+use Rattle.std.proofs.Common.{◌≡◌, ◌+◌, ◌*◌, ◌-◌, length, Err, true, false, refl, sym, ap, ◌∙◌, subst}
 use Rattle.std.specs.Prelude.{◌==◌}
 use Rattle.std.proofs.lemmas.Bool.{eqb-true}
 use Rattle.ar_syntax.specs.declared.expressions.RawExpr.{RawExpr}
@@ -8,44 +8,38 @@ use Rattle.ar_grammar.specs.Expressions.{Node, ReadsExpr, ReadsNot, ReadsMinus, 
 use Rattle.ar_grammar.specs.Chains.{chain_form, ends_chain, ends_operand}
 use Rattle.ar_grammar.specs.Results.{kind_at, Finds, begins_term, begins_expr, begins_not, begins_minus, ends_list, ends_cases, ends_sum, is_relation}
 use Rattle.ar_grammar.proofs.Finding.{finds_then, finds_fails, finds_given, finds_plain, finds_err, finds_ok, finds_memory, finds_inside, finds_no_room, finds_syntax, finds_nothing, finds_token, finds_from, finds_at, loops_start, loops_stop, loops_fail, loops_next, gathers_push, spans_then, spans_token, spans_expected, spans_from, spans_at, spans_map, takes_map, takes_from, err_memory, eats_as, eats_kind, then_kind, follows_token, follows_then, follows_any}
-use Rattle.ar_grammar.proofs.PathForms.{pushed_first, pushed_more}
+use Rattle.ar_grammar.proofs.PathForms.{pushed_more}
 use Rattle.ar_grammar.proofs.ExpressionForms.{and_left}
 use Rattle.ar_grammar.proofs.ExpressionParts.{expr_choice_in, expr_plain_in, if_made, sep_open, chain_made, not_plain_in, not_made, compare_made, compare_one, relation_ends, term_sign, term_eats, term_open, sum_one, sum_made, minus_plain_in, minus_made}
 use Rattle.ar_grammar.proofs.PrimaryParts.{constant_begins, constant_made, brackets_made, switch_in, call_made, path_made_primary, operands_made, switch_made, no_cases, some_length}
 use Rattle.ar_grammar.proofs.TextParts.{expr_begins, expr_some, expr_if, expr_plain, chain_follows, not_begins, not_some, not_negated, not_plain, compare_follows, compare_over, compare_more, term_begins, term_given, sum_follows, minus_begins, minus_some, minus_negated, minus_plain, primary_constant, primary_brackets, primary_switch, primary_call, primary_path, arguments_follow, operands_follow, case_kind, cases_follow, switch_parts}
+use Rattle.ar_grammar.proofs.Measures.{falls, falls_inside, one_below, two_below, next_below, word_some, sign_some}
+use Rattle.ar_grammar.proofs.cursor.Parser.+expression.Invariants.{rank_of}
+use Rattle.ar_lexer.specs.declared.words.TheConstants.{CASE, IF, THEN}
 use Rattle.ar_grammar.proofs.cursor.Parser.+expression.Goals as goal
 use Rattle.std.proofs.Common.{inl, inr}
 use Rattle.ar_lexer.specs.declared.token.TokenKind.TheVariants.{Sign}
-use Rattle.ar_lexer.specs.declared.signs.TheConstants.{OPEN_BRACE, CLOSE_BRACE, CLOSE_PARENTHESIS, COLON}
+use Rattle.ar_lexer.specs.declared.signs.TheConstants.{OPEN_BRACE, CLOSE_BRACE, OPEN_PARENTHESIS, CLOSE_PARENTHESIS, COLON}
 use Rattle.ar_grammar.specs.Texts.{relation_tokens, plus_tokens, one_of, begins_constant, begins_call}
 use Rattle.ar_grammar.specs.Texts as text
-use Rattle.ar_grammar.proofs.ExpressionForms.{then_assoc}
-use Rattle.ar_grammar.proofs.Standing.{halts_err, halts_over, refuses_fails, refuses_then, refuses_map, refuses_inside, refuses_from, refuses_turn, refuses_some, refuses_here, refuses_no_room, passes, passes_token, passes_expected, passes_one, begins_token, begins_nothing, begins_no_more, begins_then, begins_map, turns_each, turns_then, turns_token}
+use Rattle.ar_grammar.proofs.ExpressionForms.{then_assoc, then_unassoc}
+use Rattle.ar_grammar.proofs.Standing.{halts_err, halts_over, refuses_fails, refuses_then, refuses_map, refuses_inside, refuses_from, refuses_turn, refuses_some, refuses_here, refuses_no_room, passes, passes_token, passes_expected, passes_one, begins_token, begins_nothing, begins_no_more, begins_then, begins_map, turns_each, turns_then, turns_token, halts_memory}
 use Rattle.ar_grammar.proofs.Turning.{turns_operand, turns_tree, turns_product, turns_a_term, turns_a_sum, turns_a_case, turns_enclosed, turns_all_cases}
 use Rattle.ar_grammar.proofs.Beginnings.{some_expr, some_not, some_minus, some_arguments, some_case, some_default, some_else, expr_at, not_at, minus_at, call_one}
 use Rattle.ar_grammar.specs.Parts.{operand_tokens}
 use Rattle.ar_grammar.specs.declared.lexeme.Refusal.TheVariants.{Syntax}
 
-pub cases-returns-in_err-test-clause-only : goal.cases-returns-in_err-test-clause-only
-cases-returns-in_err-test-clause-only t c =
-    loops_fail c.loop-self.invariant.loops (ap ends_cases c.loop-self-test.ensures.yes)
-    (finds_fails {B = RawExpr} {r = Err _} c.in_err-test.ensures.only refl follows_any) c.from_residual.ensures.1
-    cases_follow
-
-pub cases-returns-in_err-value-clause-only : goal.cases-returns-in_err-value-clause-only
-cases-returns-in_err-value-clause-only t c =
-    loops_fail c.loop-self.invariant.loops (ap ends_cases c.loop-self-test.ensures.yes)
-    (finds_then c.in_ok-test.ensures.only c.in_err-value.ensures.only follows_any)
-    c.from_residual-in_err-value.ensures.1 cases_follow
+pub cases-returns-in_err-case-clause-only : goal.cases-returns-in_err-case-clause-only
+cases-returns-in_err-case-clause-only t c =
+    loops_fail c.loop-self.invariant.loops (ap ends_cases c.loop-self-test.ensures.yes) c.in_err-case.ensures.only
+    c.from_residual.ensures.1 cases_follow
 
 pub cases-loop-self-preserved : goal.cases-loop-self-preserved
 cases-loop-self-preserved t c = gathers_push c.loop-self.invariant (ap ends_cases c.loop-self-test.ensures.yes)
-    (spans_then c.in_ok-test.ensures.found c.in_ok-value.ensures.found)
-    (finds_then c.in_ok-test.ensures.only c.in_ok-value.ensures.only follows_any) cases_follow
-    c.in_ok-push.ensures.items
+    c.in_ok-case.ensures.found c.in_ok-case.ensures.only cases_follow c.in_ok-put.ensures.items
 
-pub cases-returns-in_err-push-clause-only : goal.cases-returns-in_err-push-clause-only
-cases-returns-in_err-push-clause-only t c = let l = loops_next c.loop-self.invariant.loops (ap ends_cases c.loop-self-test.ensures.yes) (finds_then c.in_ok-test.ensures.only c.in_ok-value.ensures.only follows_any) cases_follow in finds_memory l.front l.passed c.from_residual-in_err-push.ensures.1
+pub cases-returns-in_err-put-clause-only : goal.cases-returns-in_err-put-clause-only
+cases-returns-in_err-put-clause-only t c = let l = loops_next c.loop-self.invariant.loops (ap ends_cases c.loop-self-test.ensures.yes) c.in_ok-case.ensures.only cases_follow in finds_memory l.front l.passed (err_memory _ _ c.from_residual-in_err-put.ensures.1 c.in_err-put.ensures.err)
 
 pub cases-returns-clause-only : goal.cases-returns-clause-only
 cases-returns-clause-only t c = loops_stop c.loop-self.invariant.loops
@@ -69,54 +63,44 @@ chain-returns-in_err-more_operands-clause-only t c =
     (chain_follows c.args.chain)) (λ n next ts h s k. (h, s))
 
 pub chain-returns-clause-found : goal.chain-returns-clause-found
-chain-returns-clause-found t c = let m = c.in_ok-more_operands.ensures.found in chain_made c.args.chain _ c.in_ok-first.first m.0 _ _ (pushed_more (pushed_first c.in_ok-push.ensures.items c.new-operands.ensures.items) m.1) (record { form = c.node.ensures.form ∙ c.chain_of.ensures; there = c.node.ensures.there; span = c.node.ensures.span }) c.in_ok-first.ensures.found m.2 (c.if-not-is_at.ensures.yes ∙ c.separator_of.ensures.value) c.in_ok-more_operands.ensures.over
+chain-returns-clause-found t c = let m = c.in_ok-more_operands.ensures.found in chain_made c.args.chain _ c.in_ok-first.first m.0 _ _ (pushed_more c.in_ok-operands.ensures.items m.1) (record { form = c.node.ensures.form ∙ c.chain_of.ensures; there = c.node.ensures.there; span = c.node.ensures.span }) c.in_ok-first.ensures.found m.2 (c.if-not-is_at.ensures.yes ∙ c.separator_of.ensures.value) c.in_ok-more_operands.ensures.over
 
 pub chain-returns-clause-only : goal.chain-returns-clause-only
 chain-returns-clause-only t c = finds_given
     (finds_then c.in_ok-first.ensures.only (finds_ok _ c.in_ok-more_operands.ensures.only) (chain_follows c.args.chain))
     (λ n next ts h s k. (h, s))
 
-pub choice-returns-in_err-test-clause-only : goal.choice-returns-in_err-test-clause-only
-choice-returns-in_err-test-clause-only t c =
-    finds_given (finds_fails c.in_err-test.ensures.only c.from_residual.ensures.1 follows_any)
-    (λ n next ts h s k. (h, s))
-
-pub choice-returns-in_err-value-clause-only : goal.choice-returns-in_err-value-clause-only
-choice-returns-in_err-value-clause-only t c =
-    finds_given (finds_then c.in_ok-test.ensures.only
-    (finds_fails c.in_err-value.ensures.only c.from_residual-in_err-value.ensures.1 (follows_then refl)) follows_any)
-    (λ n next ts h s k. (h, s))
+pub choice-returns-in_err-case-clause-only : goal.choice-returns-in_err-case-clause-only
+choice-returns-in_err-case-clause-only t c =
+    finds_given (finds_fails c.in_err-case.ensures.only c.from_residual.ensures.1 (follows_then refl))
+    (λ n next ts h s k. (then_unassoc h, s))
 
 pub choice-returns-in_err-expect-clause-only : goal.choice-returns-in_err-expect-clause-only
 choice-returns-in_err-expect-clause-only t c =
-    finds_given (finds_then c.in_ok-test.ensures.only
-    (finds_then c.in_ok-value.ensures.only
+    finds_given (finds_then c.in_ok-case.ensures.only
     (finds_fails (c.in_err-expect.ensures.only _) c.from_residual-in_err-expect.ensures.1 follows_any)
-    (follows_then refl)) follows_any) (λ n next ts h s k. (h, s))
+    (follows_then refl)) (λ n next ts h s k. (then_unassoc h, s))
 
 pub choice-returns-in_err-other-clause-only : goal.choice-returns-in_err-other-clause-only
 choice-returns-in_err-other-clause-only t c =
-    finds_given (finds_then c.in_ok-test.ensures.only
-    (finds_then c.in_ok-value.ensures.only
+    finds_given (finds_then c.in_ok-case.ensures.only
     (finds_then (c.in_ok-expect.ensures.only _)
     (finds_err c.in_err-other.ensures.only c.from_residual-in_err-other.ensures.1) follows_any) (follows_then refl))
-    follows_any) (λ n next ts h s k. (h, s))
+    (λ n next ts h s k. (then_unassoc h, s))
 
 pub choice-returns-in_err-form-clause-only : goal.choice-returns-in_err-form-clause-only
-choice-returns-in_err-form-clause-only t c = let f = finds_then c.in_ok-test.ensures.only (finds_then c.in_ok-value.ensures.only (finds_then (c.in_ok-expect.ensures.only _) c.in_ok-other.ensures.only follows_any) (follows_then refl)) follows_any in finds_memory f.front f.passed (err_memory _ _ c.from_residual-in_err-form.ensures.1 c.in_err-form.ensures.err)
+choice-returns-in_err-form-clause-only t c = let f = finds_then c.in_ok-case.ensures.only (finds_then (c.in_ok-expect.ensures.only _) c.in_ok-other.ensures.only follows_any) (follows_then refl) in finds_memory f.front f.passed (err_memory _ _ c.from_residual-in_err-form.ensures.1 c.in_err-form.ensures.err)
 
 pub choice-returns-clause-found : goal.choice-returns-clause-found
 choice-returns-clause-found t c = if_made _ _ _ _ _ _ c.in_ok-form.ensures.made
     (record { form = c.node.ensures.form; there = c.node.ensures.there; span = c.node.ensures.span })
-    c.in_ok-test.ensures.found c.in_ok-value.ensures.found (spans_expected c.in_ok-expect.ensures.found)
-    c.in_ok-other.ensures.found
+    c.in_ok-case.ensures.found (spans_expected c.in_ok-expect.ensures.found) c.in_ok-other.ensures.found
 
 pub choice-returns-clause-only : goal.choice-returns-clause-only
 choice-returns-clause-only t c = finds_ok _
-    (finds_given (finds_then c.in_ok-test.ensures.only
-    (finds_then c.in_ok-value.ensures.only
+    (finds_given (finds_then c.in_ok-case.ensures.only
     (finds_then (c.in_ok-expect.ensures.only _) c.in_ok-other.ensures.only follows_any) (follows_then refl))
-    follows_any) (λ n next ts h s k. (h, s)))
+    (λ n next ts h s k. (then_unassoc h, s)))
 
 pub compare-returns-in_err-first-clause-only : goal.compare-returns-in_err-first-clause-only
 compare-returns-in_err-first-clause-only t c =
@@ -228,7 +212,7 @@ minus-returns-in_err-operand-clause-only t c =
     follows_any)) (λ n next ts h s k. (minus_negated n next ts h (k ∙ eats_kind c.if-eat.ensures.taken), s))
 
 pub minus-returns-in_err-boxed-clause-only : goal.minus-returns-in_err-boxed-clause-only
-minus-returns-in_err-boxed-clause-only t c = let f = finds_then (finds_token c.if-eat.ensures.taken) c.in_ok-operand.ensures.only follows_any in finds_memory f.front f.passed c.from_residual-in_err-boxed.ensures.1
+minus-returns-in_err-boxed-clause-only t c = let f = finds_then (finds_token c.if-eat.ensures.taken) c.in_ok-operand.ensures.only follows_any in finds_memory f.front f.passed (err_memory _ _ c.from_residual-in_err-boxed.ensures.1 c.in_err-boxed.ensures.err)
 
 pub minus-returns-then-eat-clause-found : goal.minus-returns-then-eat-clause-found
 minus-returns-then-eat-clause-found t c =
@@ -261,10 +245,10 @@ pub more_arguments-returns-in_err-operand-clause-only : goal.more_arguments-retu
 more_arguments-returns-in_err-operand-clause-only t c = let e = c.loop-self-test.ensures.taken in loops_fail c.loop-self.invariant.loops (ap ends_list (eats_kind e)) (finds_then (finds_token e) c.in_err-operand.ensures.only follows_any) c.from_residual.ensures.1 arguments_follow
 
 pub more_arguments-loop-self-preserved : goal.more_arguments-loop-self-preserved
-more_arguments-loop-self-preserved t c = let e = c.loop-self-test.ensures.taken in gathers_push c.loop-self.invariant (ap ends_list (eats_kind e)) (spans_then (spans_token e) c.in_ok-operand.ensures.found) (finds_then (finds_token e) c.in_ok-operand.ensures.only follows_any) arguments_follow c.in_ok-push.ensures.items
+more_arguments-loop-self-preserved t c = let e = c.loop-self-test.ensures.taken in gathers_push c.loop-self.invariant (ap ends_list (eats_kind e)) (spans_then (spans_token e) c.in_ok-operand.ensures.found) (finds_then (finds_token e) c.in_ok-operand.ensures.only follows_any) arguments_follow c.in_ok-put.ensures.items
 
-pub more_arguments-returns-in_err-push-clause-only : goal.more_arguments-returns-in_err-push-clause-only
-more_arguments-returns-in_err-push-clause-only t c = let e = c.loop-self-test.ensures.taken in let l = loops_next c.loop-self.invariant.loops (ap ends_list (eats_kind e)) (finds_then (finds_token e) c.in_ok-operand.ensures.only follows_any) arguments_follow in finds_memory l.front l.passed c.from_residual-in_err-push.ensures.1
+pub more_arguments-returns-in_err-put-clause-only : goal.more_arguments-returns-in_err-put-clause-only
+more_arguments-returns-in_err-put-clause-only t c = let e = c.loop-self-test.ensures.taken in let l = loops_next c.loop-self.invariant.loops (ap ends_list (eats_kind e)) (finds_then (finds_token e) c.in_ok-operand.ensures.only follows_any) arguments_follow in finds_memory l.front l.passed (err_memory _ _ c.from_residual-in_err-put.ensures.1 c.in_err-put.ensures.err)
 
 pub more_arguments-returns-clause-only : goal.more_arguments-returns-clause-only
 more_arguments-returns-clause-only t c = let a = c.loop-self-test.ensures in finds_at (loops_stop c.loop-self.invariant.loops (λ n next ts h k. a.other (sym k ∙ then_kind h))) a.left
@@ -273,10 +257,10 @@ pub more_operands-returns-in_err-operand-clause-only : goal.more_operands-return
 more_operands-returns-in_err-operand-clause-only t c = let e = eats_as c.loop-chain-test.ensures.taken c.separator_of-separator.ensures.value in loops_fail c.loop-chain.invariant.loops (ap (ends_chain c.args.chain) (eats_kind e) ∙ sep_open c.args.chain) (finds_then (finds_token e) c.in_err-operand.ensures.only follows_any) c.from_residual.ensures.1 (chain_follows c.args.chain)
 
 pub more_operands-loop-chain-preserved : goal.more_operands-loop-chain-preserved
-more_operands-loop-chain-preserved t c = let e = eats_as c.loop-chain-test.ensures.taken c.separator_of-separator.ensures.value in gathers_push c.loop-chain.invariant (ap (ends_chain c.args.chain) (eats_kind e) ∙ sep_open c.args.chain) (spans_then (spans_token e) c.in_ok-operand.ensures.found) (finds_then (finds_token e) c.in_ok-operand.ensures.only follows_any) (chain_follows c.args.chain) c.in_ok-push.ensures.items
+more_operands-loop-chain-preserved t c = let e = eats_as c.loop-chain-test.ensures.taken c.separator_of-separator.ensures.value in gathers_push c.loop-chain.invariant (ap (ends_chain c.args.chain) (eats_kind e) ∙ sep_open c.args.chain) (spans_then (spans_token e) c.in_ok-operand.ensures.found) (finds_then (finds_token e) c.in_ok-operand.ensures.only follows_any) (chain_follows c.args.chain) c.in_ok-put.ensures.items
 
-pub more_operands-returns-in_err-push-clause-only : goal.more_operands-returns-in_err-push-clause-only
-more_operands-returns-in_err-push-clause-only t c = let e = eats_as c.loop-chain-test.ensures.taken c.separator_of-separator.ensures.value in let l = loops_next c.loop-chain.invariant.loops (ap (ends_chain c.args.chain) (eats_kind e) ∙ sep_open c.args.chain) (finds_then (finds_token e) c.in_ok-operand.ensures.only follows_any) (chain_follows c.args.chain) in finds_memory l.front l.passed c.from_residual-in_err-push.ensures.1
+pub more_operands-returns-in_err-put-clause-only : goal.more_operands-returns-in_err-put-clause-only
+more_operands-returns-in_err-put-clause-only t c = let e = eats_as c.loop-chain-test.ensures.taken c.separator_of-separator.ensures.value in let l = loops_next c.loop-chain.invariant.loops (ap (ends_chain c.args.chain) (eats_kind e) ∙ sep_open c.args.chain) (finds_then (finds_token e) c.in_ok-operand.ensures.only follows_any) (chain_follows c.args.chain) in finds_memory l.front l.passed (err_memory _ _ c.from_residual-in_err-put.ensures.1 c.in_err-put.ensures.err)
 
 pub more_operands-returns-clause-only : goal.more_operands-returns-clause-only
 more_operands-returns-clause-only t c = let a = c.loop-chain-test.ensures in finds_at (loops_stop c.loop-chain.invariant.loops (λ n next ts h k. a.other (sym k ∙ then_kind h ∙ sym c.separator_of-separator.ensures.value))) a.left
@@ -285,10 +269,10 @@ pub more_terms-returns-in_err-term-clause-only : goal.more_terms-returns-in_err-
 more_terms-returns-in_err-term-clause-only t c = let e = term_eats c.in-Some.plus c.in-Some.ensures.plus c.in-Some.ensures.minus in let o = term_open (kind_at c.loop-plus.self.rest.now) (ap begins_term (eats_kind e) ∙ term_sign c.in-Some.plus) in loops_fail c.loop-plus.invariant.loops o (finds_given (finds_then (finds_token e) c.in_err-term.ensures.only follows_any) (λ n next ts h s k. (term_given n c.in-Some.plus next ts h (k ∙ eats_kind e), s))) c.from_residual.ensures.1 sum_follows
 
 pub more_terms-loop-plus-preserved : goal.more_terms-loop-plus-preserved
-more_terms-loop-plus-preserved t c = let e = term_eats c.in-Some.plus c.in-Some.ensures.plus c.in-Some.ensures.minus in let o = term_open (kind_at c.loop-plus.self.rest.now) (ap begins_term (eats_kind e) ∙ term_sign c.in-Some.plus) in gathers_push c.loop-plus.invariant o (spans_then (spans_token e) c.in_ok-term.ensures.found) (finds_given (finds_then (finds_token e) c.in_ok-term.ensures.only follows_any) (λ n next ts h s k. (term_given n c.in-Some.plus next ts h (k ∙ eats_kind e), s))) sum_follows c.in_ok-push.ensures.items
+more_terms-loop-plus-preserved t c = let e = term_eats c.in-Some.plus c.in-Some.ensures.plus c.in-Some.ensures.minus in let o = term_open (kind_at c.loop-plus.self.rest.now) (ap begins_term (eats_kind e) ∙ term_sign c.in-Some.plus) in gathers_push c.loop-plus.invariant o (spans_then (spans_token e) c.in_ok-term.ensures.found) (finds_given (finds_then (finds_token e) c.in_ok-term.ensures.only follows_any) (λ n next ts h s k. (term_given n c.in-Some.plus next ts h (k ∙ eats_kind e), s))) sum_follows c.in_ok-put.ensures.items
 
-pub more_terms-returns-in_err-push-clause-only : goal.more_terms-returns-in_err-push-clause-only
-more_terms-returns-in_err-push-clause-only t c = let e = term_eats c.in-Some.plus c.in-Some.ensures.plus c.in-Some.ensures.minus in let o = term_open (kind_at c.loop-plus.self.rest.now) (ap begins_term (eats_kind e) ∙ term_sign c.in-Some.plus) in let l = loops_next c.loop-plus.invariant.loops o (finds_given (finds_then (finds_token e) c.in_ok-term.ensures.only follows_any) (λ n next ts h s k. (term_given n c.in-Some.plus next ts h (k ∙ eats_kind e), s))) sum_follows in finds_memory l.front l.passed c.from_residual-in_err-push.ensures.1
+pub more_terms-returns-in_err-put-clause-only : goal.more_terms-returns-in_err-put-clause-only
+more_terms-returns-in_err-put-clause-only t c = let e = term_eats c.in-Some.plus c.in-Some.ensures.plus c.in-Some.ensures.minus in let o = term_open (kind_at c.loop-plus.self.rest.now) (ap begins_term (eats_kind e) ∙ term_sign c.in-Some.plus) in let l = loops_next c.loop-plus.invariant.loops o (finds_given (finds_then (finds_token e) c.in_ok-term.ensures.only follows_any) (λ n next ts h s k. (term_given n c.in-Some.plus next ts h (k ∙ eats_kind e), s))) sum_follows in finds_memory l.front l.passed (err_memory _ _ c.from_residual-in_err-put.ensures.1 c.in_err-put.ensures.err)
 
 pub more_terms-returns-clause-only : goal.more_terms-returns-clause-only
 more_terms-returns-clause-only t c =
@@ -307,7 +291,7 @@ not-returns-in_err-operand-clause-only t c =
     follows_any)) (λ n next ts h s k. (not_negated n next ts h (k ∙ eats_kind c.if-eat.ensures.taken), s))
 
 pub not-returns-in_err-boxed-clause-only : goal.not-returns-in_err-boxed-clause-only
-not-returns-in_err-boxed-clause-only t c = let f = finds_then (finds_token c.if-eat.ensures.taken) c.in_ok-operand.ensures.only follows_any in finds_memory f.front f.passed c.from_residual-in_err-boxed.ensures.1
+not-returns-in_err-boxed-clause-only t c = let f = finds_then (finds_token c.if-eat.ensures.taken) c.in_ok-operand.ensures.only follows_any in finds_memory f.front f.passed (err_memory _ _ c.from_residual-in_err-boxed.ensures.1 c.in_err-boxed.ensures.err)
 
 pub not-returns-then-eat-clause-found : goal.not-returns-then-eat-clause-found
 not-returns-then-eat-clause-found t c =
@@ -353,8 +337,8 @@ operands-returns-in_err-first-clause-only t c =
     (finds_fails c.in_err-first.ensures.only c.from_residual-in_err-first.ensures.1 operands_follow) follows_any)
     (λ n next ts h s k. (h, s))
 
-pub operands-returns-in_err-push-clause-only : goal.operands-returns-in_err-push-clause-only
-operands-returns-in_err-push-clause-only t c = let f = finds_then (c.in_ok-expect.ensures.only c.args.left) c.in_ok-first.ensures.only follows_any in finds_memory f.front f.passed c.from_residual-in_err-push.ensures.1
+pub operands-returns-in_err-operands-clause-only : goal.operands-returns-in_err-operands-clause-only
+operands-returns-in_err-operands-clause-only t c = let f = finds_then (c.in_ok-expect.ensures.only c.args.left) c.in_ok-first.ensures.only follows_any in finds_memory f.front f.passed (err_memory _ _ c.from_residual-in_err-operands.ensures.1 c.in_err-operands.ensures.err)
 
 pub operands-returns-in_err-more_arguments-clause-only : goal.operands-returns-in_err-more_arguments-clause-only
 operands-returns-in_err-more_arguments-clause-only t c =
@@ -372,7 +356,7 @@ operands-returns-in_err-expect-2-clause-only t c =
     operands_follow) follows_any) (λ n next ts h s k. (h, s))
 
 pub operands-returns-clause-found : goal.operands-returns-clause-found
-operands-returns-clause-found t c = let m = c.in_ok-more_arguments.ensures.found in operands_made _ c.in_ok-first.first m.0 _ (pushed_more (pushed_first c.in_ok-push.ensures.items c.new-operands.ensures.items) m.1) (spans_expected c.in_ok-expect.ensures.found) c.in_ok-first.ensures.found m.2 (spans_expected c.in_ok-expect-2.ensures.found)
+operands-returns-clause-found t c = let m = c.in_ok-more_arguments.ensures.found in operands_made _ c.in_ok-first.first m.0 _ (pushed_more c.in_ok-operands.ensures.items m.1) (spans_expected c.in_ok-expect.ensures.found) c.in_ok-first.ensures.found m.2 (spans_expected c.in_ok-expect-2.ensures.found)
 
 pub operands-returns-clause-only : goal.operands-returns-clause-only
 operands-returns-clause-only t c = finds_given
@@ -499,7 +483,7 @@ sum-returns-in_err-more_terms-clause-only t c =
     (λ n next ts h s k. (h, s))
 
 pub sum-returns-clause-found : goal.sum-returns-clause-found
-sum-returns-clause-found t c = let m = c.in_ok-more_terms.ensures.found in sum_made _ c.in_ok-first.first m.0 _ _ (pushed_more (pushed_first c.in_ok-push.ensures.items c.new-terms.ensures.items) m.1) (record { form = c.node.ensures.form; there = c.node.ensures.there; span = c.node.ensures.span }) c.in_ok-first.ensures.found m.2 (sym c.if-not-is_at_term.ensures) c.in_ok-more_terms.ensures.over
+sum-returns-clause-found t c = let m = c.in_ok-more_terms.ensures.found in sum_made _ c.in_ok-first.first m.0 _ _ (pushed_more c.in_ok-terms.ensures.items m.1) (record { form = c.node.ensures.form; there = c.node.ensures.there; span = c.node.ensures.span }) c.in_ok-first.ensures.found m.2 (sym c.if-not-is_at_term.ensures) c.in_ok-more_terms.ensures.over
 
 pub sum-returns-clause-only : goal.sum-returns-clause-only
 sum-returns-clause-only t c = finds_given
@@ -545,7 +529,7 @@ switch-returns-in_err-other-clause-only t c =
     follows_any) follows_any) (λ n next ts h s k. (switch_parts n next ts h, refl))
 
 pub switch-returns-in_err-boxed-clause-only : goal.switch-returns-in_err-boxed-clause-only
-switch-returns-in_err-boxed-clause-only t c = let f = finds_then (c.in_ok-expect.ensures.only c.args.left) (finds_then (c.in_ok-expect-2.ensures.only _) (finds_then c.in_ok-cases.ensures.only (finds_then (c.in_ok-expect-3.ensures.only _) c.in_ok-other.ensures.only follows_any) (follows_then refl)) follows_any) follows_any in finds_memory f.front f.passed c.from_residual-in_err-boxed.ensures.1
+switch-returns-in_err-boxed-clause-only t c = let f = finds_then (c.in_ok-expect.ensures.only c.args.left) (finds_then (c.in_ok-expect-2.ensures.only _) (finds_then c.in_ok-cases.ensures.only (finds_then (c.in_ok-expect-3.ensures.only _) c.in_ok-other.ensures.only follows_any) (follows_then refl)) follows_any) follows_any in finds_memory f.front f.passed (err_memory _ _ c.from_residual-in_err-boxed.ensures.1 c.in_err-boxed.ensures.err)
 
 pub switch-returns-clause-found : goal.switch-returns-clause-found
 switch-returns-clause-found t c = switch_made _ c.in_ok-cases.cases c.in_ok-boxed.boxed _ _ (let e = c.if-is_empty.ensures in let f = ap length c.as_slice.ensures.value in some_length _ (λ z. let q : false ≡ true = e ∙ ap (λ m. m == 0) (f ∙ z) in absurd (cc))) c.in_ok-boxed.ensures.ok (record { form = c.node.ensures.form; there = c.node.ensures.there; span = c.node.ensures.span }) (spans_expected c.in_ok-expect.ensures.found) (spans_expected c.in_ok-expect-2.ensures.found) c.in_ok-cases.ensures.found (spans_expected c.in_ok-expect-3.ensures.found) c.in_ok-other.ensures.found
@@ -558,11 +542,8 @@ switch-returns-clause-only t c = finds_given
     (finds_then (c.in_ok-expect-3.ensures.only _) (finds_ok _ c.in_ok-other.ensures.only) follows_any)
     (follows_then refl)) follows_any) follows_any) (λ n next ts h s k. (switch_parts n next ts h, refl))
 
-pub cases-returns-in_err-test-clause-stuck : goal.cases-returns-in_err-test-clause-stuck
-cases-returns-in_err-test-clause-stuck t c = halts_err _ _ c.from_residual.ensures.1 (refuses_some (let g = c.loop-self.invariant in passes g.taken (λ m l. turns_each (turns_a_case _ m l) g.more)) (refuses_fails c.in_err-test.ensures.stuck (λ m. some_expr m)))
-
-pub cases-returns-in_err-value-clause-stuck : goal.cases-returns-in_err-value-clause-stuck
-cases-returns-in_err-value-clause-stuck t c = halts_err _ _ c.from_residual-in_err-value.ensures.1 (refuses_some (let g = c.loop-self.invariant in passes g.taken (λ m l. turns_each (turns_a_case _ m l) g.more)) (refuses_then (passes c.in_ok-test.ensures.found (λ m l. turns_enclosed _ _ _ m l _)) c.in_err-value.ensures.stuck))
+pub cases-returns-in_err-case-clause-stuck : goal.cases-returns-in_err-case-clause-stuck
+cases-returns-in_err-case-clause-stuck t c = halts_err _ _ c.from_residual.ensures.1 (refuses_some (let g = c.loop-self.invariant in passes g.taken (λ m l. turns_each (turns_a_case _ m l) g.more)) c.in_err-case.ensures.stuck)
 
 pub chain-returns-in_err-first-clause-stuck : goal.chain-returns-in_err-first-clause-stuck
 chain-returns-in_err-first-clause-stuck t c =
@@ -574,30 +555,25 @@ chain-returns-in_err-more_operands-clause-stuck t c =
     (refuses_then (passes c.in_ok-first.ensures.found (λ m l. turns_operand c.args.chain _ m l _))
     c.in_err-more_operands.ensures.stuck)
 
-pub choice-returns-in_err-test-clause-stuck : goal.choice-returns-in_err-test-clause-stuck
-choice-returns-in_err-test-clause-stuck t c =
+pub choice-returns-in_err-case-clause-stuck : goal.choice-returns-in_err-case-clause-stuck
+choice-returns-in_err-case-clause-stuck t c =
     halts_err _ _ c.from_residual.ensures.1
-    (refuses_fails c.in_err-test.ensures.stuck (λ m. begins_then (some_expr m) (some_else m)))
-
-pub choice-returns-in_err-value-clause-stuck : goal.choice-returns-in_err-value-clause-stuck
-choice-returns-in_err-value-clause-stuck t c =
-    halts_err _ _ c.from_residual-in_err-value.ensures.1
-    (refuses_then (passes c.in_ok-test.ensures.found (λ m l. turns_enclosed _ _ _ m l _))
-    (refuses_fails c.in_err-value.ensures.stuck (λ m. some_else m)))
+    (refuses_map (refuses_fails c.in_err-case.ensures.stuck (λ m. some_else m)) (λ m next ts h. then_assoc h))
 
 pub choice-returns-in_err-expect-clause-stuck : goal.choice-returns-in_err-expect-clause-stuck
 choice-returns-in_err-expect-clause-stuck t c =
     halts_err _ _ c.from_residual-in_err-expect.ensures.1
-    (refuses_then (passes c.in_ok-test.ensures.found (λ m l. turns_enclosed _ _ _ m l _))
-    (refuses_then (passes c.in_ok-value.ensures.found (λ m l. turns_tree _ m l _))
-    (refuses_fails (c.in_err-expect.ensures.stuck _) (λ m. some_expr m))))
+    (refuses_map (refuses_then
+    (passes c.in_ok-case.ensures.found (λ m l. turns_then (turns_enclosed _ _ _ m l _) (turns_tree _ m l _)))
+    (refuses_fails (c.in_err-expect.ensures.stuck _) (λ m. some_expr m))) (λ m next ts h. then_assoc h))
 
 pub choice-returns-in_err-other-clause-stuck : goal.choice-returns-in_err-other-clause-stuck
 choice-returns-in_err-other-clause-stuck t c =
     halts_err _ _ c.from_residual-in_err-other.ensures.1
-    (refuses_then (passes c.in_ok-test.ensures.found (λ m l. turns_enclosed _ _ _ m l _))
-    (refuses_then (passes c.in_ok-value.ensures.found (λ m l. turns_tree _ m l _))
-    (refuses_then (passes_expected c.in_ok-expect.ensures.found) c.in_err-other.ensures.stuck)))
+    (refuses_map (refuses_then
+    (passes c.in_ok-case.ensures.found (λ m l. turns_then (turns_enclosed _ _ _ m l _) (turns_tree _ m l _)))
+    (refuses_then (passes_expected c.in_ok-expect.ensures.found) c.in_err-other.ensures.stuck))
+    (λ m next ts h. then_assoc h))
 
 pub compare-returns-in_err-first-clause-stuck : goal.compare-returns-in_err-first-clause-stuck
 compare-returns-in_err-first-clause-stuck t c =
@@ -780,3 +756,177 @@ switch-returns-in_err-expect-3-clause-stuck t c = halts_err _ _ c.from_residual-
 
 pub switch-returns-in_err-other-clause-stuck : goal.switch-returns-in_err-other-clause-stuck
 switch-returns-in_err-other-clause-stuck t c = halts_err _ _ c.from_residual-in_err-other.ensures.1 (refuses_then (passes_expected c.in_ok-expect.ensures.found) (refuses_then (passes_expected c.in_ok-expect-2.ensures.found) (refuses_map (refuses_then (passes c.in_ok-cases.ensures.found (λ m l. turns_all_cases _ m l _ (let e = c.if-is_empty.ensures in let f = ap length c.as_slice.ensures.value in some_length _ (λ z. let q : false ≡ true = e ∙ ap (λ m. m == 0) (f ∙ z) in absurd (cc))))) (refuses_then (passes_expected c.in_ok-expect-3.ensures.found) c.in_err-other.ensures.stuck)) (λ m next ts h. then_assoc h))))
+
+pub case-returns-in_err-test-clause-only : goal.case-returns-in_err-test-clause-only
+case-returns-in_err-test-clause-only t c =
+    finds_fails c.in_err-test.ensures.only c.from_residual.ensures.1 follows_any
+
+pub case-returns-in_err-value-clause-only : goal.case-returns-in_err-value-clause-only
+case-returns-in_err-value-clause-only t c =
+    finds_then c.in_ok-test.ensures.only
+    (finds_err c.in_err-value.ensures.only c.from_residual-in_err-value.ensures.1) follows_any
+
+pub case-returns-clause-found : goal.case-returns-clause-found
+case-returns-clause-found t c = spans_then c.in_ok-test.ensures.found c.in_ok-value.ensures.found
+
+pub case-returns-clause-only : goal.case-returns-clause-only
+case-returns-clause-only t c =
+    finds_then c.in_ok-test.ensures.only (finds_ok _ c.in_ok-value.ensures.only) follows_any
+
+pub case-returns-in_err-test-clause-stuck : goal.case-returns-in_err-test-clause-stuck
+case-returns-in_err-test-clause-stuck t c =
+    halts_err _ _ c.from_residual.ensures.1 (refuses_fails c.in_err-test.ensures.stuck (λ m. some_expr m))
+
+pub case-returns-in_err-value-clause-stuck : goal.case-returns-in_err-value-clause-stuck
+case-returns-in_err-value-clause-stuck t c =
+    halts_err _ _ c.from_residual-in_err-value.ensures.1
+    (refuses_then (passes c.in_ok-test.ensures.found (λ m l. turns_enclosed _ _ _ m l _))
+    c.in_err-value.ensures.stuck)
+
+pub chain-returns-in_err-operands-clause-only : goal.chain-returns-in_err-operands-clause-only
+chain-returns-in_err-operands-clause-only t c = let f = c.in_ok-first.ensures.only in finds_memory f.front f.passed (err_memory _ _ c.from_residual-in_err-operands.ensures.1 c.in_err-operands.ensures.err)
+
+pub sum-returns-in_err-terms-clause-only : goal.sum-returns-in_err-terms-clause-only
+sum-returns-in_err-terms-clause-only t c = let f = c.in_ok-first.ensures.only in finds_memory f.front f.passed (err_memory _ _ c.from_residual-in_err-terms.ensures.1 c.in_err-terms.ensures.err)
+
+pub chain-returns-in_err-operands-clause-stuck : goal.chain-returns-in_err-operands-clause-stuck
+chain-returns-in_err-operands-clause-stuck t c =
+    halts_memory _ _ _ _ _ (err_memory _ _ c.from_residual-in_err-operands.ensures.1 c.in_err-operands.ensures.err)
+
+pub sum-returns-in_err-terms-clause-stuck : goal.sum-returns-in_err-terms-clause-stuck
+sum-returns-in_err-terms-clause-stuck t c =
+    halts_memory _ _ _ _ _ (err_memory _ _ c.from_residual-in_err-terms.ensures.1 c.in_err-terms.ensures.err)
+
+pub operands-returns-in_err-operands-clause-stuck : goal.operands-returns-in_err-operands-clause-stuck
+operands-returns-in_err-operands-clause-stuck t c =
+    halts_memory _ _ _ _ _ (err_memory _ _ c.from_residual-in_err-operands.ensures.1 c.in_err-operands.ensures.err)
+
+pub cases-returns-in_err-put-clause-stuck : goal.cases-returns-in_err-put-clause-stuck
+cases-returns-in_err-put-clause-stuck t c =
+    halts_memory _ _ _ _ _ (err_memory _ _ c.from_residual-in_err-put.ensures.1 c.in_err-put.ensures.err)
+
+pub more_arguments-returns-in_err-put-clause-stuck : goal.more_arguments-returns-in_err-put-clause-stuck
+more_arguments-returns-in_err-put-clause-stuck t c =
+    halts_memory _ _ _ _ _ (err_memory _ _ c.from_residual-in_err-put.ensures.1 c.in_err-put.ensures.err)
+
+pub more_operands-returns-in_err-put-clause-stuck : goal.more_operands-returns-in_err-put-clause-stuck
+more_operands-returns-in_err-put-clause-stuck t c =
+    halts_memory _ _ _ _ _ (err_memory _ _ c.from_residual-in_err-put.ensures.1 c.in_err-put.ensures.err)
+
+pub more_terms-returns-in_err-put-clause-stuck : goal.more_terms-returns-in_err-put-clause-stuck
+more_terms-returns-in_err-put-clause-stuck t c =
+    halts_memory _ _ _ _ _ (err_memory _ _ c.from_residual-in_err-put.ensures.1 c.in_err-put.ensures.err)
+
+pub choice-returns-in_err-form-clause-stuck : goal.choice-returns-in_err-form-clause-stuck
+choice-returns-in_err-form-clause-stuck t c =
+    halts_memory _ _ _ _ _ (err_memory _ _ c.from_residual-in_err-form.ensures.1 c.in_err-form.ensures.err)
+
+pub not-returns-in_err-boxed-clause-stuck : goal.not-returns-in_err-boxed-clause-stuck
+not-returns-in_err-boxed-clause-stuck t c =
+    halts_memory _ _ _ _ _ (err_memory _ _ c.from_residual-in_err-boxed.ensures.1 c.in_err-boxed.ensures.err)
+
+pub minus-returns-in_err-boxed-clause-stuck : goal.minus-returns-in_err-boxed-clause-stuck
+minus-returns-in_err-boxed-clause-stuck t c =
+    halts_memory _ _ _ _ _ (err_memory _ _ c.from_residual-in_err-boxed.ensures.1 c.in_err-boxed.ensures.err)
+
+pub switch-returns-in_err-boxed-clause-stuck : goal.switch-returns-in_err-boxed-clause-stuck
+switch-returns-in_err-boxed-clause-stuck t c =
+    halts_memory _ _ _ _ _ (err_memory _ _ c.from_residual-in_err-boxed.ensures.1 c.in_err-boxed.ensures.err)
+
+pub compare-returns-in_err-form-in-Some-clause-stuck : goal.compare-returns-in_err-form-in-Some-clause-stuck
+compare-returns-in_err-form-in-Some-clause-stuck t c =
+    halts_memory _ _ _ _ _
+    (err_memory _ _ c.from_residual-in_err-form-in-Some.ensures.1 c.in_err-form-in-Some.ensures.err)
+
+pub expr-choice-requires : goal.expr-choice-requires
+expr-choice-requires t c = (falls_inside 3 0 4 _ t refl c.if-left-eq0.false c.decreases, tt)
+
+pub expr-chain-requires : goal.expr-chain-requires
+expr-chain-requires t c = (falls_inside 6 0 1 _ t refl c.if-left-eq0.false c.decreases, tt)
+
+pub enclosed-expr-requires : goal.enclosed-expr-requires
+enclosed-expr-requires t c = (falls 0 1 0 _ t refl c.decreases, tt)
+
+pub case-enclosed-requires : goal.case-enclosed-requires
+case-enclosed-requires t c = (falls 1 2 0 _ t refl c.decreases, (c.requires.opens, (c.requires.closes, c.requires.ends)))
+
+pub case-expr-requires : goal.case-expr-requires
+case-expr-requires t c = (falls 0 2 1 _ t refl c.decreases, tt)
+
+pub choice-case-requires : goal.choice-case-requires
+choice-case-requires t c = (falls 2 3 0 _ t refl c.decreases, (word_some IF, (word_some THEN, refl)))
+
+pub choice-expr-requires : goal.choice-expr-requires
+choice-expr-requires t c = (falls 0 3 2 _ t refl c.decreases, tt)
+
+pub chain-operand-requires : goal.chain-operand-requires
+chain-operand-requires t c = (two_below _ _ t c.decreases, tt)
+
+pub chain-more_operands-requires : goal.chain-more_operands-requires
+chain-more_operands-requires t c = (next_below _ _ t c.decreases, tt)
+
+pub more_operands-operand-requires : goal.more_operands-operand-requires
+more_operands-operand-requires t c = (one_below _ _ t c.decreases, tt)
+
+pub operand-chain-requires : goal.operand-chain-requires
+operand-chain-requires t c = (falls 3 4 0 _ t refl (ap (λ (k : Chain). 8 * c.args.left + rank_of k) (sym c.in-Any.is) ∙ c.decreases), tt)
+
+pub operand-not-requires : goal.operand-not-requires
+operand-not-requires t c = (falls 0 1 0 _ t refl (ap (λ (k : Chain). 8 * c.args.left + rank_of k) (sym c.in-All.is) ∙ c.decreases), tt)
+
+pub operand-minus-requires : goal.operand-minus-requires
+operand-minus-requires t c = (falls 0 1 0 _ t refl (ap (λ (k : Chain). 8 * c.args.left + rank_of k) (sym c.in-Product.is) ∙ c.decreases), tt)
+
+pub not-not-requires : goal.not-not-requires
+not-not-requires t c = (falls_inside 0 0 7 _ t refl c.if-left-eq0.false c.decreases, tt)
+
+pub not-compare-requires : goal.not-compare-requires
+not-compare-requires t c = (falls_inside 6 0 1 _ t refl c.if-left-eq0.false c.decreases, tt)
+
+pub compare-sum-requires : goal.compare-sum-requires
+compare-sum-requires t c = (falls 5 6 0 _ t refl c.decreases, tt)
+
+pub compare-sum-requires-in-Some : goal.compare-sum-requires-in-Some
+compare-sum-requires-in-Some t c = (falls 5 6 0 _ t refl c.decreases, tt)
+
+pub sum-chain-requires : goal.sum-chain-requires
+sum-chain-requires t c = (falls 3 5 1 _ t refl c.decreases, tt)
+
+pub sum-more_terms-requires : goal.sum-more_terms-requires
+sum-more_terms-requires t c = (falls 4 5 0 _ t refl c.decreases, tt)
+
+pub more_terms-chain-requires : goal.more_terms-chain-requires
+more_terms-chain-requires t c = (falls 3 4 0 _ t refl c.decreases, tt)
+
+pub minus-minus-requires : goal.minus-minus-requires
+minus-minus-requires t c = (falls_inside 0 0 7 _ t refl c.if-left-eq0.false c.decreases, tt)
+
+pub minus-primary-requires : goal.minus-primary-requires
+minus-primary-requires t c = (falls_inside 5 0 2 _ t refl c.if-left-eq0.false c.decreases, tt)
+
+pub primary-enclosed-requires : goal.primary-enclosed-requires
+primary-enclosed-requires t c = (falls 1 5 3 _ t refl c.decreases, (sign_some OPEN_PARENTHESIS, (sign_some CLOSE_PARENTHESIS, refl)))
+
+pub primary-switch-requires : goal.primary-switch-requires
+primary-switch-requires t c = (falls 4 5 0 _ t refl c.decreases, tt)
+
+pub primary-operands-requires : goal.primary-operands-requires
+primary-operands-requires t c = (falls 2 5 2 _ t refl c.decreases, tt)
+
+pub operands-expr-requires : goal.operands-expr-requires
+operands-expr-requires t c = (falls 0 2 1 _ t refl c.decreases, tt)
+
+pub operands-more_arguments-requires : goal.operands-more_arguments-requires
+operands-more_arguments-requires t c = (falls 1 2 0 _ t refl c.decreases, tt)
+
+pub more_arguments-expr-requires : goal.more_arguments-expr-requires
+more_arguments-expr-requires t c = (falls 0 1 0 _ t refl c.decreases, tt)
+
+pub switch-cases-requires : goal.switch-cases-requires
+switch-cases-requires t c = (falls 3 4 0 _ t refl c.decreases, tt)
+
+pub switch-enclosed-requires : goal.switch-enclosed-requires
+switch-enclosed-requires t c = (falls 1 4 2 _ t refl c.decreases, (sign_some COLON, (sign_some CLOSE_BRACE, refl)))
+
+pub cases-case-requires : goal.cases-case-requires
+cases-case-requires t c = (falls 2 3 0 _ t refl c.decreases, (word_some CASE, (sign_some COLON, refl)))

@@ -13,19 +13,19 @@ use Rattle.ar_grammar.proofs.cursor.Parser.+expression.Given as goal
 use Rattle.ar_grammar.specs.Parts.{operand_tokens, term_tokens, case_tokens}
 
 -- how far a chain stands above its operands
-abbrev rank_of : Chain → ℕ
+abbrev pub rank_of : Chain → ℕ
 rank_of Any = 4
 rank_of All = 1
 rank_of Product = 1
 
 abbrev pub decreases-expr : goal.decreases-expr
-decreases-expr l = 8 * l.left
+decreases-expr l = 8 * l.left + 0
 
 abbrev pub decreases-not : goal.decreases-not
-decreases-not l = 8 * l.left
+decreases-not l = 8 * l.left + 0
 
 abbrev pub decreases-minus : goal.decreases-minus
-decreases-minus l = 8 * l.left
+decreases-minus l = 8 * l.left + 0
 
 abbrev pub decreases-enclosed : goal.decreases-enclosed
 decreases-enclosed l = 8 * l.left + 1
@@ -33,20 +33,23 @@ decreases-enclosed l = 8 * l.left + 1
 abbrev pub decreases-more_arguments : goal.decreases-more_arguments
 decreases-more_arguments l = 8 * l.left + 1
 
+abbrev pub decreases-case : goal.decreases-case
+decreases-case l = 8 * l.left + 2
+
 abbrev pub decreases-choice : goal.decreases-choice
-decreases-choice l = 8 * l.left + 2
+decreases-choice l = 8 * l.left + 3
 
 abbrev pub decreases-cases : goal.decreases-cases
-decreases-cases l = 8 * l.left + 2
+decreases-cases l = 8 * l.left + 3
 
 abbrev pub decreases-operands : goal.decreases-operands
 decreases-operands l = 8 * l.left + 2
 
 abbrev pub decreases-switch : goal.decreases-switch
-decreases-switch l = 8 * l.left + 3
+decreases-switch l = 8 * l.left + 4
 
 abbrev pub decreases-primary : goal.decreases-primary
-decreases-primary l = 8 * l.left + 4
+decreases-primary l = 8 * l.left + 5
 
 abbrev pub decreases-operand : goal.decreases-operand
 decreases-operand l = 8 * l.left + rank_of l.chain

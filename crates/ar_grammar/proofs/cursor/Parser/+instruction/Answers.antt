@@ -7,7 +7,7 @@ use Rattle.ar_grammar.specs.Words.{token, ◌▸◌, between, each}
 use Rattle.ar_grammar.specs.Expressions.{Node, ReadsExpr}
 use Rattle.ar_grammar.specs.Instructions.{ReadsInstr, ReadsElse, ReadsSimple, ReadsGroup, ReadsConditional}
 use Rattle.ar_grammar.specs.Results.{begins_instr, is_word}
-use Rattle.ar_grammar.proofs.Finding.{apart}
+use Rattle.ar_grammar.proofs.Finding.{apart, err_memory, finds_kept, boxed_takes}
 use Rattle.ar_grammar.proofs.ExpressionForms.{then_map}
 use Rattle.ar_grammar.proofs.Finding.{finds_then, finds_fails, finds_given, finds_plain, finds_err, finds_ok, finds_memory, finds_inside, finds_no_room, finds_nothing, finds_token, finds_at, loops_stop, loops_fail, loops_next, gathers_push, spans_then, spans_token, spans_expected, spans_map, takes_map, eats_kind, follows_token, follows_any}
 use Rattle.ar_grammar.proofs.InstrParts.{not_sign, pushed_all, conditional_in, group_in, simple_in}
@@ -15,8 +15,9 @@ use Rattle.ar_grammar.proofs.InstrTexts.{instr_begins, instr_some, instr_if, ins
 use Rattle.std.proofs.Common.{inl, inr}
 use Rattle.ar_grammar.specs.Texts as text
 use Rattle.ar_grammar.proofs.Finding.{token_kind, then_kind}
-use Rattle.ar_grammar.proofs.Standing.{halts_err, halts_over, refuses_fails, refuses_then, refuses_map, refuses_inside, refuses_no_room, passes, passes_token, passes_expected, begins_token, begins_then, begins_map}
+use Rattle.ar_grammar.proofs.Standing.{halts_err, halts_over, refuses_fails, refuses_then, refuses_map, refuses_inside, refuses_no_room, passes, passes_token, passes_expected, begins_token, begins_then, begins_map, halts_memory, halts_kept}
 use Rattle.ar_grammar.proofs.Turning.{turns_enclosed}
+use Rattle.ar_grammar.proofs.Measures.{falls, falls_inside}
 use Rattle.ar_grammar.proofs.cursor.Parser.+instruction.Goals as goal
 
 pub instr-returns-then-left-eq0-clause-only : goal.instr-returns-then-left-eq0-clause-only
@@ -61,59 +62,48 @@ conditional-returns-in_err-test-clause-only t c =
     finds_given (finds_fails c.in_err-test.ensures.only c.from_residual.ensures.1 follows_any)
     (λ n next ts h s k. (h, s))
 
-pub conditional-returns-in_err-inner-clause-only : goal.conditional-returns-in_err-inner-clause-only
-conditional-returns-in_err-inner-clause-only t c =
+pub conditional-returns-in_err-yes-clause-only : goal.conditional-returns-in_err-yes-clause-only
+conditional-returns-in_err-yes-clause-only t c =
     finds_given (finds_then c.in_ok-test.ensures.only
-    (finds_fails c.in_err-inner.ensures.only c.from_residual-in_err-inner.ensures.1 follows_any) follows_any)
+    (finds_fails c.in_err-yes.ensures.only c.from_residual-in_err-yes.ensures.1 follows_any) follows_any)
     (λ n next ts h s k. (h, s))
 
 pub conditional-returns-in_err-no-clause-only : goal.conditional-returns-in_err-no-clause-only
 conditional-returns-in_err-no-clause-only t c =
     finds_given (finds_then c.in_ok-test.ensures.only
-    (finds_then c.in_ok-inner.ensures.only (finds_err c.in_err-no.ensures.only c.from_residual-in_err-no.ensures.1)
+    (finds_then c.in_ok-yes.ensures.only (finds_err c.in_err-no.ensures.only c.from_residual-in_err-no.ensures.1)
     follows_any) follows_any) (λ n next ts h s k. (h, s))
-
-pub conditional-returns-in_err-yes-clause-only : goal.conditional-returns-in_err-yes-clause-only
-conditional-returns-in_err-yes-clause-only t c = let f = finds_then c.in_ok-test.ensures.only (finds_then c.in_ok-inner.ensures.only c.in_ok-no.ensures.only follows_any) follows_any in finds_memory f.front f.passed c.from_residual-in_err-yes.ensures.1
 
 pub conditional-returns-clause-found : goal.conditional-returns-clause-found
 conditional-returns-clause-found t c =
-    spans_map (spans_then c.in_ok-test.ensures.found (spans_then c.in_ok-inner.ensures.found c.in_ok-no.ensures.found))
+    spans_map (spans_then c.in_ok-test.ensures.found (spans_then c.in_ok-yes.ensures.found c.in_ok-no.ensures.found))
     (λ next ts h. record {
       test = c.in_ok-test.test;
       yes = c.in_ok-yes.yes;
       no = c.in_ok-no.no;
       is = refl;
-      reads = subst (λ (x : Instr). (between (Reserved IF) (Reserved THEN)
-          (Node (ReadsExpr c.args.left) c.in_ok-test.test) ▸ ReadsInstr c.args.left x
-          ▸ ReadsElse (ReadsInstr c.args.left)
-          c.in_ok-no.no) next ts) (sym c.in_ok-yes.ensures.ok) h;
+      reads = h;
     })
 
 pub conditional-returns-clause-only : goal.conditional-returns-clause-only
 conditional-returns-clause-only t c =
     finds_ok _ (finds_given (finds_then c.in_ok-test.ensures.only
-    (finds_then c.in_ok-inner.ensures.only c.in_ok-no.ensures.only follows_any) follows_any)
+    (finds_then c.in_ok-yes.ensures.only c.in_ok-no.ensures.only follows_any) follows_any)
     (λ n next ts h s k. (h, s)))
 
-pub other_branch-returns-in_err-inner-clause-only : goal.other_branch-returns-in_err-inner-clause-only
-other_branch-returns-in_err-inner-clause-only t c =
+pub other_branch-returns-in_err-branch-clause-only : goal.other_branch-returns-in_err-branch-clause-only
+other_branch-returns-in_err-branch-clause-only t c =
     finds_given (finds_then (finds_token c.if-eat.ensures.taken)
-    (finds_err c.in_err-inner.ensures.only c.from_residual.ensures.1) follows_any)
+    (finds_err c.in_err-branch.ensures.only c.from_residual.ensures.1) follows_any)
     (λ n next ts h s k. (else_taken n next ts h (k ∙ eats_kind c.if-eat.ensures.taken), s))
-
-pub other_branch-returns-in_err-boxed-clause-only : goal.other_branch-returns-in_err-boxed-clause-only
-other_branch-returns-in_err-boxed-clause-only t c = let f = finds_then (finds_token c.if-eat.ensures.taken) c.in_ok-inner.ensures.only follows_any in finds_memory f.front f.passed c.from_residual-in_err-boxed.ensures.1
 
 pub other_branch-returns-then-eat-clause-found : goal.other_branch-returns-then-eat-clause-found
 other_branch-returns-then-eat-clause-found t c =
-    spans_map (spans_then (spans_token c.if-eat.ensures.taken) c.in_ok-inner.ensures.found)
-    (λ next ts h. subst (λ (x : Instr). (token (Reserved ELSE) ▸ ReadsInstr c.args.left x) next ts)
-    (sym c.in_ok-boxed.ensures.ok) h)
+    spans_then (spans_token c.if-eat.ensures.taken) c.in_ok-branch.ensures.found
 
 pub other_branch-returns-then-eat-clause-only : goal.other_branch-returns-then-eat-clause-only
 other_branch-returns-then-eat-clause-only t c =
-    finds_given (finds_then (finds_token c.if-eat.ensures.taken) (finds_ok _ c.in_ok-inner.ensures.only) follows_any)
+    finds_given (finds_then (finds_token c.if-eat.ensures.taken) (finds_ok _ c.in_ok-branch.ensures.only) follows_any)
     (λ n next ts h s k. (else_taken n next ts h (k ∙ eats_kind c.if-eat.ensures.taken), s))
 
 pub other_branch-returns-clause-only : goal.other_branch-returns-clause-only
@@ -164,10 +154,10 @@ more_instrs-returns-in_err-inner-clause-only t c =
 pub more_instrs-loop-self-preserved : goal.more_instrs-loop-self-preserved
 more_instrs-loop-self-preserved t c =
     gathers_push c.loop-self.invariant (not_sign CLOSE_BRACE _ c.loop-self-test.ensures.no) c.in_ok-inner.ensures.found
-    c.in_ok-inner.ensures.only follows_any c.in_ok-push.ensures.items
+    c.in_ok-inner.ensures.only follows_any c.in_ok-put.ensures.items
 
-pub more_instrs-returns-in_err-push-clause-only : goal.more_instrs-returns-in_err-push-clause-only
-more_instrs-returns-in_err-push-clause-only t c = let l = loops_next c.loop-self.invariant.loops (not_sign CLOSE_BRACE _ c.loop-self-test.ensures.no) c.in_ok-inner.ensures.only follows_any in finds_memory l.front l.passed c.from_residual-in_err-push.ensures.1
+pub more_instrs-returns-in_err-put-clause-only : goal.more_instrs-returns-in_err-put-clause-only
+more_instrs-returns-in_err-put-clause-only t c = let l = loops_next c.loop-self.invariant.loops (not_sign CLOSE_BRACE _ c.loop-self-test.ensures.no) c.in_ok-inner.ensures.only follows_any in finds_memory l.front l.passed (err_memory _ _ c.from_residual-in_err-put.ensures.1 c.in_err-put.ensures.err)
 
 pub more_instrs-returns-clause-only : goal.more_instrs-returns-clause-only
 more_instrs-returns-clause-only t c =
@@ -199,25 +189,25 @@ conditional-returns-in_err-test-clause-stuck t c =
     (λ m. begins_then (some_instr m) (begins_map (begins_then (begins_token (Reserved ELSE)) (some_instr m))
     (λ next ts h. inr h))))
 
-pub conditional-returns-in_err-inner-clause-stuck : goal.conditional-returns-in_err-inner-clause-stuck
-conditional-returns-in_err-inner-clause-stuck t c =
-    halts_err _ _ c.from_residual-in_err-inner.ensures.1
+pub conditional-returns-in_err-yes-clause-stuck : goal.conditional-returns-in_err-yes-clause-stuck
+conditional-returns-in_err-yes-clause-stuck t c =
+    halts_err _ _ c.from_residual-in_err-yes.ensures.1
     (refuses_then (passes c.in_ok-test.ensures.found (λ m l. turns_enclosed _ _ _ m l _))
-    (refuses_fails c.in_err-inner.ensures.stuck
+    (refuses_fails c.in_err-yes.ensures.stuck
     (λ m. begins_map (begins_then (begins_token (Reserved ELSE)) (some_instr m)) (λ next ts h. inr h))))
 
 pub conditional-returns-in_err-no-clause-stuck : goal.conditional-returns-in_err-no-clause-stuck
 conditional-returns-in_err-no-clause-stuck t c =
     halts_err _ _ c.from_residual-in_err-no.ensures.1
     (refuses_then (passes c.in_ok-test.ensures.found (λ m l. turns_enclosed _ _ _ m l _))
-    (refuses_map (refuses_leads (leads c.in_ok-inner.ensures.found (λ m l. moves_instr _ m l _))
+    (refuses_map (refuses_leads (leads c.in_ok-yes.ensures.found (λ m l. moves_instr _ m l _))
     (λ m next ts h. inr (then_kind h ∙ sym c.in_err-no.ensures.began)) c.in_err-no.ensures.stuck)
     (λ m next ts h. then_map h (λ next ts j. j) (λ next ts j. inr j))))
 
-pub other_branch-returns-in_err-inner-clause-stuck : goal.other_branch-returns-in_err-inner-clause-stuck
-other_branch-returns-in_err-inner-clause-stuck t c =
+pub other_branch-returns-in_err-branch-clause-stuck : goal.other_branch-returns-in_err-branch-clause-stuck
+other_branch-returns-in_err-branch-clause-stuck t c =
     halts_err _ _ c.from_residual.ensures.1
-    (refuses_then (passes_token c.if-eat.ensures.taken) c.in_err-inner.ensures.stuck)
+    (refuses_then (passes_token c.if-eat.ensures.taken) c.in_err-branch.ensures.stuck)
 
 pub group-returns-in_err-expect-clause-stuck : goal.group-returns-in_err-expect-clause-stuck
 group-returns-in_err-expect-clause-stuck t c =
@@ -234,3 +224,46 @@ group-returns-in_err-expect-2-clause-stuck t c = halts_err _ _ c.from_residual-i
 
 pub more_instrs-returns-in_err-inner-clause-stuck : goal.more_instrs-returns-in_err-inner-clause-stuck
 more_instrs-returns-in_err-inner-clause-stuck t c = halts_err _ _ c.from_residual.ensures.1 (let g = c.loop-self.invariant in refuses_again (leads g.taken (λ m l. moves_each (moves_instr _ m l) g.more)) (λ m next ts h. inl (instr_clear m next ts h)) c.in_err-inner.ensures.stuck)
+
+pub branch-returns-in_err-inner-clause-only : goal.branch-returns-in_err-inner-clause-only
+branch-returns-in_err-inner-clause-only t c = finds_err c.in_err-inner.ensures.only c.from_residual.ensures.1
+
+pub branch-returns-clause-found : goal.branch-returns-clause-found
+branch-returns-clause-found t c = boxed_takes (ReadsInstr c.args.left) c.in_box.result _ c.in_box.ensures.ok c.in_ok-inner.ensures.found
+
+pub branch-returns-clause-only : goal.branch-returns-clause-only
+branch-returns-clause-only t c = finds_kept _ c.in_ok-inner.ensures.only c.in_box.ensures.err
+
+pub branch-returns-clause-stuck : goal.branch-returns-clause-stuck
+branch-returns-clause-stuck t c = halts_kept _ _ _ _ _ c.in_box.ensures.err
+
+pub branch-returns-in_err-inner-clause-stuck : goal.branch-returns-in_err-inner-clause-stuck
+branch-returns-in_err-inner-clause-stuck t c = halts_err _ _ c.from_residual.ensures.1 c.in_err-inner.ensures.stuck
+
+pub more_instrs-returns-in_err-put-clause-stuck : goal.more_instrs-returns-in_err-put-clause-stuck
+more_instrs-returns-in_err-put-clause-stuck t c =
+    halts_memory _ _ _ _ _ (err_memory _ _ c.from_residual-in_err-put.ensures.1 c.in_err-put.ensures.err)
+
+pub instr-conditional-requires : goal.instr-conditional-requires
+instr-conditional-requires t c = (falls_inside 3 0 4 _ t refl c.if-left-eq0.false c.decreases, tt)
+
+pub instr-group-requires : goal.instr-group-requires
+instr-group-requires t c = (falls_inside 2 0 5 _ t refl c.if-left-eq0.false c.decreases, tt)
+
+pub conditional-branch-self-requires : goal.conditional-branch-self-requires
+conditional-branch-self-requires t c = (falls 1 3 1 _ t refl c.decreases, tt)
+
+pub conditional-other_branch-requires : goal.conditional-other_branch-requires
+conditional-other_branch-requires t c = (falls 2 3 0 _ t refl c.decreases, tt)
+
+pub branch-instr-requires : goal.branch-instr-requires
+branch-instr-requires t c = (falls 0 1 0 _ t refl c.decreases, tt)
+
+pub other_branch-branch-self-requires : goal.other_branch-branch-self-requires
+other_branch-branch-self-requires t c = (falls 1 2 0 _ t refl c.decreases, tt)
+
+pub group-more_instrs-requires : goal.group-more_instrs-requires
+group-more_instrs-requires t c = (falls 1 2 0 _ t refl c.decreases, tt)
+
+pub more_instrs-instr-requires : goal.more_instrs-instr-requires
+more_instrs-instr-requires t c = (falls 0 1 0 _ t refl c.decreases, tt)

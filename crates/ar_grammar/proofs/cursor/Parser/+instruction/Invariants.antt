@@ -7,19 +7,22 @@ use Rattle.ar_grammar.proofs.Finding.{Gathers}
 use Rattle.ar_grammar.proofs.cursor.Parser.+instruction.Given as goal
 
 abbrev pub decreases-instr : goal.decreases-instr
-decreases-instr l = 4 * l.left
+decreases-instr l = 8 * l.left + 0
+
+abbrev pub decreases-branch : goal.decreases-branch
+decreases-branch l = 8 * l.left + 1
 
 abbrev pub decreases-other_branch : goal.decreases-other_branch
-decreases-other_branch l = 4 * l.left + 1
+decreases-other_branch l = 8 * l.left + 2
 
 abbrev pub decreases-more_instrs : goal.decreases-more_instrs
-decreases-more_instrs l = 4 * l.left + 1
+decreases-more_instrs l = 8 * l.left + 1
 
 abbrev pub decreases-conditional : goal.decreases-conditional
-decreases-conditional l = 4 * l.left + 2
+decreases-conditional l = 8 * l.left + 3
 
 abbrev pub decreases-group : goal.decreases-group
-decreases-group l = 4 * l.left + 2
+decreases-group l = 8 * l.left + 2
 
 abbrev pub invariant-more_instrs-loop-self : goal.invariant-more_instrs-loop-self
 invariant-more_instrs-loop-self l =

@@ -3,10 +3,10 @@ use Rattle.ar_lexer.specs.declared.token.TokenKind.TheVariants.{Sign}
 use Rattle.ar_lexer.specs.declared.signs.TheConstants.{COMMA, SEMICOLON}
 use Rattle.ar_grammar.specs.Members.{ReadsEvent}
 use Rattle.ar_grammar.specs.Results.{ends_attribute, ends_semicolon}
-use Rattle.ar_grammar.proofs.Finding.{finds_then, finds_fails, finds_given, finds_err, finds_ok, finds_memory, spans_then, spans_expected, follows_token, follows_any}
+use Rattle.ar_grammar.proofs.Finding.{finds_then, finds_fails, finds_given, finds_err, finds_ok, finds_memory, spans_then, spans_expected, follows_token, follows_any, err_memory}
 use Rattle.ar_grammar.proofs.MemberParts.{separated_made, pushed_both, separated_follow, semicolon_attribute, listed_parts}
 use Rattle.ar_grammar.proofs.cursor.Parser.events.Goals as goal
-use Rattle.ar_grammar.proofs.Standing.{halts_err, refuses_fails, refuses_then, refuses_map, passes, passes_expected, begins_then, begins_token, begins_no_more, turns_each, turns_then, turns_token}
+use Rattle.ar_grammar.proofs.Standing.{halts_err, refuses_fails, refuses_then, refuses_map, passes, passes_expected, begins_then, begins_token, begins_no_more, turns_each, turns_then, turns_token, halts_memory}
 use Rattle.ar_grammar.proofs.ExpressionForms.{then_map, then_unassoc}
 use Rattle.ar_grammar.proofs.MemberParts.{turns_event, begins_list_end}
 use Rattle.ar_grammar.specs.Parts.{event_tokens}
@@ -25,8 +25,8 @@ returns-in_err-first-clause-only c =
     (separated_follow (Sign COMMA) (Sign SEMICOLON) event_tokens ends_attribute ends_semicolon refl semicolon_attribute
     refl)) follows_any) (λ n next ts h s k. (listed_parts h, s))
 
-pub returns-in_err-push-clause-only : goal.returns-in_err-push-clause-only
-returns-in_err-push-clause-only c = let f = finds_then (c.in_ok-expect.ensures.only c.args.left) c.in_ok-first.ensures.only follows_any in finds_memory f.front f.passed c.from_residual-in_err-push.ensures.1
+pub returns-in_err-put-clause-only : goal.returns-in_err-put-clause-only
+returns-in_err-put-clause-only c = let f = finds_then (c.in_ok-expect.ensures.only c.args.left) c.in_ok-first.ensures.only follows_any in finds_memory f.front f.passed (err_memory _ _ c.from_residual-in_err-put.ensures.1 c.in_err-put.ensures.err)
 
 pub returns-in_err-more_events-clause-only : goal.returns-in_err-more_events-clause-only
 returns-in_err-more_events-clause-only c =
@@ -46,7 +46,7 @@ returns-in_err-expect-2-clause-only c =
     refl)) follows_any) (λ n next ts h s k. (listed_parts h, s))
 
 pub returns-clause-found : goal.returns-clause-found
-returns-clause-found c = let m = c.in_ok-more_events.ensures.found in (c.in_ok-first.first ∷ m.0, pushed_both c.args.members.now.items m.0 c.in_ok-first.first c.in_ok-push.ensures.items m.1, spans_then (spans_expected c.in_ok-expect.ensures.found) (spans_then (separated_made (Sign COMMA) (ReadsEvent c.args.left) c.in_ok-first.first m.0 (c.in_ok-first.first ∷ m.0) refl c.in_ok-first.ensures.found m.2) (spans_expected c.in_ok-expect-2.ensures.found)))
+returns-clause-found c = let m = c.in_ok-more_events.ensures.found in (c.in_ok-first.first ∷ m.0, pushed_both c.args.members.now.items m.0 c.in_ok-first.first c.in_ok-put.ensures.items m.1, spans_then (spans_expected c.in_ok-expect.ensures.found) (spans_then (separated_made (Sign COMMA) (ReadsEvent c.args.left) c.in_ok-first.first m.0 (c.in_ok-first.first ∷ m.0) refl c.in_ok-first.ensures.found m.2) (spans_expected c.in_ok-expect-2.ensures.found)))
 
 pub returns-clause-only : goal.returns-clause-only
 returns-clause-only c = finds_given
@@ -80,3 +80,7 @@ returns-in_err-more_events-clause-stuck c =
 
 pub returns-in_err-expect-2-clause-stuck : goal.returns-in_err-expect-2-clause-stuck
 returns-in_err-expect-2-clause-stuck c = let g = c.in_ok-more_events.ensures.found in halts_err _ _ c.from_residual-in_err-expect-2.ensures.1 (refuses_map (refuses_then (passes_expected c.in_ok-expect.ensures.found) (refuses_then (passes c.in_ok-first.ensures.found (λ m l. turns_event _ m l c.in_ok-first.first)) (refuses_then (passes g.2 (λ m l. turns_each (λ x. turns_then turns_token (turns_event _ m l x)) g.0)) (c.in_err-expect-2.ensures.stuck _)))) (λ m next ts h. then_map h (λ next ts j. j) (λ next ts j. then_unassoc j)))
+
+pub returns-in_err-put-clause-stuck : goal.returns-in_err-put-clause-stuck
+returns-in_err-put-clause-stuck c =
+    halts_memory _ _ _ _ _ (err_memory _ _ c.from_residual-in_err-put.ensures.1 c.in_err-put.ensures.err)

@@ -3,7 +3,7 @@ use Rattle.ar_lexer.specs.declared.token.TokenKind.TheVariants.{Sign}
 use Rattle.ar_lexer.specs.declared.signs.TheConstants.{COMMA, SEMICOLON}
 use Rattle.ar_grammar.specs.Members.{ReadsHidden}
 use Rattle.ar_grammar.specs.Results.{ends_path, ends_semicolon}
-use Rattle.ar_grammar.proofs.Finding.{finds_then, finds_fails, finds_given, finds_err, finds_ok, finds_memory, spans_then, spans_expected, follows_token, follows_any}
+use Rattle.ar_grammar.proofs.Finding.{finds_then, finds_fails, finds_given, finds_err, finds_ok, finds_memory, spans_then, spans_expected, follows_token, follows_any, err_memory}
 use Rattle.ar_grammar.proofs.MemberParts.{separated_made, pushed_both, separated_follow, semicolon_path, listed_parts}
 use Rattle.ar_grammar.proofs.cursor.Parser.hides.Goals as goal
 use Rattle.ar_grammar.proofs.Standing.{halts_err, halts_memory, refuses_fails, refuses_then, refuses_map, passes, passes_expected, begins_then, begins_token, begins_no_more, turns_each, turns_then, turns_token}
@@ -25,8 +25,8 @@ returns-in_err-first-clause-only c =
     refl))
     follows_any) (λ n next ts h s k. (listed_parts h, s))
 
-pub returns-in_err-push-clause-only : goal.returns-in_err-push-clause-only
-returns-in_err-push-clause-only c = λ left. let f = finds_then (c.in_ok-expect.ensures.only left) (c.in_ok-first.ensures.only left) follows_any in finds_memory f.front f.passed c.from_residual-in_err-push.ensures.1
+pub returns-in_err-put-clause-only : goal.returns-in_err-put-clause-only
+returns-in_err-put-clause-only c = λ left. let f = finds_then (c.in_ok-expect.ensures.only left) (c.in_ok-first.ensures.only left) follows_any in finds_memory f.front f.passed (err_memory _ _ c.from_residual-in_err-put.ensures.1 c.in_err-put.ensures.err)
 
 pub returns-in_err-more_hidden-clause-only : goal.returns-in_err-more_hidden-clause-only
 returns-in_err-more_hidden-clause-only c =
@@ -48,7 +48,7 @@ returns-in_err-expect-2-clause-only c =
     follows_any) (λ n next ts h s k. (listed_parts h, s))
 
 pub returns-clause-found : goal.returns-clause-found
-returns-clause-found c = let m = c.in_ok-more_hidden.ensures.found in (c.in_ok-first.first ∷ m.0, pushed_both c.args.members.now.items m.0 c.in_ok-first.first c.in_ok-push.ensures.items m.1, spans_then (spans_expected c.in_ok-expect.ensures.found) (spans_then (separated_made (Sign COMMA) ReadsHidden c.in_ok-first.first m.0 (c.in_ok-first.first ∷ m.0) refl c.in_ok-first.ensures.found m.2) (spans_expected c.in_ok-expect-2.ensures.found)))
+returns-clause-found c = let m = c.in_ok-more_hidden.ensures.found in (c.in_ok-first.first ∷ m.0, pushed_both c.args.members.now.items m.0 c.in_ok-first.first c.in_ok-put.ensures.items m.1, spans_then (spans_expected c.in_ok-expect.ensures.found) (spans_then (separated_made (Sign COMMA) ReadsHidden c.in_ok-first.first m.0 (c.in_ok-first.first ∷ m.0) refl c.in_ok-first.ensures.found m.2) (spans_expected c.in_ok-expect-2.ensures.found)))
 
 pub returns-clause-only : goal.returns-clause-only
 returns-clause-only c = λ left. finds_given
@@ -83,5 +83,5 @@ returns-in_err-more_hidden-clause-stuck c =
 pub returns-in_err-expect-2-clause-stuck : goal.returns-in_err-expect-2-clause-stuck
 returns-in_err-expect-2-clause-stuck c = λ left. let g = c.in_ok-more_hidden.ensures.found in halts_err _ _ c.from_residual-in_err-expect-2.ensures.1 (refuses_map (refuses_then (passes_expected c.in_ok-expect.ensures.found) (refuses_then (passes c.in_ok-first.ensures.found (λ m l. turns_hidden c.in_ok-first.first)) (refuses_then (passes g.2 (λ m l. turns_each (λ x. turns_then turns_token (turns_hidden x)) g.0)) (c.in_err-expect-2.ensures.stuck _)))) (λ m next ts h. then_map h (λ next ts j. j) (λ next ts j. then_unassoc j)))
 
-pub returns-in_err-push-clause-stuck : goal.returns-in_err-push-clause-stuck
-returns-in_err-push-clause-stuck c = λ left. halts_memory _ _ _ _ _ c.from_residual-in_err-push.ensures.1
+pub returns-in_err-put-clause-stuck : goal.returns-in_err-put-clause-stuck
+returns-in_err-put-clause-stuck c = λ left. halts_memory _ _ _ _ _ (err_memory _ _ c.from_residual-in_err-put.ensures.1 c.in_err-put.ensures.err)

@@ -1,6 +1,6 @@
 use Rattle.std.proofs.Common.{sym, ap, ◌∙◌}
 use Rattle.ar_grammar.specs.Results.{ends_target}
-use Rattle.ar_grammar.proofs.Finding.{finds_then, finds_memory, finds_token, finds_at, loops_stop, loops_fail, loops_next, gathers_push, spans_then, spans_token, eats_kind, then_kind, follows_any}
+use Rattle.ar_grammar.proofs.Finding.{finds_then, finds_memory, finds_token, finds_at, loops_stop, loops_fail, loops_next, gathers_push, spans_then, spans_token, eats_kind, then_kind, follows_any, err_memory}
 use Rattle.ar_grammar.proofs.cursor.Parser.more_words.Goals as goal
 use Rattle.ar_grammar.proofs.Standing.{halts_err, halts_memory, refuses_turn, refuses_then, passes, passes_token, turns_each, turns_then, turns_token}
 use Rattle.ar_grammar.proofs.MemberParts.{turns_word}
@@ -9,10 +9,10 @@ pub returns-in_err-word-clause-only : goal.returns-in_err-word-clause-only
 returns-in_err-word-clause-only c = λ left. let e = c.loop-self-test.ensures.taken in loops_fail c.loop-self.invariant.loops (ap ends_target (eats_kind e)) (finds_then (finds_token e) (c.in_err-word.ensures.only _) follows_any) c.from_residual.ensures.1 follows_any
 
 pub loop-self-preserved : goal.loop-self-preserved
-loop-self-preserved c = let e = c.loop-self-test.ensures.taken in gathers_push c.loop-self.invariant (ap ends_target (eats_kind e)) (spans_then (spans_token e) c.in_ok-word.ensures.found) (finds_then (finds_token e) (c.in_ok-word.ensures.only 0) follows_any) follows_any c.in_ok-push.ensures.items
+loop-self-preserved c = let e = c.loop-self-test.ensures.taken in gathers_push c.loop-self.invariant (ap ends_target (eats_kind e)) (spans_then (spans_token e) c.in_ok-word.ensures.found) (finds_then (finds_token e) (c.in_ok-word.ensures.only 0) follows_any) follows_any c.in_ok-put.ensures.items
 
-pub returns-in_err-push-clause-only : goal.returns-in_err-push-clause-only
-returns-in_err-push-clause-only c = λ left. let e = c.loop-self-test.ensures.taken in let l = loops_next c.loop-self.invariant.loops (ap ends_target (eats_kind e)) (finds_then (finds_token e) (c.in_ok-word.ensures.only 0) follows_any) follows_any in finds_memory l.front l.passed c.from_residual-in_err-push.ensures.1
+pub returns-in_err-put-clause-only : goal.returns-in_err-put-clause-only
+returns-in_err-put-clause-only c = λ left. let e = c.loop-self-test.ensures.taken in let l = loops_next c.loop-self.invariant.loops (ap ends_target (eats_kind e)) (finds_then (finds_token e) (c.in_ok-word.ensures.only 0) follows_any) follows_any in finds_memory l.front l.passed (err_memory _ _ c.from_residual-in_err-put.ensures.1 c.in_err-put.ensures.err)
 
 pub returns-clause-only : goal.returns-clause-only
 returns-clause-only c = λ left. let a = c.loop-self-test.ensures in finds_at (loops_stop c.loop-self.invariant.loops (λ n next ts h k. a.other (sym k ∙ then_kind h))) a.left
@@ -20,5 +20,5 @@ returns-clause-only c = λ left. let a = c.loop-self-test.ensures in finds_at (l
 pub returns-in_err-word-clause-stuck : goal.returns-in_err-word-clause-stuck
 returns-in_err-word-clause-stuck c = λ left. let g = c.loop-self.invariant in halts_err _ _ c.from_residual.ensures.1 (refuses_turn (passes g.taken (λ m l. turns_each (λ x. turns_then turns_token (turns_word x)) g.more)) (refuses_then (passes_token c.loop-self-test.ensures.taken) (c.in_err-word.ensures.stuck left)))
 
-pub returns-in_err-push-clause-stuck : goal.returns-in_err-push-clause-stuck
-returns-in_err-push-clause-stuck c = λ left. halts_memory _ _ _ _ _ c.from_residual-in_err-push.ensures.1
+pub returns-in_err-put-clause-stuck : goal.returns-in_err-put-clause-stuck
+returns-in_err-put-clause-stuck c = λ left. halts_memory _ _ _ _ _ (err_memory _ _ c.from_residual-in_err-put.ensures.1 c.in_err-put.ensures.err)

@@ -1,5 +1,5 @@
-use Rattle.ar_grammar.proofs.Finding.{finds_given, finds_then, finds_fails, finds_err, finds_ok, follows_any}
-use Rattle.ar_grammar.proofs.PathForms.{names_made, pushed_first, pushed_more}
+use Rattle.ar_grammar.proofs.Finding.{finds_given, finds_then, finds_fails, finds_err, finds_ok, follows_any, err_memory, finds_memory}
+use Rattle.ar_grammar.proofs.PathForms.{names_made, pushed_more}
 use Rattle.ar_grammar.proofs.cursor.Parser.names.Goals as goal
 use Rattle.ar_grammar.proofs.Standing.{halts_err, halts_memory, refuses_fails, refuses_then, passes, begins_no_more}
 use Rattle.ar_grammar.proofs.Turning.{turns_placed}
@@ -18,7 +18,7 @@ returns-in_err-more_names-clause-only c = λ left.
 pub returns-clause-found : goal.returns-clause-found
 returns-clause-found c = let m = c.in_ok-more_names.ensures.found in
     names_made m.0 c.in_ok-first.ensures.found m.2
-    (pushed_more (pushed_first c.in_ok-push.ensures.items c.new-names.ensures.items) m.1)
+    (pushed_more c.in_ok-names.ensures.items m.1)
 
 pub returns-clause-only : goal.returns-clause-only
 returns-clause-only c = λ left.
@@ -31,10 +31,16 @@ returns-in_err-first-clause-stuck c =
     λ left. halts_err _ _ c.from_residual.ensures.1
     (refuses_fails (c.in_err-first.ensures.stuck left) (λ m. begins_no_more))
 
-pub returns-in_err-push-clause-stuck : goal.returns-in_err-push-clause-stuck
-returns-in_err-push-clause-stuck c = λ left. halts_memory _ _ _ _ _ c.from_residual-in_err-push.ensures.1
+pub returns-in_err-names-clause-stuck : goal.returns-in_err-names-clause-stuck
+returns-in_err-names-clause-stuck c = λ left. halts_memory _ _ _ _ _ (err_memory _ _ c.from_residual-in_err-names.ensures.1 c.in_err-names.ensures.err)
 
 pub returns-in_err-more_names-clause-stuck : goal.returns-in_err-more_names-clause-stuck
 returns-in_err-more_names-clause-stuck c =
     λ left. halts_err _ _ c.from_residual-in_err-more_names.ensures.1
     (refuses_then (passes c.in_ok-first.ensures.found (λ m l. turns_placed _)) (c.in_err-more_names.ensures.stuck left))
+
+pub returns-in_err-names-clause-only : goal.returns-in_err-names-clause-only
+returns-in_err-names-clause-only c = λ left.
+    let f = c.in_ok-first.ensures.only left in
+    finds_memory f.front f.passed
+    (err_memory _ _ c.from_residual-in_err-names.ensures.1 c.in_err-names.ensures.err)

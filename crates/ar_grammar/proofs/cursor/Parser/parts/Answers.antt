@@ -4,8 +4,8 @@ use Rattle.ar_lexer.specs.declared.signs.TheConstants.{SEMICOLON, AMPERSAND}
 use Rattle.ar_grammar.specs.Parts.{part_tokens}
 use Rattle.ar_grammar.specs.Members.{ReadsPart}
 use Rattle.ar_grammar.specs.Results.{ends_path, ends_semicolon}
-use Rattle.ar_grammar.proofs.Finding.{finds_then, finds_fails, finds_given, finds_err, finds_ok, spans_then, spans_expected, follows_token}
-use Rattle.ar_grammar.proofs.PathForms.{pushed_first, pushed_more}
+use Rattle.ar_grammar.proofs.Finding.{finds_then, finds_fails, finds_given, finds_err, finds_ok, spans_then, spans_expected, follows_token, err_memory, finds_memory}
+use Rattle.ar_grammar.proofs.PathForms.{pushed_more}
 use Rattle.ar_grammar.proofs.MemberParts.{separated_made, separated_follow, semicolon_path}
 use Rattle.ar_grammar.proofs.ExpressionForms.{then_assoc, then_unassoc}
 use Rattle.ar_grammar.proofs.cursor.Parser.parts.Goals as goal
@@ -35,7 +35,7 @@ returns-in_err-expect-clause-only c =
     refl)) (λ n next ts h s k. (then_assoc h, s))
 
 pub returns-clause-found : goal.returns-clause-found
-returns-clause-found c = let m = c.in_ok-more_parts.ensures.found in spans_then (separated_made (Sign AMPERSAND) ReadsPart c.in_ok-first.first m.0 _ (pushed_more (pushed_first c.in_ok-push.ensures.items c.new-parts.ensures.items) m.1) c.in_ok-first.ensures.found m.2) (spans_expected c.in_ok-expect.ensures.found)
+returns-clause-found c = let m = c.in_ok-more_parts.ensures.found in spans_then (separated_made (Sign AMPERSAND) ReadsPart c.in_ok-first.first m.0 _ (pushed_more c.in_ok-parts.ensures.items m.1) c.in_ok-first.ensures.found m.2) (spans_expected c.in_ok-expect.ensures.found)
 
 pub returns-clause-only : goal.returns-clause-only
 returns-clause-only c = λ left. finds_given
@@ -51,8 +51,8 @@ returns-in_err-first-clause-stuck c =
     (refuses_map (refuses_fails (c.in_err-first.ensures.stuck left) (λ m. begins_list_end))
     (λ m next ts h. then_unassoc h))
 
-pub returns-in_err-push-clause-stuck : goal.returns-in_err-push-clause-stuck
-returns-in_err-push-clause-stuck c = λ left. halts_memory _ _ _ _ _ c.from_residual-in_err-push.ensures.1
+pub returns-in_err-parts-clause-stuck : goal.returns-in_err-parts-clause-stuck
+returns-in_err-parts-clause-stuck c = λ left. halts_memory _ _ _ _ _ (err_memory _ _ c.from_residual-in_err-parts.ensures.1 c.in_err-parts.ensures.err)
 
 pub returns-in_err-more_parts-clause-stuck : goal.returns-in_err-more_parts-clause-stuck
 returns-in_err-more_parts-clause-stuck c =
@@ -63,3 +63,9 @@ returns-in_err-more_parts-clause-stuck c =
 
 pub returns-in_err-expect-clause-stuck : goal.returns-in_err-expect-clause-stuck
 returns-in_err-expect-clause-stuck c = λ left. let g = c.in_ok-more_parts.ensures.found in halts_err _ _ c.from_residual-in_err-expect.ensures.1 (refuses_map (refuses_then (passes c.in_ok-first.ensures.found (λ m l. turns_part c.in_ok-first.first)) (refuses_then (passes g.2 (λ m l. turns_each (λ x. turns_then turns_token (turns_part x)) g.0)) (c.in_err-expect.ensures.stuck left))) (λ m next ts h. then_unassoc h))
+
+pub returns-in_err-parts-clause-only : goal.returns-in_err-parts-clause-only
+returns-in_err-parts-clause-only c = λ left.
+    let f = c.in_ok-first.ensures.only left in
+    finds_memory f.front f.passed
+    (err_memory _ _ c.from_residual-in_err-parts.ensures.1 c.in_err-parts.ensures.err)

@@ -6,11 +6,11 @@ use Rattle.ar_grammar.specs.Texts.{expr_tokens, setting_tokens}
 use Rattle.std.proofs.Common.{inr}
 use Rattle.ar_grammar.specs.Members.{ReadsSettings}
 use Rattle.ar_grammar.specs.Results.{kind_at, ends_expr, ends_list}
-use Rattle.ar_grammar.proofs.Finding.{finds_then, finds_fails, finds_given, finds_err, finds_ok, finds_memory, finds_nothing, spans_expected, follows_token, follows_any}
-use Rattle.ar_grammar.proofs.PathForms.{pushed_first, pushed_more}
+use Rattle.ar_grammar.proofs.Finding.{finds_then, finds_fails, finds_given, finds_err, finds_ok, finds_memory, finds_nothing, spans_expected, follows_token, follows_any, err_memory}
+use Rattle.ar_grammar.proofs.PathForms.{pushed_more}
 use Rattle.ar_grammar.proofs.MemberParts.{separated_follow, list_end, settings_none, settings_parts, settings_made, turns_setting, some_setting}
 use Rattle.ar_grammar.proofs.cursor.Parser.settings.Goals as goal
-use Rattle.ar_grammar.proofs.Standing.{halts_err, refuses_fails, refuses_then, refuses_map, passes, passes_expected, begins_then, begins_token, begins_no_more, turns_each, turns_then, turns_token}
+use Rattle.ar_grammar.proofs.Standing.{halts_err, refuses_fails, refuses_then, refuses_map, passes, passes_expected, begins_then, begins_token, begins_no_more, turns_each, turns_then, turns_token, halts_memory}
 use Rattle.ar_grammar.proofs.ExpressionForms.{then_unassoc}
 
 pub returns-then-not-is_at-clause-only : goal.returns-then-not-is_at-clause-only
@@ -24,7 +24,7 @@ returns-then-not-is_at-clause-found c =
       front = [];
       split = refl;
       form = subst (λ (xs : List _). ReadsSettings c.args.left xs (kind_at c.args.self.now.rest.now) [])
-          (sym c.new-settings.ensures.items) refl;
+          (sym c.new.ensures.items) refl;
     }
 
 pub returns-in_err-expect-clause-only : goal.returns-in_err-expect-clause-only
@@ -41,8 +41,8 @@ returns-in_err-first-clause-only c =
     refl list_end refl)) follows_any) (λ n next ts h s k.
     (settings_parts n next ts h s (k ∙ c.if-not-is_at.ensures.yes), refl))
 
-pub returns-in_err-push-clause-only : goal.returns-in_err-push-clause-only
-returns-in_err-push-clause-only c = let f = finds_then (c.in_ok-expect.ensures.only c.args.left) c.in_ok-first.ensures.only follows_any in finds_memory f.front f.passed c.from_residual-in_err-push.ensures.1
+pub returns-in_err-settings-clause-only : goal.returns-in_err-settings-clause-only
+returns-in_err-settings-clause-only c = let f = finds_then (c.in_ok-expect.ensures.only c.args.left) c.in_ok-first.ensures.only follows_any in finds_memory f.front f.passed (err_memory _ _ c.from_residual-in_err-settings.ensures.1 c.in_err-settings.ensures.err)
 
 pub returns-in_err-more_settings-clause-only : goal.returns-in_err-more_settings-clause-only
 returns-in_err-more_settings-clause-only c =
@@ -66,7 +66,7 @@ returns-in_err-expect-2-clause-only c =
     (settings_parts n next ts h s (k ∙ c.if-not-is_at.ensures.yes), refl))
 
 pub returns-clause-found : goal.returns-clause-found
-returns-clause-found c = let m = c.in_ok-more_settings.ensures.found in settings_made _ c.in_ok-first.first m.0 _ (pushed_more (pushed_first c.in_ok-push.ensures.items c.new-settings.ensures.items) m.1) (spans_expected c.in_ok-expect.ensures.found) c.in_ok-first.ensures.found m.2 (spans_expected c.in_ok-expect-2.ensures.found)
+returns-clause-found c = let m = c.in_ok-more_settings.ensures.found in settings_made _ c.in_ok-first.first m.0 _ (pushed_more c.in_ok-settings.ensures.items m.1) (spans_expected c.in_ok-expect.ensures.found) c.in_ok-first.ensures.found m.2 (spans_expected c.in_ok-expect-2.ensures.found)
 
 pub returns-clause-only : goal.returns-clause-only
 returns-clause-only c = finds_given
@@ -103,3 +103,7 @@ returns-in_err-more_settings-clause-stuck c =
 
 pub returns-in_err-expect-2-clause-stuck : goal.returns-in_err-expect-2-clause-stuck
 returns-in_err-expect-2-clause-stuck c = let g = c.in_ok-more_settings.ensures.found in halts_err _ _ c.from_residual-in_err-expect-2.ensures.1 (refuses_map (refuses_then (passes_expected c.in_ok-expect.ensures.found) (refuses_map (refuses_then (passes c.in_ok-first.ensures.found (λ m l. turns_setting _ m l c.in_ok-first.first)) (refuses_then (passes g.2 (λ m l. turns_each (λ x. turns_then turns_token (turns_setting _ m l x)) g.0)) (c.in_err-expect-2.ensures.stuck _))) (λ m next ts h. then_unassoc h))) (λ m next ts h. inr h))
+
+pub returns-in_err-settings-clause-stuck : goal.returns-in_err-settings-clause-stuck
+returns-in_err-settings-clause-stuck c =
+    halts_memory _ _ _ _ _ (err_memory _ _ c.from_residual-in_err-settings.ensures.1 c.in_err-settings.ensures.err)

@@ -1,9 +1,9 @@
 use Rattle.std.proofs.Common.{sym, ap, ◌∙◌}
 use Rattle.ar_grammar.specs.Results.{ends_transitions}
-use Rattle.ar_grammar.proofs.Finding.{finds_memory, loops_stop, loops_fail, loops_next, gathers_push, follows_any}
+use Rattle.ar_grammar.proofs.Finding.{finds_memory, loops_stop, loops_fail, loops_next, gathers_push, follows_any, err_memory}
 use Rattle.ar_grammar.proofs.MemberParts.{transition_kind}
 use Rattle.ar_grammar.proofs.cursor.Parser.transitions.Goals as goal
-use Rattle.ar_grammar.proofs.Standing.{halts_err}
+use Rattle.ar_grammar.proofs.Standing.{halts_err, halts_memory}
 use Rattle.ar_grammar.proofs.InstrTexts.{leads, refuses_again, moves_each}
 use Rattle.ar_grammar.proofs.MemberParts.{moves_transition}
 use Rattle.std.proofs.Common.{inl, refl}
@@ -18,10 +18,10 @@ returns-in_err-transition-clause-only c =
 
 pub loop-self-preserved : goal.loop-self-preserved
 loop-self-preserved c = gathers_push c.loop-self.invariant (ap ends_transitions c.loop-self-test.ensures.yes)
-    c.in_ok-transition.ensures.found c.in_ok-transition.ensures.only follows_any c.in_ok-push.ensures.items
+    c.in_ok-transition.ensures.found c.in_ok-transition.ensures.only follows_any c.in_ok-put.ensures.items
 
-pub returns-in_err-push-clause-only : goal.returns-in_err-push-clause-only
-returns-in_err-push-clause-only c = let l = loops_next c.loop-self.invariant.loops (ap ends_transitions c.loop-self-test.ensures.yes) c.in_ok-transition.ensures.only follows_any in finds_memory l.front l.passed c.from_residual-in_err-push.ensures.1
+pub returns-in_err-put-clause-only : goal.returns-in_err-put-clause-only
+returns-in_err-put-clause-only c = let l = loops_next c.loop-self.invariant.loops (ap ends_transitions c.loop-self-test.ensures.yes) c.in_ok-transition.ensures.only follows_any in finds_memory l.front l.passed (err_memory _ _ c.from_residual-in_err-put.ensures.1 c.in_err-put.ensures.err)
 
 pub returns-clause-only : goal.returns-clause-only
 returns-clause-only c = loops_stop c.loop-self.invariant.loops
@@ -29,3 +29,7 @@ returns-clause-only c = loops_stop c.loop-self.invariant.loops
 
 pub returns-in_err-transition-clause-stuck : goal.returns-in_err-transition-clause-stuck
 returns-in_err-transition-clause-stuck c = let g = c.loop-self.invariant in halts_err _ _ c.from_residual.ensures.1 (refuses_again (leads g.taken (λ m l. moves_each (moves_transition _ m l) g.more)) (λ m next ts h. inl (λ e. apart (is_word ELSE) e (transition_kind m next ts h) refl refl)) c.in_err-transition.ensures.stuck)
+
+pub returns-in_err-put-clause-stuck : goal.returns-in_err-put-clause-stuck
+returns-in_err-put-clause-stuck c =
+    halts_memory _ _ _ _ _ (err_memory _ _ c.from_residual-in_err-put.ensures.1 c.in_err-put.ensures.err)

@@ -2,3 +2,4 @@ pub mod Telling
 pub mod Valuing
 pub mod Ordering
 pub mod Joining
+pub mod Closing

@@ -1,6 +1,8 @@
 -- One class more in the table of classes.
-use Rattle.std.proofs.Common.{◌≡◌, ℕ, zero, suc, ◌+◌, ◌<◌, ◌≤◌, ◌⊎◌, inl, inr, List, [], ◌∷◌, ◌++◌, length, slice_get, Some, refl, sym, ap, ◌∙◌, subst, arith, length-append}
+use Rattle.std.proofs.Common.{◌≡◌, ℕ, zero, suc, ◌+◌, ◌<◌, ◌≤◌, ◌⊎◌, inl, inr, List, [], ◌∷◌, ◌++◌, length, replicate, get_or, slice_get, Some, refl, sym, ap, ◌∙◌, subst, arith, length-append}
 use Rattle.std.proofs.lemmas.Bool.{cases_eq, cases_lt}
+use Rattle.std.proofs.lemmas.List.{length-replicate}
+use Rattle.std.proofs.lemmas.Option.{slice_get-get_or}
 use Rattle.ar_base.specs.Lists.{Stands, IsOneOf}
 use Rattle.ar_base.proofs.Standing.{stands_split, stands_left, stands_next, stands_none, stands_one, stands_within, stands_some}
 use Rattle.ar_base.proofs.Sets.{member_told}
@@ -107,6 +109,47 @@ module _ (count none : ℕ) (uses : List (ℕ × ℕ)) (number : ℕ) (classes :
             omega (arith, at)
       ];
     }
+
+-- before the first number was looked at there is no class
+each_none : (many none n c : ℕ) → Stands (replicate many none) n c → c ≡ none
+each_none zero none n c p = absurd (stands_none n c p)
+each_none (suc many) none zero c p = cc
+each_none (suc many) none (suc n) c p = each_none many none n c p
+
+pub empty_table : (count none : ℕ) (uses : List (ℕ × ℕ)) (class_of : List ℕ) → class_of ≡ replicate count none
+    → IsPartTable count none uses 0 [] class_of
+empty_table count none uses class_of e = record {
+  long = ap length e ∙ length-replicate count none;
+  few = omega arith;
+  are_classes = λ c ms st. absurd (stands_none c ms st);
+  class_of_member = λ c n ms st one. absurd (stands_none c ms st);
+  member_of_class = λ n c st. inl (each_none count none n c (subst (λ (l : List ℕ). Stands l n c) e st));
+  looked_at = λ n less st. omega arith;
+  ascend = λ c d m k ms ks less p q a b. absurd (stands_none c ms p);
+  below = λ c m ms st a. absurd (stands_none c ms st);
+}
+
+-- a number whose class was found before
+pub passed : (count none : ℕ) (uses : List (ℕ × ℕ)) (number : ℕ) (classes : List (List ℕ)) (class_of : List ℕ) (x : ℕ)
+    → IsPartTable count none uses number classes class_of → number < count → x ≡ get_or class_of number x
+    → (x ≡ none → ⊥) → IsPartTable count none uses (number + 1) classes class_of
+passed count none uses number classes class_of x t lt e differs = record {
+  long = t.long;
+  few = omega (arith, t.few);
+  are_classes = t.are_classes;
+  class_of_member = t.class_of_member;
+  member_of_class = t.member_of_class;
+  looked_at = λ n less st. elim (cases_lt n number) [
+    | inl below ↦ t.looked_at n below st
+    | inr not_below ↦
+        let same : n ≡ number = omega arith in
+        let stands : Stands class_of number x =
+        slice_get-get_or class_of number x (omega (arith, lt, t.long)) ∙ ap (λ (k : ℕ). Some k) (sym e) in
+        differs (stands_one class_of number x none stands (subst (λ (k : ℕ). Stands class_of k none) same st))
+  ];
+  ascend = t.ascend;
+  below = λ c m ms st a. let under = t.below c m ms st a in omega (arith, under);
+}
 
 -- where all numbers were looked at, the table is whole
 pub whole_table : (count none : ℕ) (uses : List (ℕ × ℕ)) (classes : List (List ℕ)) (class_of : List ℕ)

@@ -6,16 +6,13 @@ use Rattle.ar_syntax.specs.declared.expressions.RawExpr.{RawExpr}
 use Rattle.ar_syntax.specs.declared.instructions.Instr.{Instr, out-Instr}
 use Rattle.ar_syntax.specs.declared.instructions.Instr.TheOpen as instr
 use Rattle.ar_syntax.specs.declared.paths.Path.{Path}
-use Rattle.domains.specs.declared.Value.{Value}
 use Rattle.typed_expr.specs.declared.expr.Expr.{Expr, Variable}
 use Rattle.typed_expr.proofs.Opened.{opened-variable}
 use Rattle.gts_core.specs.declared.bound.Act.{Act, Skip, Set, out-Act, roll-Act, out-roll-Act}
 use Rattle.gts_core.specs.declared.bound.Act.TheOpen as act
 use Rattle.gts_core.specs.declared.bound.Act.TheViews.{All, outs-All}
 use Rattle.class_table.proofs.Taken.{take_item}
-use Rattle.written_forms.specs.Translating.{BecomesBy}
 use Rattle.written_forms.specs.declared.naming.Leaf.{Leaf}
-use Rattle.written_forms.specs.declared.naming.Leaf.TheVariants as leaf
 use Rattle.written_forms.specs.Parts.{InstrForm}
 use Rattle.written_forms.specs.Acting.{SetsTo, SetsBoth, ActsAs, All_act, IsConditional}
 use Rattle.written_forms.specs.Acting as acts
@@ -37,39 +34,25 @@ set_both x at y other v b c e h k =
     record { acts = v; is = outs-All v; first = b; second = c; are = e; sets_first = h; sets_second = k }
 
 module _ (leaves : Path → Leaf) where
-  moved : (i : Instr) (l : InstrForm) (a : Act) → out-Instr i ≡ l → ActsAs leaves l a → ActsAs leaves (out-Instr i) a
+  pub moved : (i : Instr) (l : InstrForm) (a : Act) → out-Instr i ≡ l → ActsAs leaves l a → ActsAs leaves (out-Instr i) a
   moved i l a e h = subst (λ (z : InstrForm). ActsAs leaves z a) (sym e) h
 
   pub skip_acted : (i : Instr) → out-Instr i ≡ instr.Skip → ActsAs leaves (out-Instr i) Skip
   skip_acted i e = moved i instr.Skip Skip e (acts.skip opened_skip)
 
-  pub assign_acted : (i : Instr) (p : Path) (r : RawExpr) (x : VarId) (e : Expr VarId) → out-Instr i ≡ instr.Assign p r
-      → leaves p ≡ leaf.Variable x → BecomesBy leaves r e
-      → ActsAs leaves (out-Instr i) (Set x e p.at)
-  assign_acted i p r x e q l b = moved i (instr.Assign p r) (Set x e p.at) q (acts.assign x e l b (opened_set x e p.at))
-
-  pub assign_nothing : (i : Instr) (p : Path) (r : RawExpr) (v : Value) → out-Instr i ≡ instr.Assign p r
-      → leaves p ≡ leaf.Constant v → ActsAs leaves (out-Instr i) Skip
-  assign_nothing i p r v q l = moved i (instr.Assign p r) Skip q (acts.no_target v l opened_skip)
-
-  pub tie_acted : (i : Instr) (p q : Path) (a : Act) → out-Instr i ≡ instr.Tie p q → ActsAs leaves (instr.Tie p q) a
-      → ActsAs leaves (out-Instr i) a
-  tie_acted i p q a e h = moved i (instr.Tie p q) a e h
-
-  pub if_acted : (i : Instr) (r : RawExpr) (x : Box Instr Global) (e : Expr VarId) (b a : Act)
-      → out-Instr i ≡ instr.If r x None → BecomesBy leaves r e
-      → ActsAs leaves (out-Instr x.value) b → IsConditional e b Skip a → ActsAs leaves (out-Instr i) a
-  if_acted i r x e b a q h k c = moved i (instr.If r x None) a q
-      (acts.conditional e c.here c.there h c.is
+  pub if_acted : (i : Instr) (r : RawExpr) (x : Box Instr Global) (b a : Act) → out-Instr i ≡ instr.If r x None
+      → ActsAs leaves (out-Instr x.value) b → IsConditional leaves r b Skip a → ActsAs leaves (out-Instr i) a
+  if_acted i r x b a q k c = moved i (instr.If r x None) a q
+      (acts.conditional c.bound c.here c.there c.becomes c.is
       (subst (λ (z : Act). ActsAs leaves (out-Instr x.value) z) (sym c.is_first) k)
       (acts.no_branch (ap out-Act c.is_second ∙ opened_skip)))
 
-  pub if_else_acted : (i : Instr) (r : RawExpr) (x y : Box Instr Global) (e : Expr VarId) (b d a : Act)
-      → out-Instr i ≡ instr.If r x (Some y) → BecomesBy leaves r e
-      → ActsAs leaves (out-Instr x.value) b → ActsAs leaves (out-Instr y.value) d → IsConditional e b d a
+  pub if_else_acted : (i : Instr) (r : RawExpr) (x y : Box Instr Global) (b d a : Act)
+      → out-Instr i ≡ instr.If r x (Some y)
+      → ActsAs leaves (out-Instr x.value) b → ActsAs leaves (out-Instr y.value) d → IsConditional leaves r b d a
       → ActsAs leaves (out-Instr i) a
-  if_else_acted i r x y e b d a q h k m c = moved i (instr.If r x (Some y)) a q
-      (acts.conditional e c.here c.there h c.is
+  if_else_acted i r x y b d a q k m c = moved i (instr.If r x (Some y)) a q
+      (acts.conditional c.bound c.here c.there c.becomes c.is
       (subst (λ (z : Act). ActsAs leaves (out-Instr x.value) z) (sym c.is_first) k)
       (acts.branch (subst (λ (z : Act). ActsAs leaves (out-Instr y.value) z) (sym c.is_second) m)))
 

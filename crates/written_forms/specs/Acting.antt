@@ -71,10 +71,12 @@ mutual
         → All_act leaves is acts
         → All_act leaves (i ∷ is) (a ∷ acts)
 
--- a conditional of this test and these branches
-pub record IsConditional (test : Expr VarId) (first second a : Act) : Type 0 where
+-- a conditional of what this test becomes, and of these branches
+pub record IsConditional (leaves : Path → Leaf) (test : RawExpr) (first second a : Act) : Type 0 where
+  pub bound : Expr VarId
+  pub becomes : BecomesBy leaves test bound
   pub here : Box Act Global
   pub there : Box Act Global
-  pub is : out-Act a ≡ act.If test here there
+  pub is : out-Act a ≡ act.If bound here there
   pub is_first : here.value ≡ first
   pub is_second : there.value ≡ second

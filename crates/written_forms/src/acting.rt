@@ -2,12 +2,12 @@
 
 ghost use Rattle.std.specs.Prelude.{◌≡◌, IfOk};
 ghost use Rattle.ar_syntax.specs.declared.instructions.Instr.{out-Instr};
-ghost use Rattle.ar_syntax.specs.declared.instructions.Instr.TheOpen.{Tie as TieForm};
+ghost use Rattle.ar_syntax.specs.declared.instructions.Instr.TheOpen.{Assign as AssignForm, Tie as TieForm};
 ghost use Rattle.written_forms.specs.Acting.{ActsAs, All_act, SetsTo, SetsBoth, IsConditional};
 
 use crate::{Leaf, Leaves, translated};
 use ar_base::{Memory, Place, VarId};
-use ar_syntax::{Instr, Path};
+use ar_syntax::{Instr, Path, RawExpr};
 use gts_core::Act;
 use std::alloc::Global;
 use typed_expr::Expr;
@@ -24,22 +24,15 @@ pub fn acted<L: Leaves>(alloc: Global, instr: &Instr, leaves: &L) -> Result<Act,
 {
     match instr {
         Instr::Skip => Ok(Act::Skip),
-        Instr::Assign(path, value) => match leaves.leaf(path) {
-            Leaf::Constant(_) => Ok(Act::Skip),
-            Leaf::Variable(target) => {
-                let bound = translated(alloc, value, leaves)?;
-                Ok(Act::Set(target, bound, path.at))
-            }
-        },
+        Instr::Assign(path, value) => assigned(alloc, path, value, leaves),
         Instr::Tie(left, right) => tied(alloc, left, right, leaves),
         Instr::If(test, first, second) => {
-            let bound = translated(alloc, test, leaves)?;
             let here = acted(alloc, first, leaves)?;
             match second {
-                None => conditional(alloc, bound, here, Act::Skip),
+                None => conditional(alloc, test, here, Act::Skip, leaves),
                 Some(other) => {
                     let there = acted(alloc, other, leaves)?;
-                    conditional(alloc, bound, here, there)
+                    conditional(alloc, test, here, there, leaves)
                 }
             }
         }
@@ -59,6 +52,25 @@ fn all_acted<L: Leaves>(alloc: Global, instrs: &[Instr], leaves: &L) -> Result<V
         out.push(next)?;
     }
     Ok(out)
+}
+
+// What a `:=` becomes.
+fn assigned<L: Leaves>(
+    alloc: Global,
+    path: &Path,
+    value: &RawExpr,
+    leaves: &L,
+) -> Result<Act, Memory>
+    requires { L.is_sound leaves.now }
+    ensures { IfOk result (ActsAs (L.leaf_at leaves.now) (AssignForm path.now value.now)) }
+{
+    match leaves.leaf(path) {
+        Leaf::Constant(_) => Ok(Act::Skip),
+        Leaf::Variable(target) => {
+            let bound = translated(alloc, value, leaves)?;
+            Ok(Act::Set(target, bound, path.at))
+        }
+    }
 }
 
 // What a `:=:` becomes.
@@ -92,12 +104,20 @@ fn set_to(target: VarId, at: Place, value: VarId) -> Act
     Act::Set(target, Expr::Variable(value), at)
 }
 
-// The conditional of a test and two branches.
-fn conditional(alloc: Global, test: Expr<VarId>, first: Act, second: Act) -> Result<Act, Memory>
-    ensures { IfOk result (IsConditional test first second) }
+// The conditional of a written test and two branches.
+fn conditional<L: Leaves>(
+    alloc: Global,
+    test: &RawExpr,
+    first: Act,
+    second: Act,
+    leaves: &L,
+) -> Result<Act, Memory>
+    requires { L.is_sound leaves.now }
+    ensures { IfOk result (IsConditional (L.leaf_at leaves.now) test.now first second) }
 {
     let (here, there) = boxed(alloc, first, second)?;
-    Ok(Act::If(test, here, there))
+    let bound = translated(alloc, test, leaves)?;
+    Ok(Act::If(bound, here, there))
 }
 
 // The two branches, each in a box of its own.

@@ -1,5 +1,5 @@
 -- What is left of a family where sets of no account are dropped.
-use Rattle.std.proofs.Common.{◌≡◌, ℕ, zero, suc, ◌+◌, ◌<◌, List, [], length, Result, refl, sym, ap, ap₂, ◌∙◌, subst, arith}
+use Rattle.std.proofs.Common.{◌≡◌, ℕ, zero, suc, ◌+◌, ◌<◌, ◌≤◌, List, [], length, Result, refl, sym, ap, ap₂, ◌∙◌, subst, arith}
 use Rattle.zdd_families.specs.Families.{Family, node, IsAbove, meet, minus, without}
 use Rattle.zdd_families.specs.Sections.{IsPartOfBoth, IsCounted}
 use Rattle.zdd_families.proofs.Laws.{meet-node, minus-node, without-node, nil-meet, meet-nil, nil-minus, nil-without}
@@ -13,6 +13,16 @@ use Rattle.zdd_ops.specs.declared.memo.Join.TheVariants.{Meet, Minus}
 use Rattle.zdd_ops.specs.Operations.{join_of}
 use Rattle.zdd_ops.specs.Cuts.{IsLower, IsPassed, ArePassed}
 use Rattle.zdd_ops.specs.Cuts.IsLower.{whole, half}
+
+-- numbers that come to less than those of f and of what is left come to less than those of both
+pub falls_left : (m f r g t : ℕ) → m < f + r → r ≤ g → f + g ≡ t → m < t
+falls_left m f r g t h l e = omega arith
+
+pub falls_both : (m k r f g t : ℕ) → m < k + r → k ≤ f → r ≤ g → f + g ≡ t → m < t
+falls_both m k r f g t h l n e = omega arith
+
+pub falls_to : (m n t : ℕ) → m < n → n ≡ t → m < t
+falls_to m n t h e = omega arith
 
 -- ---- the operations
 pub without_lower : (f g r : Family) → IsLower f g r → without f g ≡ without f r

@@ -1,11 +1,11 @@
 -- The class of the number is added.
-use Rattle.std.proofs.Common.{◌≡◌, ℕ, ◌+◌, ◌≤◌, List, [], ◌∷◌, ◌++◌, take, drop, length, slice_get, Some, sym, ap, ◌∙◌, subst, arith}
+use Rattle.std.proofs.Common.{◌≡◌, ℕ, ◌+◌, ◌≤◌, List, [], ◌∷◌, ◌++◌, take, drop, length, slice_get, Some, sym, ap, ◌∙◌, subst, arith, length-append}
 use Rattle.std.proofs.lemmas.List.{map-append, length-map, take_at}
 use Rattle.std.proofs.lemmas.Option.{slice_get-get_or}
 use Rattle.ar_base.specs.Lists.{Stands, IsOneOf}
 use Rattle.flow_blocks.specs.declared.graph.Block.{Block}
 use Rattle.flow_blocks.specs.Table.{members_of, IsPartTable}
-use Rattle.flow_blocks.proofs.TableLemmas.{lone, part_more}
+use Rattle.flow_blocks.proofs.TableLemmas.{lone, part_more, passed}
 use Rattle.flow_blocks.proofs.classing.look_at.Goals as goal
 
 pub enroll-requires : goal.enroll-requires
@@ -47,3 +47,20 @@ returns-clause-table c = λ uses all t.
     (sym grown)
     (subst (λ (l : List ℕ). IsPartTable c.args.count 4294967295 uses (c.args.number + 1) (classes ++ members ∷ []) l)
     (sym written) made)
+
+pub returns-then-index-clause-table : goal.returns-then-index-clause-table
+returns-then-index-clause-table c = λ uses all t.
+    passed c.args.count 4294967295 uses c.args.number _ _ c.index.result.now t c.requires.below c.index.ensures
+    c.if-index.true
+
+pub returns-clause-few : goal.returns-clause-few
+returns-clause-few c =
+    let e = ap length c.in_ok-push.ensures.items ∙ length-append c.args.table.now.blocks.items _ in
+    omega (arith, e, c.requires.few)
+
+pub returns-clause-long : goal.returns-clause-long
+returns-clause-long c =
+    let old = c.args.table.now.class_of.items in
+    ap length (take_at c.enroll.new.class_of (drop (length c.enroll.new.class_of) old) c.args.table.now.class_of.len
+    (c.enroll.auto.class_of ∙ c.deref_mut.ensures.len))
+    ∙ c.enroll.auto.class_of ∙ ap length c.deref_mut.ensures.value ∙ c.requires.long

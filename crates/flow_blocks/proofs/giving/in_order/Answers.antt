@@ -148,3 +148,8 @@ returns c =
     c.loop-class.invariant.waits (c.in_default.ensures.none) lists c.loop-class.invariant.together in
     subst (λ (l : List (List ℕ)). Follow c.args.count c.args.uses.now [] l) (append-nil lists)
     (c.loop-class.invariant.follow [] (all_given done))
+
+pub index-requires : goal.index-requires
+index-requires c =
+    let ready = c.loop-class.invariant.waits.ready c.in-Some.class c.in-Some.ensures.some in
+    omega (arith, ready.0, as_many c.args.table.now.blocks.items, c.args.table.now.blocks.ok.0)

@@ -2,10 +2,12 @@ use Rattle.gts_core.specs.declared.bound.Act.TheViews.{outs-If}
 use Rattle.written_forms.proofs.acting.conditional.Goals as goal
 
 pub returns : goal.returns
-returns c = record {
+returns g c = record {
+  bound = c.in_ok-bound.bound;
+  becomes = c.in_ok-bound.ensures;
   here = c.in_ok-here.here;
   there = c.in_ok-here.there;
-  is = outs-If c.args.test c.in_ok-here.here c.in_ok-here.there;
+  is = outs-If c.in_ok-bound.bound c.in_ok-here.here c.in_ok-here.there;
   is_first = c.in_ok-here.ensures.0;
   is_second = c.in_ok-here.ensures.1;
 }

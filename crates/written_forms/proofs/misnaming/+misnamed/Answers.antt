@@ -11,6 +11,9 @@ use Rattle.typed_expr.specs.declared.expr.ValueKind.TheVariants.{Truth, Whole}
 use Rattle.written_forms.specs.Wrong.{IsMisnamed, IsNamedPath, Among, MisnamedOperand}
 use Rattle.written_forms.proofs.Gathering.{none_among, one_among, both_among, mapped_to, mapped_back, paired_to, paired_back}
 use Rattle.written_forms.proofs.MisnamedForms as misnamed
+use Rattle.typed_expr.proofs.Shrinking as falls
+use Rattle.written_forms.proofs.Shrinking as smaller
+use borrow.Author.Count as count
 use Rattle.written_forms.proofs.misnaming.+misnamed.Goals as goal
 
 pub first_misnamed-returns-in-Truth : goal.first_misnamed-returns-in-Truth
@@ -181,3 +184,170 @@ misnamed_cases-returns g t c = λ first.
     let h = λ (p : RawExpr × RawExpr). wanting (Like first) p.1 in
     loop_end _ _ _ _ _ (omega arith) (paired_to (MisnamedOperand may) f h c.args.cases.now)
     (paired_back (MisnamedOperand may) f h c.args.cases.now) c.loop-test.invariant
+
+-- each call is of something smaller
+pub first_misnamed-first_misnamed-requires : goal.first_misnamed-first_misnamed-requires
+first_misnamed-first_misnamed-requires g t c =
+    λ κs within. (
+      falls.one_falls _ _ t
+          (smaller.less-not c.args.expr.now c.deref.result.now c.in-Not.a c.in-Not.is
+          c.deref.ensures) c.decreases,
+      (within, c.requires),
+    )
+
+pub first_misnamed-first_misnamed-requires-in-Minus : goal.first_misnamed-first_misnamed-requires-in-Minus
+first_misnamed-first_misnamed-requires-in-Minus g t c =
+    λ κs within. (
+      falls.one_falls _ _ t
+          (smaller.less-minus c.args.expr.now c.deref-in-Minus.result.now c.in-Minus.a c.in-Minus.is
+          c.deref-in-Minus.ensures) c.decreases,
+      (within, c.requires),
+    )
+
+pub first_misnamed-misnamed_in-requires : goal.first_misnamed-misnamed_in-requires
+first_misnamed-misnamed_in-requires g t c =
+    λ κs within. (
+      falls.list_falls _ _ t
+          (smaller.less-all c.args.expr.now c.in-All.es c.deref-in-All.result.now c.in-All.is
+          c.deref-in-All.ensures.value) c.decreases,
+      (within, c.requires),
+    )
+
+pub first_misnamed-misnamed_in-requires-in-Any : goal.first_misnamed-misnamed_in-requires-in-Any
+first_misnamed-misnamed_in-requires-in-Any g t c =
+    λ κs within. (
+      falls.list_falls _ _ t
+          (smaller.less-any c.args.expr.now c.in-Any.es c.deref-in-Any.result.now c.in-Any.is
+          c.deref-in-Any.ensures.value) c.decreases,
+      (within, c.requires),
+    )
+
+pub first_misnamed-misnamed_in-requires-in-Product : goal.first_misnamed-misnamed_in-requires-in-Product
+first_misnamed-misnamed_in-requires-in-Product g t c =
+    λ κs within. (
+      falls.list_falls _ _ t
+          (smaller.less-product c.args.expr.now c.in-Product.es c.deref-in-Product.result.now c.in-Product.is
+          c.deref-in-Product.ensures.value) c.decreases,
+      (within, c.requires),
+    )
+
+pub first_misnamed-misnamed_in-requires-in-Least : goal.first_misnamed-misnamed_in-requires-in-Least
+first_misnamed-misnamed_in-requires-in-Least g t c =
+    λ κs within. (
+      falls.list_falls _ _ t
+          (smaller.less-least c.args.expr.now c.in-Least.es c.deref-in-Least.result.now c.in-Least.is
+          c.deref-in-Least.ensures.value) c.decreases,
+      (within, c.requires),
+    )
+
+pub first_misnamed-misnamed_in-requires-in-Greatest : goal.first_misnamed-misnamed_in-requires-in-Greatest
+first_misnamed-misnamed_in-requires-in-Greatest g t c =
+    λ κs within. (
+      falls.list_falls _ _ t
+          (smaller.less-greatest c.args.expr.now c.in-Greatest.es c.deref-in-Greatest.result.now c.in-Greatest.is
+          c.deref-in-Greatest.ensures.value) c.decreases,
+      (within, c.requires),
+    )
+
+pub first_misnamed-misnamed_in-requires-in-Count : goal.first_misnamed-misnamed_in-requires-in-Count
+first_misnamed-misnamed_in-requires-in-Count g t c =
+    λ κs within. (
+      falls.list_falls _ _ t
+          (smaller.less-count c.args.expr.now c.in-Count.es c.deref-in-Count.result.now c.in-Count.is
+          c.deref-in-Count.ensures.value) c.decreases,
+      (within, c.requires),
+    )
+
+pub first_misnamed-first_misnamed-requires-in-Compare : goal.first_misnamed-first_misnamed-requires-in-Compare
+first_misnamed-first_misnamed-requires-in-Compare g t c =
+    λ κs within. (
+      falls.one_falls _ _ t
+          (smaller.less-left c.args.expr.now c.deref-in-Compare.result.now _ c.in-Compare.a c.in-Compare.b
+          c.in-Compare.is
+          c.deref-in-Compare.ensures) c.decreases,
+      (within, c.requires),
+    )
+
+pub first_misnamed-first_misnamed-requires-in-Compare-2 : goal.first_misnamed-first_misnamed-requires-in-Compare-2
+first_misnamed-first_misnamed-requires-in-Compare-2 g t c =
+    λ κs within. (
+      falls.one_falls _ _ t
+          (smaller.less-right c.args.expr.now c.deref-in-Compare-2.result.now _ c.in-Compare.a c.in-Compare.b
+          c.in-Compare.is
+          c.deref-in-Compare-2.ensures) c.decreases,
+      (within, c.requires),
+    )
+
+pub first_misnamed-misnamed_terms-requires : goal.first_misnamed-misnamed_terms-requires
+first_misnamed-misnamed_terms-requires g t c =
+    λ κs within. (
+      falls.list_falls _ _ t
+          (smaller.less-parts c.args.expr.now c.in-Sum.parts c.deref-in-Sum.result.now c.in-Sum.is
+          c.deref-in-Sum.ensures.value) c.decreases,
+      (within, c.requires),
+    )
+
+pub first_misnamed-misnamed_cases-requires : goal.first_misnamed-misnamed_cases-requires
+first_misnamed-misnamed_cases-requires g t c =
+    λ κs within. (
+      falls.list_falls _ _ t
+          (smaller.less-cases c.args.expr.now c.in-Choose.cases c.in-Choose.other c.deref-in-Choose.result.now
+          c.in-Choose.is
+          c.deref-in-Choose.ensures.value) c.decreases,
+      (within, c.requires),
+    )
+
+pub first_misnamed-first_misnamed-requires-in-Choose : goal.first_misnamed-first_misnamed-requires-in-Choose
+first_misnamed-first_misnamed-requires-in-Choose g t c =
+    λ κs within. (
+      falls.one_falls _ _ t
+          (smaller.less-other c.args.expr.now c.deref-in-Choose-2.result.now c.in-Choose.cases c.in-Choose.other
+          c.in-Choose.is
+          c.deref-in-Choose-2.ensures) c.decreases,
+      (within, c.requires),
+    )
+
+pub misnamed_in-loop-e-smaller : goal.misnamed_in-loop-e-smaller
+misnamed_in-loop-e-smaller g t c = count.falls _ c.loop-e.e-index c.loop-e-test.true
+
+pub misnamed_in-first_misnamed-requires : goal.misnamed_in-first_misnamed-requires
+misnamed_in-first_misnamed-requires g t c =
+    λ κs within. (
+      falls.item_falls _ _ t
+          (smaller.up-item c.args.es.now c.loop-e.e-index c.e-item.result c.loop-e-test.true
+          c.e-item.is) c.decreases,
+      (within, c.requires),
+    )
+
+pub misnamed_terms-loop-e-smaller : goal.misnamed_terms-loop-e-smaller
+misnamed_terms-loop-e-smaller g t c = count.falls _ c.loop-e.e-index c.loop-e-test.true
+
+pub misnamed_terms-first_misnamed-requires : goal.misnamed_terms-first_misnamed-requires
+misnamed_terms-first_misnamed-requires g t c =
+    λ κs within. (
+      falls.item_falls _ _ t
+          (smaller.up-part c.args.parts.now c.loop-e.e-index c.loop-e-item.result c.loop-e-test.true
+          c.loop-e-item.is) c.decreases,
+      (within, c.requires),
+    )
+
+pub misnamed_cases-loop-test-smaller : goal.misnamed_cases-loop-test-smaller
+misnamed_cases-loop-test-smaller g t c = count.falls _ c.loop-test.test-index c.loop-test-test.true
+
+pub misnamed_cases-first_misnamed-requires : goal.misnamed_cases-first_misnamed-requires
+misnamed_cases-first_misnamed-requires g t c =
+    λ κs within. (
+      falls.item_falls _ _ t
+          (smaller.up-test c.args.cases.now c.loop-test.test-index c.loop-test-item.result c.loop-test-test.true
+          c.loop-test-item.is) c.decreases,
+      (within, c.requires),
+    )
+
+pub misnamed_cases-first_misnamed-requires-in-loop-test : goal.misnamed_cases-first_misnamed-requires-in-loop-test
+misnamed_cases-first_misnamed-requires-in-loop-test g t c =
+    λ κs within. (
+      falls.item_falls _ _ t
+          (smaller.up-value c.args.cases.now c.loop-test.test-index c.loop-test-item.result c.loop-test-test.true
+          c.loop-test-item.is) c.decreases,
+      (within, c.requires),
+    )

@@ -12,6 +12,9 @@ use Rattle.written_forms.specs.Forms.{IsFormOf}
 use Rattle.written_forms.specs.Wrong.{IsMistyped, NamesKind, demanding, AreWanted, Among, MistypedOperand}
 use Rattle.written_forms.proofs.Gathering.{one_among, mapped_to, mapped_back, paired_to, paired_back}
 use Rattle.written_forms.proofs.MistypedForms.{wrong_both, wrong_leaf, wrong_like, wrong_sides, wrong_choices}
+use Rattle.typed_expr.proofs.Shrinking as falls
+use Rattle.written_forms.proofs.Shrinking as smaller
+use borrow.Author.Count as count
 use Rattle.written_forms.proofs.mistyping.+mistyped.Goals as goal
 
 pub first_mistyped-returns-in-Truth : goal.first_mistyped-returns-in-Truth
@@ -200,3 +203,170 @@ wrong_cases-returns g t c = λ first k.
     let h = λ (p : RawExpr × RawExpr). wanting (Like first) p.1 in
     loop_end _ _ _ _ _ (omega arith) (paired_to (MistypedOperand (NamesKind kinds)) f h c.args.cases.now)
     (paired_back (MistypedOperand (NamesKind kinds)) f h c.args.cases.now) (c.loop-test.invariant first k)
+
+-- each call is of something smaller
+pub first_mistyped-first_mistyped-requires : goal.first_mistyped-first_mistyped-requires
+first_mistyped-first_mistyped-requires g t c =
+    λ κs within. (
+      falls.one_falls _ _ t
+          (smaller.less-not c.args.expr.now c.deref.result.now c.in-Not.a c.in-Not.is
+          c.deref.ensures) c.decreases,
+      (within, c.requires),
+    )
+
+pub first_mistyped-first_mistyped-requires-in-Minus : goal.first_mistyped-first_mistyped-requires-in-Minus
+first_mistyped-first_mistyped-requires-in-Minus g t c =
+    λ κs within. (
+      falls.one_falls _ _ t
+          (smaller.less-minus c.args.expr.now c.deref-in-Minus.result.now c.in-Minus.a c.in-Minus.is
+          c.deref-in-Minus.ensures) c.decreases,
+      (within, c.requires),
+    )
+
+pub first_mistyped-wrong_in-requires : goal.first_mistyped-wrong_in-requires
+first_mistyped-wrong_in-requires g t c =
+    λ κs within. (
+      falls.list_falls _ _ t
+          (smaller.less-all c.args.expr.now c.in-All.es c.deref-in-All.result.now c.in-All.is
+          c.deref-in-All.ensures.value) c.decreases,
+      (within, c.requires),
+    )
+
+pub first_mistyped-wrong_in-requires-in-Any : goal.first_mistyped-wrong_in-requires-in-Any
+first_mistyped-wrong_in-requires-in-Any g t c =
+    λ κs within. (
+      falls.list_falls _ _ t
+          (smaller.less-any c.args.expr.now c.in-Any.es c.deref-in-Any.result.now c.in-Any.is
+          c.deref-in-Any.ensures.value) c.decreases,
+      (within, c.requires),
+    )
+
+pub first_mistyped-wrong_in-requires-in-Product : goal.first_mistyped-wrong_in-requires-in-Product
+first_mistyped-wrong_in-requires-in-Product g t c =
+    λ κs within. (
+      falls.list_falls _ _ t
+          (smaller.less-product c.args.expr.now c.in-Product.es c.deref-in-Product.result.now c.in-Product.is
+          c.deref-in-Product.ensures.value) c.decreases,
+      (within, c.requires),
+    )
+
+pub first_mistyped-wrong_in-requires-in-Least : goal.first_mistyped-wrong_in-requires-in-Least
+first_mistyped-wrong_in-requires-in-Least g t c =
+    λ κs within. (
+      falls.list_falls _ _ t
+          (smaller.less-least c.args.expr.now c.in-Least.es c.deref-in-Least.result.now c.in-Least.is
+          c.deref-in-Least.ensures.value) c.decreases,
+      (within, c.requires),
+    )
+
+pub first_mistyped-wrong_in-requires-in-Greatest : goal.first_mistyped-wrong_in-requires-in-Greatest
+first_mistyped-wrong_in-requires-in-Greatest g t c =
+    λ κs within. (
+      falls.list_falls _ _ t
+          (smaller.less-greatest c.args.expr.now c.in-Greatest.es c.deref-in-Greatest.result.now c.in-Greatest.is
+          c.deref-in-Greatest.ensures.value) c.decreases,
+      (within, c.requires),
+    )
+
+pub first_mistyped-wrong_in-requires-in-Count : goal.first_mistyped-wrong_in-requires-in-Count
+first_mistyped-wrong_in-requires-in-Count g t c =
+    λ κs within. (
+      falls.list_falls _ _ t
+          (smaller.less-count c.args.expr.now c.in-Count.es c.deref-in-Count.result.now c.in-Count.is
+          c.deref-in-Count.ensures.value) c.decreases,
+      (within, c.requires),
+    )
+
+pub first_mistyped-first_mistyped-first-requires : goal.first_mistyped-first_mistyped-first-requires
+first_mistyped-first_mistyped-first-requires g t c =
+    λ κs within. (
+      falls.one_falls _ _ t
+          (smaller.less-left c.args.expr.now c.deref-in-Compare-2.result.now c.in-Compare.relation c.in-Compare.a
+          c.in-Compare.b c.in-Compare.is
+          c.deref-in-Compare-2.ensures) c.decreases,
+      (within, c.requires),
+    )
+
+pub first_mistyped-first_mistyped-requires-in-Compare : goal.first_mistyped-first_mistyped-requires-in-Compare
+first_mistyped-first_mistyped-requires-in-Compare g t c =
+    λ κs within. (
+      falls.one_falls _ _ t
+          (smaller.less-right c.args.expr.now c.deref-in-Compare-3.result.now c.in-Compare.relation c.in-Compare.a
+          c.in-Compare.b c.in-Compare.is
+          c.deref-in-Compare-3.ensures) c.decreases,
+      (within, c.requires),
+    )
+
+pub first_mistyped-wrong_terms-requires : goal.first_mistyped-wrong_terms-requires
+first_mistyped-wrong_terms-requires g t c =
+    λ κs within. (
+      falls.list_falls _ _ t
+          (smaller.less-parts c.args.expr.now c.in-Sum.parts c.deref-in-Sum.result.now c.in-Sum.is
+          c.deref-in-Sum.ensures.value) c.decreases,
+      (within, c.requires),
+    )
+
+pub first_mistyped-wrong_cases-first-requires : goal.first_mistyped-wrong_cases-first-requires
+first_mistyped-wrong_cases-first-requires g t c =
+    λ κs within. (
+      falls.list_falls _ _ t
+          (smaller.less-cases c.args.expr.now c.in-Choose.cases c.in-Choose.other c.deref-in-Choose.result.now
+          c.in-Choose.is
+          c.deref-in-Choose.ensures.value) c.decreases,
+      (within, c.requires),
+    )
+
+pub first_mistyped-first_mistyped-requires-in-Choose : goal.first_mistyped-first_mistyped-requires-in-Choose
+first_mistyped-first_mistyped-requires-in-Choose g t c =
+    λ κs within. (
+      falls.one_falls _ _ t
+          (smaller.less-other c.args.expr.now c.deref-in-Choose-2.result.now c.in-Choose.cases c.in-Choose.other
+          c.in-Choose.is
+          c.deref-in-Choose-2.ensures) c.decreases,
+      (within, c.requires),
+    )
+
+pub wrong_in-loop-e-smaller : goal.wrong_in-loop-e-smaller
+wrong_in-loop-e-smaller g t c = count.falls _ c.loop-e.e-index c.loop-e-test.true
+
+pub wrong_in-first_mistyped-requires : goal.wrong_in-first_mistyped-requires
+wrong_in-first_mistyped-requires g t c =
+    λ κs within. (
+      falls.item_falls _ _ t
+          (smaller.up-item c.args.es.now c.loop-e.e-index c.e-item.result c.loop-e-test.true
+          c.e-item.is) c.decreases,
+      (within, c.requires),
+    )
+
+pub wrong_terms-loop-e-smaller : goal.wrong_terms-loop-e-smaller
+wrong_terms-loop-e-smaller g t c = count.falls _ c.loop-e.e-index c.loop-e-test.true
+
+pub wrong_terms-first_mistyped-requires : goal.wrong_terms-first_mistyped-requires
+wrong_terms-first_mistyped-requires g t c =
+    λ κs within. (
+      falls.item_falls _ _ t
+          (smaller.up-part c.args.parts.now c.loop-e.e-index c.loop-e-item.result c.loop-e-test.true
+          c.loop-e-item.is) c.decreases,
+      (within, c.requires),
+    )
+
+pub wrong_cases-loop-test-smaller : goal.wrong_cases-loop-test-smaller
+wrong_cases-loop-test-smaller g t c = count.falls _ c.loop-test.test-index c.loop-test-test.true
+
+pub wrong_cases-first_mistyped-requires : goal.wrong_cases-first_mistyped-requires
+wrong_cases-first_mistyped-requires g t c =
+    λ κs within. (
+      falls.item_falls _ _ t
+          (smaller.up-test c.args.cases.now c.loop-test.test-index c.loop-test-item.result c.loop-test-test.true
+          c.loop-test-item.is) c.decreases,
+      (within, c.requires),
+    )
+
+pub wrong_cases-first_mistyped-requires-in-loop-test : goal.wrong_cases-first_mistyped-requires-in-loop-test
+wrong_cases-first_mistyped-requires-in-loop-test g t c =
+    λ κs within. (
+      falls.item_falls _ _ t
+          (smaller.up-value c.args.cases.now c.loop-test.test-index c.loop-test-item.result c.loop-test-test.true
+          c.loop-test-item.is) c.decreases,
+      (within, c.requires),
+    )

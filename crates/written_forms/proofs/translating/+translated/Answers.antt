@@ -3,6 +3,9 @@ use Rattle.ar_base.proofs.Results.{ok_map}
 use Rattle.ar_syntax.specs.declared.expressions.RawExpr.{RawExpr}
 use Rattle.written_forms.specs.Translating.{BecomesBy, All_become_by, Parts_become_by, Cases_become_by}
 use Rattle.written_forms.proofs.Becoming as becoming
+use Rattle.typed_expr.proofs.Shrinking as falls
+use Rattle.written_forms.proofs.Shrinking as smaller
+use borrow.Author.Count as count
 use Rattle.written_forms.proofs.translating.+translated.Goals as goal
 
 pub translated-returns-in-Truth : goal.translated-returns-in-Truth
@@ -180,3 +183,170 @@ cases_translated-returns g t c =
     let leaves = (g.L.Leaves.leaf_at c.args.leaves.now) in
     becoming.all_read leaves (Cases_become_by leaves) c.args.choices.now c.loop-test.test-index c.loop-test.out.items
     c.loop-test-test.false c.loop-test.invariant
+
+-- each call is of something smaller
+pub translated-translated-requires : goal.translated-translated-requires
+translated-translated-requires g t c =
+    λ κs within. (
+      falls.one_falls _ _ t
+          (smaller.less-not c.args.expr.now c.deref.result.now c.in-Not.a c.in-Not.is
+          c.deref.ensures) c.decreases,
+      (within, c.requires),
+    )
+
+pub translated-translated-requires-in-Minus : goal.translated-translated-requires-in-Minus
+translated-translated-requires-in-Minus g t c =
+    λ κs within. (
+      falls.one_falls _ _ t
+          (smaller.less-minus c.args.expr.now c.deref-in-Minus.result.now c.in-Minus.a c.in-Minus.is
+          c.deref-in-Minus.ensures) c.decreases,
+      (within, c.requires),
+    )
+
+pub translated-all_translated-requires : goal.translated-all_translated-requires
+translated-all_translated-requires g t c =
+    λ κs within. (
+      falls.list_falls _ _ t
+          (smaller.less-all c.args.expr.now c.in-All.es c.deref-in-All.result.now c.in-All.is
+          c.deref-in-All.ensures.value) c.decreases,
+      (within, c.requires),
+    )
+
+pub translated-all_translated-requires-in-Any : goal.translated-all_translated-requires-in-Any
+translated-all_translated-requires-in-Any g t c =
+    λ κs within. (
+      falls.list_falls _ _ t
+          (smaller.less-any c.args.expr.now c.in-Any.es c.deref-in-Any.result.now c.in-Any.is
+          c.deref-in-Any.ensures.value) c.decreases,
+      (within, c.requires),
+    )
+
+pub translated-all_translated-requires-in-Product : goal.translated-all_translated-requires-in-Product
+translated-all_translated-requires-in-Product g t c =
+    λ κs within. (
+      falls.list_falls _ _ t
+          (smaller.less-product c.args.expr.now c.in-Product.es c.deref-in-Product.result.now c.in-Product.is
+          c.deref-in-Product.ensures.value) c.decreases,
+      (within, c.requires),
+    )
+
+pub translated-all_translated-requires-in-Least : goal.translated-all_translated-requires-in-Least
+translated-all_translated-requires-in-Least g t c =
+    λ κs within. (
+      falls.list_falls _ _ t
+          (smaller.less-least c.args.expr.now c.in-Least.es c.deref-in-Least.result.now c.in-Least.is
+          c.deref-in-Least.ensures.value) c.decreases,
+      (within, c.requires),
+    )
+
+pub translated-all_translated-requires-in-Greatest : goal.translated-all_translated-requires-in-Greatest
+translated-all_translated-requires-in-Greatest g t c =
+    λ κs within. (
+      falls.list_falls _ _ t
+          (smaller.less-greatest c.args.expr.now c.in-Greatest.es c.deref-in-Greatest.result.now c.in-Greatest.is
+          c.deref-in-Greatest.ensures.value) c.decreases,
+      (within, c.requires),
+    )
+
+pub translated-all_translated-requires-in-Count : goal.translated-all_translated-requires-in-Count
+translated-all_translated-requires-in-Count g t c =
+    λ κs within. (
+      falls.list_falls _ _ t
+          (smaller.less-count c.args.expr.now c.in-Count.es c.deref-in-Count.result.now c.in-Count.is
+          c.deref-in-Count.ensures.value) c.decreases,
+      (within, c.requires),
+    )
+
+pub translated-translated-requires-in-Compare : goal.translated-translated-requires-in-Compare
+translated-translated-requires-in-Compare g t c =
+    λ κs within. (
+      falls.one_falls _ _ t
+          (smaller.less-left c.args.expr.now c.deref-in-Compare.result.now c.in-Compare.relation c.in-Compare.a
+          c.in-Compare.b c.in-Compare.is
+          c.deref-in-Compare.ensures) c.decreases,
+      (within, c.requires),
+    )
+
+pub translated-translated-requires-in-Compare-2 : goal.translated-translated-requires-in-Compare-2
+translated-translated-requires-in-Compare-2 g t c =
+    λ κs within. (
+      falls.one_falls _ _ t
+          (smaller.less-right c.args.expr.now c.deref-in-Compare-2.result.now c.in-Compare.relation c.in-Compare.a
+          c.in-Compare.b c.in-Compare.is
+          c.deref-in-Compare-2.ensures) c.decreases,
+      (within, c.requires),
+    )
+
+pub translated-terms_translated-requires : goal.translated-terms_translated-requires
+translated-terms_translated-requires g t c =
+    λ κs within. (
+      falls.list_falls _ _ t
+          (smaller.less-parts c.args.expr.now c.in-Sum.parts c.deref-in-Sum.result.now c.in-Sum.is
+          c.deref-in-Sum.ensures.value) c.decreases,
+      (within, c.requires),
+    )
+
+pub translated-cases_translated-requires : goal.translated-cases_translated-requires
+translated-cases_translated-requires g t c =
+    λ κs within. (
+      falls.list_falls _ _ t
+          (smaller.less-cases c.args.expr.now c.in-Choose.choices c.in-Choose.other c.deref-in-Choose.result.now
+          c.in-Choose.is
+          c.deref-in-Choose.ensures.value) c.decreases,
+      (within, c.requires),
+    )
+
+pub translated-translated-requires-in-Choose : goal.translated-translated-requires-in-Choose
+translated-translated-requires-in-Choose g t c =
+    λ κs within. (
+      falls.one_falls _ _ t
+          (smaller.less-other c.args.expr.now c.deref-in-Choose-2.result.now c.in-Choose.choices c.in-Choose.other
+          c.in-Choose.is
+          c.deref-in-Choose-2.ensures) c.decreases,
+      (within, c.requires),
+    )
+
+pub all_translated-loop-e-smaller : goal.all_translated-loop-e-smaller
+all_translated-loop-e-smaller g t c = count.falls _ c.loop-e.e-index c.loop-e-test.true
+
+pub all_translated-translated-requires : goal.all_translated-translated-requires
+all_translated-translated-requires g t c =
+    λ κs within. (
+      falls.item_falls _ _ t
+          (smaller.up-item c.args.es.now c.loop-e.e-index c.e-item.result c.loop-e-test.true
+          c.e-item.is) c.decreases,
+      (within, c.requires),
+    )
+
+pub terms_translated-loop-plus-smaller : goal.terms_translated-loop-plus-smaller
+terms_translated-loop-plus-smaller g t c = count.falls _ c.loop-plus.plus-index c.loop-plus-test.true
+
+pub terms_translated-translated-requires : goal.terms_translated-translated-requires
+terms_translated-translated-requires g t c =
+    λ κs within. (
+      falls.item_falls _ _ t
+          (smaller.up-part c.args.parts.now c.loop-plus.plus-index c.loop-plus-item.result c.loop-plus-test.true
+          c.loop-plus-item.is) c.decreases,
+      (within, c.requires),
+    )
+
+pub cases_translated-loop-test-smaller : goal.cases_translated-loop-test-smaller
+cases_translated-loop-test-smaller g t c = count.falls _ c.loop-test.test-index c.loop-test-test.true
+
+pub cases_translated-translated-requires : goal.cases_translated-translated-requires
+cases_translated-translated-requires g t c =
+    λ κs within. (
+      falls.item_falls _ _ t
+          (smaller.up-test c.args.choices.now c.loop-test.test-index c.loop-test-item.result c.loop-test-test.true
+          c.loop-test-item.is) c.decreases,
+      (within, c.requires),
+    )
+
+pub cases_translated-translated-requires-in-loop-test : goal.cases_translated-translated-requires-in-loop-test
+cases_translated-translated-requires-in-loop-test g t c =
+    λ κs within. (
+      falls.item_falls _ _ t
+          (smaller.up-value c.args.choices.now c.loop-test.test-index c.loop-test-item.result c.loop-test-test.true
+          c.loop-test-item.is) c.decreases,
+      (within, c.requires),
+    )

@@ -1,10 +1,13 @@
-use Rattle.std.proofs.Common.{Ok, sym, ap, ◌∙◌, ne_eqb, arith}
+use Rattle.std.proofs.Common.{Ok, sym, ap, ◌∙◌, subst, ne_eqb, lt_trans, arith}
 use Rattle.std.proofs.lemmas.Result.{err_from_is_err_and}
-use Rattle.zdd_nodes.proofs.Growing.{Draws-stays, Draws-refused, Draws-after}
-use Rattle.zdd_nodes.proofs.Halved.{lo_above, hi_above, done}
+use Rattle.zdd_nodes.proofs.Growing.{Draws-stays, Draws-refused, Draws-after, still}
+use Rattle.zdd_nodes.proofs.Halved.{lo_in, lo_above, hi_above, done}
 use Rattle.zdd_ops.proofs.Held.{IsSound-grow, IsSound-remember, handed}
 use Rattle.zdd_nodes.specs.Nodes.{at}
+use Rattle.zdd_nodes.specs.Nodes.{Stored}
+use Rattle.zdd_ops.specs.Operations.{IsSound}
 use Rattle.zdd_ops.specs.declared.memo.Operation.TheVariants.{Having}
+use Rattle.zdd_ops.proofs.Passing.{falls_to}
 use Rattle.zdd_ops.proofs.Havings.{having_small, having_none, having_first, having_halved, having_lower, having_upper}
 use Rattle.zdd_ops.proofs.halving.+having_in.Goals as goal
 
@@ -56,6 +59,63 @@ returns-in_err-hi-clause-drawn t c =
     (having_upper c.args.store.now c.args.f.n c.args.event.n c.in-Some.least.n c.in-Some.f0.n c.in-Some.f1.n
     c.in-Some.ensures.halves c.requires.f_in (ne_eqb c.args.event.n c.in-Some.least.n c.if-event-least-2.false)
     c.having_in.new.store c.having_in-2.new.store _ dl.grows c.in_err-hi.ensures.drawn)))
+
+-- each call is of something smaller
+pub having_in-requires : goal.having_in-requires
+having_in-requires t c = (
+  falls_to _ _ t c.in-Some.ensures.halves.lo_before c.decreases,
+  (
+    lt_trans c.in-Some.ensures.halves.lo_before c.requires.f_in,
+    (
+      c.requires.sound,
+      c.requires.store,
+    ),
+  ),
+)
+
+pub having_in-requires-2 : goal.having_in-requires-2
+having_in-requires-2 t c =
+    let dl = having_lower c.args.store.now c.args.f.n c.args.event.n c.in-Some.least.n c.in-Some.f0.n c.in-Some.f1.n
+    c.in-Some.ensures.halves c.requires.f_in (ne_eqb c.args.event.n c.in-Some.least.n c.if-event-least-2.false)
+    c.having_in.new.store (Ok c.in_ok-lo.lo) c.in_ok-lo.ensures.drawn in (
+      falls_to _ _ t c.in-Some.ensures.halves.hi_before c.decreases,
+      (
+        still _ c.args.store.now c.having_in.new.store c.in-Some.f1.n dl.grows (lt_trans
+            c.in-Some.ensures.halves.hi_before c.requires.f_in),
+        (
+          c.in_ok-lo.ensures.sound,
+          c.in_ok-lo.ensures.store,
+        ),
+      ),
+    )
+
+pub node-requires-2-clause-lo_in : goal.node-requires-2-clause-lo_in
+node-requires-2-clause-lo_in t c =
+    let dl = having_lower c.args.store.now c.args.f.n c.args.event.n c.in-Some.least.n c.in-Some.f0.n c.in-Some.f1.n
+    c.in-Some.ensures.halves c.requires.f_in (ne_eqb c.args.event.n c.in-Some.least.n c.if-event-least-2.false)
+    c.having_in.new.store (Ok c.in_ok-lo.lo) c.in_ok-lo.ensures.drawn in
+    let dh = having_upper c.args.store.now c.args.f.n c.args.event.n c.in-Some.least.n c.in-Some.f0.n c.in-Some.f1.n
+    c.in-Some.ensures.halves c.requires.f_in (ne_eqb c.args.event.n c.in-Some.least.n c.if-event-least-2.false)
+    c.having_in.new.store c.having_in-2.new.store (Ok c.in_ok-hi.hi) dl.grows c.in_ok-hi.ensures.drawn in
+    lo_in _ _ _ _ _ (having_halved c.args.store.now c.args.f.n c.args.event.n c.in-Some.least.n c.in-Some.f0.n
+    c.in-Some.f1.n c.in-Some.ensures.halves c.requires.f_in
+    (ne_eqb c.args.event.n c.in-Some.least.n c.if-event-least-2.false)) c.args.store.now c.having_in.new.store
+    c.having_in-2.new.store c.in_ok-lo.lo c.in_ok-hi.hi dl dh
+
+pub node-requires-2-clause-hi_in : goal.node-requires-2-clause-hi_in
+node-requires-2-clause-hi_in t c =
+    let dl = having_lower c.args.store.now c.args.f.n c.args.event.n c.in-Some.least.n c.in-Some.f0.n c.in-Some.f1.n
+    c.in-Some.ensures.halves c.requires.f_in (ne_eqb c.args.event.n c.in-Some.least.n c.if-event-least-2.false)
+    c.having_in.new.store (Ok c.in_ok-lo.lo) c.in_ok-lo.ensures.drawn in
+    let dh = having_upper c.args.store.now c.args.f.n c.args.event.n c.in-Some.least.n c.in-Some.f0.n c.in-Some.f1.n
+    c.in-Some.ensures.halves c.requires.f_in (ne_eqb c.args.event.n c.in-Some.least.n c.if-event-least-2.false)
+    c.having_in.new.store c.having_in-2.new.store (Ok c.in_ok-hi.hi) dl.grows c.in_ok-hi.ensures.drawn in
+    dh.ok.0
+
+pub returns-in_err-made-clause-sound : goal.returns-in_err-made-clause-sound
+returns-in_err-made-clause-sound t c =
+    subst (λ (s : Stored). IsSound c.having_in-2.new.memo s.families) (sym c.in_err-made.ensures.err)
+    c.in_ok-hi.ensures.sound
 
 pub node-requires-2-clause-lo_above : goal.node-requires-2-clause-lo_above
 node-requires-2-clause-lo_above t c =

@@ -1,10 +1,12 @@
-use Rattle.std.proofs.Common.{Ok, sym, ◌∙◌}
+use Rattle.std.proofs.Common.{Ok, sym, ◌∙◌, subst}
 use Rattle.std.proofs.lemmas.Result.{err_from_is_err_and}
-use Rattle.zdd_nodes.proofs.Growing.{Draws-stays, Draws-refused, Draws-after}
-use Rattle.zdd_nodes.proofs.Halved.{lo_above, hi_above, done}
+use Rattle.zdd_nodes.proofs.Growing.{Draws-stays, Draws-refused, Draws-after, still}
+use Rattle.zdd_nodes.proofs.Halved.{lo_in, lo_above, hi_above, done}
 use Rattle.zdd_ops.proofs.Held.{IsSound-remember, handed}
+use Rattle.zdd_nodes.specs.Nodes.{Stored}
+use Rattle.zdd_ops.specs.Operations.{IsSound}
 use Rattle.zdd_ops.specs.declared.memo.Operation.TheVariants.{Joined}
-use Rattle.zdd_ops.proofs.Passing.{join_passed}
+use Rattle.zdd_ops.proofs.Passing.{falls_both, join_passed}
 use Rattle.zdd_ops.proofs.Joins.{join_halved, join_lower, join_upper}
 use Rattle.zdd_ops.proofs.halving.+join_in.Goals as goal
 
@@ -36,6 +38,68 @@ returns-in_err-hi-clause-drawn t c =
     (join_upper c.args.join c.args.store.now c.pass_for-left.result.f.n c.pass_for-left.result.g.n
     c.cut_at-cut.result c.cut_at-cut.ensures c.join_in.new.store c.join_in-2.new.store _ dl.grows
     c.in_err-hi.ensures.drawn))))
+
+-- each call is of something smaller
+pub join_in-requires : goal.join_in-requires
+join_in-requires t c = (
+  falls_both _ _ _ _ _ t c.cut_at-cut.ensures.less00 c.pass_for-left.ensures.f_no_more
+      c.pass_for-left.ensures.g_no_more c.decreases,
+  (
+    c.cut_at-cut.ensures.f0_in,
+    (
+      c.cut_at-cut.ensures.g0_in,
+      (
+        c.requires.sound,
+        c.requires.store,
+      ),
+    ),
+  ),
+)
+
+pub join_in-requires-2 : goal.join_in-requires-2
+join_in-requires-2 t c =
+    let dl = join_lower c.args.join c.args.store.now c.pass_for-left.result.f.n c.pass_for-left.result.g.n
+    c.cut_at-cut.result c.cut_at-cut.ensures c.join_in.new.store (Ok c.in_ok-lo.lo) c.in_ok-lo.ensures.drawn in (
+      falls_both _ _ _ _ _ t c.cut_at-cut.ensures.less11 c.pass_for-left.ensures.f_no_more
+          c.pass_for-left.ensures.g_no_more c.decreases,
+      (
+        still _ c.args.store.now c.join_in.new.store c.cut_at-cut.result.f1.n dl.grows
+            c.cut_at-cut.ensures.f1_in,
+        (
+          still _ c.args.store.now c.join_in.new.store c.cut_at-cut.result.g1.n dl.grows
+              c.cut_at-cut.ensures.g1_in,
+          (
+            c.in_ok-lo.ensures.sound,
+            c.in_ok-lo.ensures.store,
+          ),
+        ),
+      ),
+    )
+
+pub node-requires-clause-lo_in : goal.node-requires-clause-lo_in
+node-requires-clause-lo_in t c =
+    let dl = join_lower c.args.join c.args.store.now c.pass_for-left.result.f.n c.pass_for-left.result.g.n
+    c.cut_at-cut.result c.cut_at-cut.ensures c.join_in.new.store (Ok c.in_ok-lo.lo) c.in_ok-lo.ensures.drawn in
+    let dh = join_upper c.args.join c.args.store.now c.pass_for-left.result.f.n c.pass_for-left.result.g.n
+    c.cut_at-cut.result c.cut_at-cut.ensures c.join_in.new.store c.join_in-2.new.store (Ok c.in_ok-hi.hi)
+    dl.grows c.in_ok-hi.ensures.drawn in
+    lo_in _ _ _ _ _ (join_halved c.args.join c.args.store.now c.pass_for-left.result.f.n c.pass_for-left.result.g.n
+    c.cut_at-cut.result c.cut_at-cut.ensures) c.args.store.now c.join_in.new.store c.join_in-2.new.store
+    c.in_ok-lo.lo c.in_ok-hi.hi dl dh
+
+pub node-requires-clause-hi_in : goal.node-requires-clause-hi_in
+node-requires-clause-hi_in t c =
+    let dl = join_lower c.args.join c.args.store.now c.pass_for-left.result.f.n c.pass_for-left.result.g.n
+    c.cut_at-cut.result c.cut_at-cut.ensures c.join_in.new.store (Ok c.in_ok-lo.lo) c.in_ok-lo.ensures.drawn in
+    let dh = join_upper c.args.join c.args.store.now c.pass_for-left.result.f.n c.pass_for-left.result.g.n
+    c.cut_at-cut.result c.cut_at-cut.ensures c.join_in.new.store c.join_in-2.new.store (Ok c.in_ok-hi.hi)
+    dl.grows c.in_ok-hi.ensures.drawn in
+    dh.ok.0
+
+pub returns-in_err-made-clause-sound : goal.returns-in_err-made-clause-sound
+returns-in_err-made-clause-sound t c =
+    subst (λ (s : Stored). IsSound c.join_in-2.new.memo s.families) (sym c.in_err-made.ensures.err)
+    c.in_ok-hi.ensures.sound
 
 pub node-requires-clause-lo_above : goal.node-requires-clause-lo_above
 node-requires-clause-lo_above t c =

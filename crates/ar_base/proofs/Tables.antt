@@ -3,10 +3,10 @@ use Rattle.std.proofs.Common.{◌≡◌, ℕ, ◌+◌, ◌⊎◌, Bool, true, fa
 use Rattle.std.specs.Str.{IsUtf8, bytes_eq}
 use Rattle.std.proofs.lemmas.Slice.Eq.{bytes_eq-Decides}
 use Rattle.ar_base.specs.Lists.{Stands, HasNo, AreDifferent}
-use Rattle.ar_base.specs.Texts.{AreUtf8, AreNumbered}
+use Rattle.ar_base.specs.Texts.{AreUtf8, NumbersTexts}
 use Rattle.ar_base.proofs.Standing.{stands_left, stands_split, stands_next, stands_alone}
 
-module _ (texts : List (List ℕ)) (number_of : List ℕ → Option ℕ) (h : AreNumbered texts number_of) where
+module _ (texts : List (List ℕ)) (number_of : List ℕ → Option ℕ) (h : NumbersTexts texts number_of) where
   -- a text without a number is none of the table
   pub lacks : (t : List ℕ) → number_of t ≡ None → HasNo texts (λ x. x ≡ t)
   lacks t e = record {
@@ -28,7 +28,7 @@ module _ (texts : List (List ℕ)) (number_of : List ℕ → Option ℕ) (h : Ar
   -- a new text has the next number
   pub numbered_more : (t : List ℕ) (new : List ℕ → Option ℕ) → HasNo texts (λ x. x ≡ t)
       → ((x : List ℕ) → new x ≡ (if bytes_eq t x then Some (length texts) else number_of x))
-      → AreNumbered (texts ++ t ∷ []) new
+      → NumbersTexts (texts ++ t ∷ []) new
   numbered_more t new is_new entered = record {
     found = λ x n e. found x n e (bytes_eq t x) refl;
     placed = λ x n p. placed x n (stands_split texts (t ∷ []) n x p);

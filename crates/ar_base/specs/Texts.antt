@@ -14,7 +14,7 @@ pub record AreUtf8 (texts : List (List ℕ)) : Type 0 where
   pub each : (n : ℕ) (t : List ℕ) → Stands texts n t → IsUtf8 t
 
 -- each text's number is its place in the table, and a text that the table lacks has none
-pub record AreNumbered (texts : List (List ℕ)) (number_of : List ℕ → Option ℕ) : Type 0 where
+pub record NumbersTexts (texts : List (List ℕ)) (number_of : List ℕ → Option ℕ) : Type 0 where
   pub found : (t : List ℕ) (n : ℕ) → number_of t ≡ Some n → Stands texts n t
   pub placed : (t : List ℕ) (n : ℕ) → Stands texts n t → number_of t ≡ Some n
 

@@ -23,13 +23,13 @@ pub struct Names {
 impl Model for Names {
     ghost use Rattle.std.specs.Prelude.{ℕ, ◌<◌, ◌^◌, List, length};
     ghost use Rattle.std.specs.HashMap.{get_by_text};
-    ghost use Rattle.ar_base.specs.Texts.{bytes_of_all, AreUtf8, AreNumbered};
+    ghost use Rattle.ar_base.specs.Texts.{bytes_of_all, AreUtf8, NumbersTexts};
 
     ghost Value = { List (List ℕ) };
 
     ghost view = { λ t. bytes_of_all t.texts.items };
 
-    ghost invariant = { λ t. (length t.texts.items < 2 ^ 32) × AreUtf8 (bytes_of_all t.texts.items) × AreNumbered (bytes_of_all t.texts.items) (get_by_text t.numbers) };
+    ghost invariant = { λ t. (length t.texts.items < 2 ^ 32) × AreUtf8 (bytes_of_all t.texts.items) × NumbersTexts (bytes_of_all t.texts.items) (get_by_text t.numbers) };
 }
 
 impl Names {

@@ -9,7 +9,7 @@ use Rattle.std.specs.Str.{bytes_eq}
 use Rattle.std.specs.String.{string_bytes}
 use Rattle.std.proofs.lemmas.List.{length-map, map-append, take_at}
 use Rattle.ar_base.specs.Lists.{Stands, HasNo}
-use Rattle.ar_base.specs.Texts.{bytes_of_all, AreUtf8, AreNumbered, Interns, known, added}
+use Rattle.ar_base.specs.Texts.{bytes_of_all, AreUtf8, NumbersTexts, Interns, known, added}
 use Rattle.ar_base.proofs.Standing.{stands_next}
 use Rattle.ar_base.proofs.Tables.{differ, numbered_more, utf8_more}
 use Rattle.ar_base.proofs.table.Names.intern.Goals as goal
@@ -36,8 +36,8 @@ number c =
     let long = length-map c.self.inside.texts.items string_bytes in
     omega arith
 
-numbered : (c : goal.After-new) → AreNumbered (bytes_of_all c.push.new.self.items) (get_by_text c.enter.new.numbers)
-numbered c = subst (λ (all : List (List ℕ)). AreNumbered all (get_by_text c.enter.new.numbers)) (sym (texts c))
+numbered : (c : goal.After-new) → NumbersTexts (bytes_of_all c.push.new.self.items) (get_by_text c.enter.new.numbers)
+numbered c = subst (λ (all : List (List ℕ)). NumbersTexts all (get_by_text c.enter.new.numbers)) (sym (texts c))
     (numbered_more (before c) (get_by_text c.self.inside.numbers) c.self.invariant.2 c.args.text.now
     (get_by_text c.enter.new.numbers) (is_new c) (λ t. c.in-Ok.ensures.entered t
     ∙ ap (λ (n : ℕ). if bytes_eq c.args.text.now t then Some n else get_by_text c.self.inside.numbers t) (number c)))
@@ -81,9 +81,9 @@ pub invariant_of-self-in-Err : goal.invariant_of-self-in-Err
 invariant_of-self-in-Err c = (
   subst (λ (texts : List (String Global)). length texts < 2 ^ 32) (sym (kept c)) c.self.invariant.0,
   subst (λ (texts : List (String Global)). AreUtf8 (bytes_of_all texts)) (sym (kept c)) c.self.invariant.1,
-  subst (λ (texts : List (String Global)). AreNumbered (bytes_of_all texts) (get_by_text c.enter.new.numbers))
+  subst (λ (texts : List (String Global)). NumbersTexts (bytes_of_all texts) (get_by_text c.enter.new.numbers))
       (sym (kept c))
-      (subst (λ (entries : List (String Global × ℕ)). AreNumbered (bytes_of_all c.self.inside.texts.items)
+      (subst (λ (entries : List (String Global × ℕ)). NumbersTexts (bytes_of_all c.self.inside.texts.items)
       (λ t. lookup (λ k. bytes_eq t (string_bytes k)) entries)) (sym c.in-Err.ensures.err) c.self.invariant.2),
 )
 

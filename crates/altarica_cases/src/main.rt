@@ -140,12 +140,23 @@ fn run_line(rt: &HostRuntime, line: &str) -> io::Result<()> {
     run_files(rt, name, [load, put], &words)
 }
 
-fn main(rt: HostRuntime) -> io::Result<()> {
-    let cases = fs::read_to_string(&rt, "cases")?;
+// Runs the cases of the folder.
+fn run_cases(rt: &HostRuntime) -> io::Result<()> {
+    let cases = fs::read_to_string(rt, "cases")?;
     for line in cases.lines() {
-        run_line(&rt, line)?;
+        run_line(rt, line)?;
     }
-    run_limits(&rt)?;
-    run_sinks(&rt)?;
-    run_plants(&rt)
+    Ok(())
+}
+
+// Runs the cases, the limits, the failing sinks and the plants.
+fn run_all(rt: &HostRuntime) -> io::Result<()> {
+    run_cases(rt)?;
+    run_limits(rt)?;
+    run_sinks(rt)?;
+    run_plants(rt)
+}
+
+fn main(rt: HostRuntime) -> io::Result<()> {
+    run_all(&rt)
 }

@@ -5,8 +5,16 @@ ghost use Rattle.flow_blocks.specs.Blocks.{AreBelow};
 
 use crate::no_memory;
 use flow_blocks::{Block, Graph, blocks};
-use std::alloc::Global;
+use std::alloc::{AllocError, Global};
 use std::io;
+
+/// Small graphs, each by the count of its numbers and its uses.
+const GRAPHS: [(u32, &[(u32, u32)]); 4] = [
+    (3, &[(0, 2), (1, 0), (2, 1)]),
+    (2, &[(0, 1)]),
+    (0, &[]),
+    (6, &[(0, 5), (5, 3), (3, 5), (1, 1), (4, 0)]),
+];
 
 // Whether all numbers of the uses are below count.
 fn are_below(count: u32, uses: &[(u32, u32)]) -> bool
@@ -35,34 +43,38 @@ fn found(alloc: Global, count: u32, uses: &[(u32, u32)]) -> io::Result<Vec<Block
 fn show(rt: &HostRuntime, count: u32, uses: &[(u32, u32)]) -> io::Result<()> {
     print!(rt; "classes [")?;
     for (place, block) in found(rt.alloc(), count, uses)?.iter().enumerate() {
-        if place > 0 {
-            print!(rt; ", ")?;
-        }
-        print!(rt; "Block {{ members: {:?} }}", block.members)?;
+        let comma = if place > 0 { ", " } else { "" };
+        print!(rt; "{comma}Block {{ members: {:?} }}", block.members)?;
     }
     println!(rt; "]")
 }
 
-// How many classes and members a chain of numbers has of which each and the next depend on each other.
-fn show_chain(rt: &HostRuntime, count: u32) -> io::Result<()> {
-    let mut uses = Vec::new(rt.alloc());
+// The uses of a chain of numbers, of which each and the next depend on each other.
+fn chain(alloc: Global, count: u32) -> Result<Vec<(u32, u32)>, AllocError> {
+    let mut uses = Vec::new(alloc);
     for number in 1..count {
-        uses.push((number - 1, number))?;
-        uses.push((number, number - 1))?;
+        uses.extend_from_slice(&[(number - 1, number), (number, number - 1)])?;
     }
+    Ok(uses)
+}
+
+// How many members the class of a chain has, where it is one.
+fn show_chain(rt: &HostRuntime, count: u32) -> io::Result<()> {
+    let uses = chain(rt.alloc(), count)?;
     let classes = found(rt.alloc(), count, &uses)?;
-    let members = classes.iter().map(|block| block.members.len()).max();
-    println!(rt;
-        "chain of {count}: {} class, members {members:?}",
-        classes.len()
-    )
+    if let [block] = classes.as_slice() {
+        println!(rt;
+            "chain of {count}: 1 class, members {:?}",
+            Some(block.members.len())
+        )?;
+    }
+    Ok(())
 }
 
 /// Small graphs, and one long class.
 pub fn run(rt: &HostRuntime) -> io::Result<()> {
-    show(rt, 3, &[(0, 2), (1, 0), (2, 1)])?;
-    show(rt, 2, &[(0, 1)])?;
-    show(rt, 0, &[])?;
-    show(rt, 6, &[(0, 5), (5, 3), (3, 5), (1, 1), (4, 0)])?;
+    for (count, uses) in &GRAPHS {
+        show(rt, *count, uses)?;
+    }
     show_chain(rt, 200)
 }

@@ -1,45 +1,54 @@
 //! Values of domains, and clamped arithmetic.
 
-use crate::shown::option_text;
+ghost use Rattle.domains.specs.Domains.{IsDomain};
+
+use crate::shown::OptionText;
 use domains::{Domain, Value, add, multiply, subtract};
 use std::io;
 
-fn run_symbols(rt: &HostRuntime) -> io::Result<()> {
-    let symbols = Domain::Symbols(vec![in rt.alloc(); 7, 2, 5]?);
-    let held = symbols.holds(Value::Symbol(2));
-    let absent = symbols.holds(Value::Symbol(3));
-    let first = symbols.position(Value::Symbol(2));
-    let last = symbols.position(Value::Symbol(7));
-    println!(rt; "symbols 2 {held} 3 {absent} positions {first:?} {last:?}")?;
-    println!(rt;
-        "symbols at 2 {}",
-        option_text(rt.alloc(), symbols.value_at(2))?
-    )
+// Prints the value at a place of a domain.
+fn show_at(rt: &HostRuntime, name: &str, domain: &Domain, place: u32) -> io::Result<()>
+    requires { IsDomain domain.now }
+{
+    println!(rt; "{name} at {place} {}", OptionText(domain.value_at(place)))
 }
 
-fn run_range(rt: &HostRuntime) -> io::Result<()> {
-    let range = Domain::Range(-1, 1);
-    println!(rt; "number 1 {:?}", range.position(Value::Whole(1)))?;
-    println!(rt; "number 2 {:?}", range.position(Value::Whole(2)))?;
+// Which of 2 and 3 are symbols, the positions of 2 and 7, and a value.
+fn show_symbols(rt: &HostRuntime, symbols: &Domain) -> io::Result<()>
+    requires { IsDomain symbols.now }
+{
     println!(rt;
-        "number at 0 {}",
-        option_text(rt.alloc(), range.value_at(0))?
+        "symbols 2 {} 3 {} positions {:?} {:?}",
+        symbols.holds(Value::Symbol(2)),
+        symbols.holds(Value::Symbol(3)),
+        symbols.position(Value::Symbol(2)),
+        symbols.position(Value::Symbol(7))
     )?;
+    show_at(rt, "symbols", symbols, 2)
+}
+
+// The positions of 1 and 2, and two values.
+fn show_numbers(rt: &HostRuntime, range: &Domain) -> io::Result<()>
+    requires { IsDomain range.now }
+{
     println!(rt;
-        "number at 3 {}",
-        option_text(rt.alloc(), range.value_at(3))?
+        "number 1 {:?}\nnumber 2 {:?}",
+        range.position(Value::Whole(1)),
+        range.position(Value::Whole(2))
     )?;
-    println!(rt;
-        "truth at 1 {}",
-        option_text(rt.alloc(), Domain::Boolean.value_at(1))?
-    )
+    show_at(rt, "number", range, 0)?;
+    show_at(rt, "number", range, 3)
 }
 
 /// Positions both ways, and results at the ends of 64 bits.
 pub fn run(rt: &HostRuntime) -> io::Result<()> {
-    run_symbols(rt)?;
-    run_range(rt)?;
-    println!(rt; "sum {}", add(i64::MAX, 1))?;
-    println!(rt; "difference {}", subtract(i64::MIN, 1))?;
-    println!(rt; "product {}", multiply(i64::MIN, -1))
+    show_symbols(rt, &Domain::Symbols(vec![in rt.alloc(); 7, 2, 5]?))?;
+    show_numbers(rt, &Domain::Range(-1, 1))?;
+    show_at(rt, "truth", &Domain::Boolean, 1)?;
+    println!(rt;
+        "sum {}\ndifference {}\nproduct {}",
+        add(i64::MAX, 1),
+        subtract(i64::MIN, 1),
+        multiply(i64::MIN, -1)
+    )
 }

@@ -5,11 +5,14 @@ ghost use Rattle.domains.specs.declared.Value.TheVariants.{Truth};
 ghost use Rattle.typed_expr.specs.declared.expr.ValueKind.TheVariants as kind;
 
 use crate::no_memory;
-use crate::shown::{option_text, value_text, values_text};
+use crate::shown::{ListText, OptionText, ValueText};
+use Operand::{Symbol, Truth, Variable, Whole};
 use domains::Value;
 use std::alloc::{AllocError, Global};
 use std::io;
-use typed_expr::{Env, Expr, Relation, ValueKind, eval_set, eval_total, possible_values, typed};
+use typed_expr::{
+    Env, Expr, Relation, ValueKind, ValueSet, eval_set, eval_total, possible_values, typed,
+};
 
 // The kind and the facts of each variable. Its one value is its first fact, or else false.
 #[derive(Drop)]
@@ -46,42 +49,257 @@ impl Env<u32> for Table {
     }
 }
 
-fn whole(n: i64) -> Expr<u32> {
-    Expr::Constant(Value::Whole(n))
+/// An operand of a case.
+enum Operand {
+    Truth(bool),
+    Whole(i64),
+    Symbol(u32),
+    Variable(u32),
 }
 
-fn truth(b: bool) -> Expr<u32> {
-    Expr::Constant(Value::Truth(b))
+/// What joins operands.
+enum Form {
+    All,
+    Any,
+    Product,
+    Least,
+    Greatest,
+    Count,
 }
 
-fn symbol(n: u32) -> Expr<u32> {
-    Expr::Constant(Value::Symbol(n))
+/// An expression of operands. The bool of a part of a sum is true for plus.
+enum Case {
+    Not(Operand),
+    Compare(Relation, Operand, Operand),
+    Many(Form, &'static [Operand]),
+    Sum(&'static [(bool, Operand)]),
+    Choose(&'static [(Operand, Operand)], Operand),
 }
 
-fn negated(alloc: Global, e: Expr<u32>) -> Result<Expr<u32>, AllocError> {
-    let e = Box::new(alloc, e)?;
-    Ok(Expr::Not(e))
+/// A conjunction and an equality of two variables.
+const YIELDS: [(&str, Case); 2] = [
+    (
+        "a and b",
+        Case::Many(Form::All, &[Variable(0), Variable(1)]),
+    ),
+    (
+        "a == b",
+        Case::Compare(Relation::Equal, Variable(0), Variable(1)),
+    ),
+];
+
+/// Every form, with operands that fit and with some that do not. Of several true cases the first counts, and without
+/// one the last branch does.
+const CASES: [(&str, Case); 36] = [
+    ("not true", Case::Not(Truth(true))),
+    (
+        "true and false",
+        Case::Many(Form::All, &[Truth(true), Truth(false)]),
+    ),
+    (
+        "false or true",
+        Case::Many(Form::Any, &[Truth(false), Truth(true)]),
+    ),
+    ("not 1", Case::Not(Whole(1))),
+    (
+        "true and 1",
+        Case::Many(Form::All, &[Truth(true), Whole(1)]),
+    ),
+    ("1 or nothing", Case::Many(Form::Any, &[Whole(1)])),
+    ("and of nothing", Case::Many(Form::All, &[])),
+    ("or of nothing", Case::Many(Form::Any, &[])),
+    (
+        "true == true",
+        Case::Compare(Relation::Equal, Truth(true), Truth(true)),
+    ),
+    (
+        "1 != 2",
+        Case::Compare(Relation::Differs, Whole(1), Whole(2)),
+    ),
+    ("2 < 2", Case::Compare(Relation::Less, Whole(2), Whole(2))),
+    (
+        "2 <= 2",
+        Case::Compare(Relation::AtMost, Whole(2), Whole(2)),
+    ),
+    ("2 > 2", Case::Compare(Relation::More, Whole(2), Whole(2))),
+    (
+        "2 >= 2",
+        Case::Compare(Relation::AtLeast, Whole(2), Whole(2)),
+    ),
+    (
+        "true == 1",
+        Case::Compare(Relation::Equal, Truth(true), Whole(1)),
+    ),
+    (
+        "1 != A",
+        Case::Compare(Relation::Differs, Whole(1), Symbol(1)),
+    ),
+    (
+        "false < true",
+        Case::Compare(Relation::Less, Truth(false), Truth(true)),
+    ),
+    (
+        "1 <= true",
+        Case::Compare(Relation::AtMost, Whole(1), Truth(true)),
+    ),
+    ("A > B", Case::Compare(Relation::More, Symbol(1), Symbol(2))),
+    (
+        "1 >= true",
+        Case::Compare(Relation::AtLeast, Whole(1), Truth(true)),
+    ),
+    (
+        "MOST + 1 - 1",
+        Case::Sum(&[(true, Whole(i64::MAX)), (true, Whole(1)), (false, Whole(1))]),
+    ),
+    (
+        "MOST * 2 * -1",
+        Case::Many(Form::Product, &[Whole(i64::MAX), Whole(2), Whole(-1)]),
+    ),
+    (
+        "min",
+        Case::Many(Form::Least, &[Whole(3), Whole(-1), Whole(2)]),
+    ),
+    (
+        "max",
+        Case::Many(Form::Greatest, &[Whole(-3), Whole(-1), Whole(-2)]),
+    ),
+    (
+        "count",
+        Case::Many(Form::Count, &[Truth(true), Truth(false), Truth(true)]),
+    ),
+    (
+        "sum with true",
+        Case::Sum(&[(true, Whole(1)), (false, Truth(true))]),
+    ),
+    ("product of true", Case::Many(Form::Product, &[Truth(true)])),
+    (
+        "min with a truth",
+        Case::Many(Form::Least, &[Whole(1), Variable(0)]),
+    ),
+    (
+        "max with a truth",
+        Case::Many(Form::Greatest, &[Truth(true), Whole(1)]),
+    ),
+    (
+        "count with 1",
+        Case::Many(Form::Count, &[Truth(true), Whole(1)]),
+    ),
+    ("sum of nothing", Case::Sum(&[])),
+    (
+        "switch",
+        Case::Choose(
+            &[
+                (Truth(false), Whole(1)),
+                (Truth(true), Whole(2)),
+                (Truth(true), Whole(3)),
+            ],
+            Whole(4),
+        ),
+    ),
+    (
+        "switch",
+        Case::Choose(
+            &[
+                (Truth(false), Whole(1)),
+                (Truth(false), Whole(2)),
+                (Truth(false), Whole(3)),
+            ],
+            Whole(4),
+        ),
+    ),
+    ("switch of nothing", Case::Choose(&[], Whole(4))),
+    ("if 1", Case::Choose(&[(Whole(1), Whole(1))], Whole(4))),
+    (
+        "then true else 4",
+        Case::Choose(&[(Truth(true), Truth(true))], Whole(4)),
+    ),
+];
+
+// An operand alone.
+fn single(operand: &Operand) -> Expr<u32> {
+    match operand {
+        Operand::Truth(truth) => Expr::Constant(Value::Truth(*truth)),
+        Operand::Whole(number) => Expr::Constant(Value::Whole(*number)),
+        Operand::Symbol(symbol) => Expr::Constant(Value::Symbol(*symbol)),
+        Operand::Variable(variable) => Expr::Variable(*variable),
+    }
+}
+
+// Operands in a list.
+fn many(alloc: Global, operands: &[Operand]) -> Result<Vec<Expr<u32>>, AllocError> {
+    let mut list = Vec::new(alloc);
+    for operand in operands {
+        list.push(single(operand))?;
+    }
+    Ok(list)
+}
+
+// The parts of a sum.
+fn parts(alloc: Global, parts: &[(bool, Operand)]) -> Result<Vec<(bool, Expr<u32>)>, AllocError> {
+    let mut list = Vec::new(alloc);
+    for (plus, operand) in parts {
+        list.push((*plus, single(operand)))?;
+    }
+    Ok(list)
+}
+
+// The cases of a choice.
+fn choices(
+    alloc: Global,
+    cases: &[(Operand, Operand)],
+) -> Result<Vec<(Expr<u32>, Expr<u32>)>, AllocError> {
+    let mut list = Vec::new(alloc);
+    for (test, then) in cases {
+        list.push((single(test), single(then)))?;
+    }
+    Ok(list)
+}
+
+// An operand in a box.
+fn boxed(alloc: Global, operand: &Operand) -> Result<Box<Expr<u32>>, AllocError> {
+    Ok(Box::new(alloc, single(operand))?)
 }
 
 fn compare(
     alloc: Global,
     relation: Relation,
-    left: Expr<u32>,
-    right: Expr<u32>,
+    left: &Operand,
+    right: &Operand,
 ) -> Result<Expr<u32>, AllocError> {
-    let left = Box::new(alloc, left)?;
-    let right = Box::new(alloc, right)?;
-    Ok(Expr::Compare(relation, left, right))
+    let left = boxed(alloc, left)?;
+    Ok(Expr::Compare(relation, left, boxed(alloc, right)?))
 }
 
 // A choice with these cases and a last branch.
 fn choose(
     alloc: Global,
-    cases: Vec<(Expr<u32>, Expr<u32>)>,
-    other: Expr<u32>,
+    cases: &[(Operand, Operand)],
+    other: &Operand,
 ) -> Result<Expr<u32>, AllocError> {
-    let other = Box::new(alloc, other)?;
-    Ok(Expr::Choose(cases, other))
+    let other = boxed(alloc, other)?;
+    Ok(Expr::Choose(choices(alloc, cases)?, other))
+}
+
+fn joined(form: &Form, operands: Vec<Expr<u32>>) -> Expr<u32> {
+    match form {
+        Form::All => Expr::All(operands),
+        Form::Any => Expr::Any(operands),
+        Form::Product => Expr::Product(operands),
+        Form::Least => Expr::Least(operands),
+        Form::Greatest => Expr::Greatest(operands),
+        Form::Count => Expr::Count(operands),
+    }
+}
+
+// The expression of a case.
+fn expression(alloc: Global, case: &Case) -> Result<Expr<u32>, AllocError> {
+    match case {
+        Case::Not(operand) => Ok(Expr::Not(boxed(alloc, operand)?)),
+        Case::Compare(relation, left, right) => compare(alloc, *relation, left, right),
+        Case::Many(form, operands) => Ok(joined(form, many(alloc, operands)?)),
+        Case::Sum(summands) => Ok(Expr::Sum(parts(alloc, summands)?)),
+        Case::Choose(cases, other) => choose(alloc, cases, other),
+    }
 }
 
 fn range(alloc: Global, low: i64, high: i64) -> Result<Vec<Value>, AllocError> {
@@ -100,12 +318,6 @@ fn kind_name(kind: ValueKind) -> &'static str {
     }
 }
 
-// The text of the values that an expression yields from the facts of the table.
-fn yielded_text(rt: &HostRuntime, expr: &Expr<u32>, table: &Table) -> io::Result<String> {
-    let yielded = eval_set(rt.alloc(), expr, table).map_err(no_memory)?;
-    Ok(values_text(rt.alloc(), yielded.values())?)
-}
-
 // Prints the kind, the value and the yields of an expression.
 fn show_value(
     rt: &HostRuntime,
@@ -114,19 +326,20 @@ fn show_value(
     expr: &Expr<u32>,
     table: &Table,
 ) -> io::Result<()> {
-    let value = value_text(rt.alloc(), eval_total(expr, table))?;
-    let values = yielded_text(rt, expr, table)?;
-    println!(rt; "{name}: {} {value} {values}", kind_name(kind))
+    let yielded = eval_set(rt.alloc(), expr, table).map_err(no_memory)?;
+    println!(rt;
+        "{name}: {} {} {}",
+        kind_name(kind),
+        ValueText(eval_total(expr, table)),
+        ListText(yielded.values())
+    )
 }
 
-// Prints them of an expression without variables, where it has a kind.
-fn show(rt: &HostRuntime, name: &str, expr: Expr<u32>) -> io::Result<()> {
-    let table = Table {
-        rows: Vec::new(rt.alloc()),
-    };
-    match typed(&expr, &table) {
+// Prints them of an expression, where it has a kind.
+fn show(rt: &HostRuntime, name: &str, expr: &Expr<u32>, table: &Table) -> io::Result<()> {
+    match typed(expr, table) {
         None => println!(rt; "{name}: no kind"),
-        Some(kind) => show_value(rt, name, kind, &expr, &table),
+        Some(kind) => show_value(rt, name, kind, expr, table),
     }
 }
 
@@ -143,21 +356,26 @@ fn two_rows(
     Ok(Table { rows })
 }
 
-// Prints the yields of an expression of two variables, of which the first is false and the second has no fact.
-fn show_yields(rt: &HostRuntime, name: &str, expr: Expr<u32>) -> io::Result<()> {
-    let no = vec![in rt.alloc(); Value::Truth(false)]?;
-    let table = two_rows(rt.alloc(), ValueKind::Truth, no, Vec::new(rt.alloc()))?;
-    let values = yielded_text(rt, &expr, &table)?;
-    println!(rt; "{name}: {values}")
+// A table of two variables, of which the first is false and the second has no fact.
+fn two_truths(alloc: Global) -> Result<Table, AllocError> {
+    let no = vec![in alloc; Value::Truth(false)]?;
+    two_rows(alloc, ValueKind::Truth, no, Vec::new(alloc))
 }
 
-// A conjunction and an equality.
+// Prints the yields of an expression.
+fn show_yields(rt: &HostRuntime, name: &str, expr: &Expr<u32>, table: &Table) -> io::Result<()> {
+    let yielded = eval_set(rt.alloc(), expr, table).map_err(no_memory)?;
+    println!(rt; "{name}: {}", ListText(yielded.values()))
+}
+
+// Prints the yields of a conjunction and of an equality.
 fn show_facts(rt: &HostRuntime) -> io::Result<()> {
-    let alloc = rt.alloc();
-    let variables = vec![in alloc; Expr::Variable(0), Expr::Variable(1)]?;
-    show_yields(rt, "a and b", Expr::All(variables))?;
-    let equal = compare(alloc, Relation::Equal, Expr::Variable(0), Expr::Variable(1))?;
-    show_yields(rt, "a == b", equal)
+    let table = two_truths(rt.alloc())?;
+    for (name, case) in &YIELDS {
+        let expr = expression(rt.alloc(), case)?;
+        show_yields(rt, name, &expr, &table)?;
+    }
+    Ok(())
 }
 
 // A table of two variables, with the numbers from 0 to these.
@@ -169,186 +387,49 @@ fn two_ranges(alloc: Global, first: i64, second: i64) -> Result<Table, AllocErro
 
 // Prints how many values there are, and the first and the last of them.
 fn show_ends(rt: &HostRuntime, high: i64, values: &[Value]) -> io::Result<()> {
-    let least = option_text(rt.alloc(), values.first().copied())?;
-    let most = option_text(rt.alloc(), values.last().copied())?;
-    println!(rt; "sum up to {high}: {} ({least}, {most})", values.len())
+    println!(rt;
+        "sum up to {high}: {} ({}, {})",
+        values.len(),
+        OptionText(values.first().copied()),
+        OptionText(values.last().copied())
+    )
 }
 
-// How many values a sum of two variables may have, of at most 64, and the least and the greatest of them.
-fn show_possible(rt: &HostRuntime, high: i64) -> io::Result<()> {
-    let alloc = rt.alloc();
+// The values that a sum of two variables may have, where these are at most 64.
+fn possible(alloc: Global, high: i64) -> io::Result<Option<ValueSet>> {
+    let sum = expression(
+        alloc,
+        &Case::Sum(&[(true, Variable(0)), (true, Variable(1))]),
+    )?;
     let table = two_ranges(alloc, 31, high)?;
-    let sum = Expr::Sum(vec![in alloc; (true, Expr::Variable(0)), (true, Expr::Variable(1))]?);
-    match possible_values(alloc, &sum, &table, 64).map_err(no_memory)? {
+    possible_values(alloc, &sum, &table, 64).map_err(no_memory)
+}
+
+// How many values these are, and the least and the greatest of them.
+fn show_possible(rt: &HostRuntime, high: i64) -> io::Result<()> {
+    match possible(rt.alloc(), high)? {
         None => println!(rt; "sum up to {high}: more than 64"),
         Some(set) => show_ends(rt, high, set.values()),
     }
 }
 
-fn show_connectives(rt: &HostRuntime) -> io::Result<()> {
-    let alloc = rt.alloc();
-    show(rt, "not true", negated(alloc, truth(true))?)?;
-    show(
-        rt,
-        "true and false",
-        Expr::All(vec![in alloc; truth(true), truth(false)]?),
-    )?;
-    show(
-        rt,
-        "false or true",
-        Expr::Any(vec![in alloc; truth(false), truth(true)]?),
-    )?;
-    show(rt, "not 1", negated(alloc, whole(1))?)?;
-    show(
-        rt,
-        "true and 1",
-        Expr::All(vec![in alloc; truth(true), whole(1)]?),
-    )?;
-    show(rt, "1 or nothing", Expr::Any(vec![in alloc; whole(1)]?))?;
-    show(rt, "and of nothing", Expr::All(Vec::new(alloc)))?;
-    show(rt, "or of nothing", Expr::Any(Vec::new(alloc)))
-}
-
-fn show_comparisons(rt: &HostRuntime) -> io::Result<()> {
-    let alloc = rt.alloc();
-    show(
-        rt,
-        "true == true",
-        compare(alloc, Relation::Equal, truth(true), truth(true))?,
-    )?;
-    show(
-        rt,
-        "1 != 2",
-        compare(alloc, Relation::Differs, whole(1), whole(2))?,
-    )?;
-    show(
-        rt,
-        "2 < 2",
-        compare(alloc, Relation::Less, whole(2), whole(2))?,
-    )?;
-    show(
-        rt,
-        "2 <= 2",
-        compare(alloc, Relation::AtMost, whole(2), whole(2))?,
-    )?;
-    show(
-        rt,
-        "2 > 2",
-        compare(alloc, Relation::More, whole(2), whole(2))?,
-    )?;
-    show(
-        rt,
-        "2 >= 2",
-        compare(alloc, Relation::AtLeast, whole(2), whole(2))?,
-    )?;
-    show(
-        rt,
-        "true == 1",
-        compare(alloc, Relation::Equal, truth(true), whole(1))?,
-    )?;
-    show(
-        rt,
-        "1 != A",
-        compare(alloc, Relation::Differs, whole(1), symbol(1))?,
-    )?;
-    show(
-        rt,
-        "false < true",
-        compare(alloc, Relation::Less, truth(false), truth(true))?,
-    )?;
-    show(
-        rt,
-        "1 <= true",
-        compare(alloc, Relation::AtMost, whole(1), truth(true))?,
-    )?;
-    show(
-        rt,
-        "A > B",
-        compare(alloc, Relation::More, symbol(1), symbol(2))?,
-    )?;
-    show(
-        rt,
-        "1 >= true",
-        compare(alloc, Relation::AtLeast, whole(1), truth(true))?,
-    )
-}
-
-fn show_numbers(rt: &HostRuntime) -> io::Result<()> {
-    let alloc = rt.alloc();
-    let most = i64::MAX;
-    let sum = vec![in alloc; (true, whole(most)), (true, whole(1)), (false, whole(1))]?;
-    show(rt, "MOST + 1 - 1", Expr::Sum(sum))?;
-    let product = vec![in alloc; whole(most), whole(2), whole(-1)]?;
-    show(rt, "MOST * 2 * -1", Expr::Product(product))?;
-    show(
-        rt,
-        "min",
-        Expr::Least(vec![in alloc; whole(3), whole(-1), whole(2)]?),
-    )?;
-    show(
-        rt,
-        "max",
-        Expr::Greatest(vec![in alloc; whole(-3), whole(-1), whole(-2)]?),
-    )?;
-    let some = vec![in alloc; truth(true), truth(false), truth(true)]?;
-    show(rt, "count", Expr::Count(some))?;
-    show(
-        rt,
-        "sum with true",
-        Expr::Sum(vec![in alloc; (true, whole(1)), (false, truth(true))]?),
-    )?;
-    show(
-        rt,
-        "product of true",
-        Expr::Product(vec![in alloc; truth(true)]?),
-    )?;
-    show(
-        rt,
-        "min with a truth",
-        Expr::Least(vec![in alloc; whole(1), Expr::Variable(0)]?),
-    )?;
-    show(
-        rt,
-        "max with a truth",
-        Expr::Greatest(vec![in alloc; truth(true), whole(1)]?),
-    )?;
-    show(
-        rt,
-        "count with 1",
-        Expr::Count(vec![in alloc; truth(true), whole(1)]?),
-    )?;
-    show(rt, "sum of nothing", Expr::Sum(Vec::new(alloc)))
-}
-
-// Of several true cases the first counts, and without one the last branch does.
-fn show_choices(rt: &HostRuntime) -> io::Result<()> {
-    let alloc = rt.alloc();
-    for taken in [true, false] {
-        let cases = vec![in alloc;
-            (truth(false), whole(1)),
-            (truth(taken), whole(2)),
-            (truth(taken), whole(3)),
-        ]?;
-        show(rt, "switch", choose(alloc, cases, whole(4))?)?;
+// Prints the kind, the value and the yields of every form.
+fn show_forms(rt: &HostRuntime) -> io::Result<()> {
+    let table = Table {
+        rows: Vec::new(rt.alloc()),
+    };
+    for (name, case) in &CASES {
+        let expr = expression(rt.alloc(), case)?;
+        show(rt, name, &expr, &table)?;
     }
-    show(
-        rt,
-        "switch of nothing",
-        choose(alloc, Vec::new(alloc), whole(4))?,
-    )?;
-    let cases = vec![in alloc; (whole(1), whole(1))]?;
-    show(rt, "if 1", choose(alloc, cases, whole(4))?)?;
-    let cases = vec![in alloc; (truth(true), truth(true))]?;
-    show(rt, "then true else 4", choose(alloc, cases, whole(4))?)
+    Ok(())
 }
 
 /// Facts, possible values, and every form at constants.
 pub fn run(rt: &HostRuntime) -> io::Result<()> {
     show_facts(rt)?;
-    show_possible(rt, 33)?;
-    show_possible(rt, 32)?;
-    show_connectives(rt)?;
-    show_comparisons(rt)?;
-    show_numbers(rt)?;
-    show_choices(rt)
+    for high in [33, 32] {
+        show_possible(rt, high)?;
+    }
+    show_forms(rt)
 }

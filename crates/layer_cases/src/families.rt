@@ -10,6 +10,27 @@ use std::io;
 use zdd_nodes::{NodeFault, NodeId, Store};
 use zdd_ops::Ops;
 
+/// An operation on families.
+#[derive(Clone, Copy)]
+enum Operation {
+    Union,
+    Meet,
+    Minus,
+    Without,
+    Minimal,
+    Having,
+}
+
+/// All of them.
+const OPERATIONS: [Operation; 6] = [
+    Operation::Union,
+    Operation::Meet,
+    Operation::Minus,
+    Operation::Without,
+    Operation::Minimal,
+    Operation::Having,
+];
+
 // Whether the number is one of the store's.
 fn is_in(ops: &Ops, n: NodeId) -> bool
     ensures { IsTrue result → IsNumber ops.now n.n }
@@ -40,18 +61,20 @@ fn node(ops: &mut Ops, event: u32, lo: NodeId, hi: NodeId) -> Option<NodeId> {
     ops.node(event, lo, hi).ok()
 }
 
-// Every operation on two families, of which the first is given to the operations of one.
-fn results(ops: &mut Ops, f: NodeId, g: NodeId, event: u32) -> Option<[NodeId; 6]> {
+// What the operation gives for two families, of which the first is given to the operations of one.
+fn result(ops: &mut Ops, operation: Operation, f: NodeId, g: NodeId, event: u32) -> Option<NodeId> {
     if !is_in(ops, f) || !is_in(ops, g) {
         return None;
     }
-    let union = ops.union(f, g).ok()?;
-    let meet = ops.meet(f, g).ok()?;
-    let minus = ops.minus(f, g).ok()?;
-    let without = ops.without(f, g).ok()?;
-    let minimal = ops.minimal(f).ok()?;
-    let having = ops.having(f, EventId::new(event)).ok()?;
-    Some([union, meet, minus, without, minimal, having])
+    let made = match operation {
+        Operation::Union => ops.union(f, g),
+        Operation::Meet => ops.meet(f, g),
+        Operation::Minus => ops.minus(f, g),
+        Operation::Without => ops.without(f, g),
+        Operation::Minimal => ops.minimal(f),
+        Operation::Having => ops.having(f, EventId::new(event)),
+    };
+    made.ok()
 }
 
 // The text of a number of a node, or of its refusal.
@@ -99,47 +122,47 @@ fn worked(ops: &mut Ops) -> Option<[bool; 6]> {
     let one = node(ops, 1, none, unit)?;
     let both = node(ops, 0, lo, one)?;
     let least = node(ops, 0, lo, unit)?;
-    let found = results(ops, f, g, 1)?;
-    Some([
-        found[0] == f,
-        found[1] == g,
-        found[2] == both,
-        found[3] == lo,
-        found[4] == least,
-        found[5] == both,
-    ])
+    let wanted = [f, g, both, lo, least, both];
+    let mut holds = [false; 6];
+    for place in 0..6 {
+        holds[place] = result(ops, OPERATIONS[place], f, g, 1) == Some(wanted[place]);
+    }
+    Some(holds)
 }
 
 // A set of the events 0, 1 and 2 is a number below 8, and a family is a mask over these.
 
-// The sets of the mask that pass.
-fn kept<P: Fn(u32) -> bool>(f: u32, passes: P) -> u32
-    requires { P.IsAlwaysCallable passes }
-{
-    let mut left = 0;
-    for set in 0..8u32 {
-        if f >> set & 1 == 1 && passes(set) {
-            left |= 1 << set;
-        }
-    }
-    left
+// Whether the family has the set.
+fn has(family: u32, set: u32) -> bool {
+    family.wrapping_shr(set) & 1 == 1
 }
 
 // Whether the family has a set that lies within this one and, where `proper`, is another.
-fn has_within(g: u32, set: u32, proper: bool) -> bool {
-    (0..8u32).any(|other| g >> other & 1 == 1 && other & set == other && !(proper && other == set))
+fn has_within(family: u32, set: u32, proper: bool) -> bool {
+    (0..8u32).any(|other| has(family, other) && other & set == other && !(proper && other == set))
 }
 
-// What the operations give, as masks.
-fn masks(f: u32, g: u32, event: u32) -> [u32; 6] {
-    [
-        f | g,
-        f & g,
-        f & !g,
-        kept(f, |set| !has_within(g, set, false)),
-        kept(f, |set| !has_within(f, set, true)),
-        kept(f, |set| set >> (2 - event % 3) & 1 == 1),
-    ]
+// Whether the set is in what the operation gives.
+fn is_given(operation: Operation, f: u32, g: u32, event: u32, set: u32) -> bool {
+    match operation {
+        Operation::Union => has(f, set) || has(g, set),
+        Operation::Meet => has(f, set) && has(g, set),
+        Operation::Minus => has(f, set) && !has(g, set),
+        Operation::Without => has(f, set) && !has_within(g, set, false),
+        Operation::Minimal => has(f, set) && !has_within(f, set, true),
+        Operation::Having => has(f, set) && has(set, 2 - event % 3),
+    }
+}
+
+// What the operation gives, as a mask.
+fn mask(operation: Operation, f: u32, g: u32, event: u32) -> u32 {
+    let mut family = 0;
+    for set in 0..8u32 {
+        if is_given(operation, f, g, event, set) {
+            family |= 1 << set;
+        }
+    }
+    family
 }
 
 // The families that are made of each two of these halves by the event, in order.
@@ -169,29 +192,34 @@ fn all_families(rt: &HostRuntime, ops: &mut Ops) -> io::Result<Vec<NodeId>> {
     Ok(families)
 }
 
-// How many of the results are the families of these masks.
-fn agreeing(families: &[NodeId], found: &[NodeId; 6], wanted: &[u32; 6]) -> u64 {
+// How many operations give the family of their mask, for the families of these two masks and one event.
+fn agreeing(ops: &mut Ops, families: &[NodeId], f: u32, g: u32, event: u32) -> Option<u64> {
+    let (first, second) = (*families.get(f as usize)?, *families.get(g as usize)?);
     let mut count: u64 = 0;
-    for place in 0..6 {
-        let agrees = families.get(wanted[place] as usize) == Some(&found[place]);
+    for operation in OPERATIONS {
+        let wanted = *families.get(mask(operation, f, g, event) as usize)?;
+        let agrees = result(ops, operation, first, second, event) == Some(wanted);
         count = count.wrapping_add(u64::from(agrees));
     }
-    count
+    Some(count)
+}
+
+// How many results are those of the masks, of every operation on all pairs of families.
+fn agreeing_pairs(ops: &mut Ops, families: &[NodeId]) -> u64 {
+    let mut agreed: u64 = 0;
+    for f in 0..256u32 {
+        for g in 0..256u32 {
+            agreed = agreed.wrapping_add(agreeing(ops, families, f, g, g % 3).unwrap_or(0));
+        }
+    }
+    agreed
 }
 
 // Every operation on all pairs of families over three events, compared with the same on masks.
 fn show_all(rt: &HostRuntime) -> io::Result<()> {
     let mut ops = Ops::new(rt.alloc(), 254);
     let families = all_families(rt, &mut ops)?;
-    let mut agreed: u64 = 0;
-    for (f, first) in (0..256u32).zip(&families) {
-        for (g, second) in (0..256u32).zip(&families) {
-            if let Some(found) = results(&mut ops, *first, *second, g % 3) {
-                let more = agreeing(&families, &found, &masks(f, g, g % 3));
-                agreed = agreed.wrapping_add(more);
-            }
-        }
-    }
+    let agreed = agreeing_pairs(&mut ops, &families);
     println!(rt;
         "families {} results {agreed} nodes {}",
         families.len(),

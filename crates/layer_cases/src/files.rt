@@ -23,20 +23,32 @@ fn own_path(rt: &HostRuntime) -> io::Result<String> {
     Ok(format!(in rt.alloc(); "/tmp/layer_cases_{}", now.as_nanos())?)
 }
 
+// Prints what a shelf of files loads from a path with a limit.
+fn show(rt: &HostRuntime, name: &str, path: &str, limit: u32) -> io::Result<()> {
+    let loaded = FileShelf::new(rt).load(rt.alloc(), path, limit as usize);
+    println!(rt; "{name}: {}", shown(&loaded))
+}
+
+// The same of a file of ten bytes, within the limit and past it.
+fn show_ten(rt: &HostRuntime, path: &str) -> io::Result<()> {
+    show(rt, "ten bytes of ten", path, 10)?;
+    show(rt, "ten bytes of nine", path, 9)
+}
+
+// The same where there is no file and then where there is one.
+fn show_file(rt: &HostRuntime, path: &str) -> io::Result<()> {
+    show(rt, "no file", path, 10)?;
+    fs::write(rt, path, "0123456789")?;
+    let shown = show_ten(rt, path);
+    fs::remove_file(rt, path)?;
+    shown
+}
+
 /// How the shelf of files answers where there is no file, for one of ten bytes within the limit and past it, and for a
 /// folder; then a line by the sink of standard output.
 pub fn run(rt: &HostRuntime) -> io::Result<()> {
-    let alloc = rt.alloc();
-    let path = own_path(rt)?;
-    let mut shelf = FileShelf::new(rt);
-    println!(rt; "no file: {}", shown(&shelf.load(alloc, path.as_str(), 10)))?;
-    fs::write(rt, path.as_str(), "0123456789")?;
-    let whole = shelf.load(alloc, path.as_str(), 10);
-    let long = shelf.load(alloc, path.as_str(), 9);
-    fs::remove_file(rt, path.as_str())?;
-    println!(rt; "ten bytes of ten: {}", shown(&whole))?;
-    println!(rt; "ten bytes of nine: {}", shown(&long))?;
-    println!(rt; "a folder: {}", shown(&shelf.load(alloc, "/tmp", 10)))?;
+    show_file(rt, own_path(rt)?.as_str())?;
+    show(rt, "a folder", "/tmp", 10)?;
     let written = StdSink::new(rt).put(b"written to standard output\n");
     println!(rt; "written: {}", written.is_ok())
 }

@@ -32,11 +32,11 @@ fn show_job(rt: &HostRuntime, line: &str, job: &Job) -> io::Result<()> {
     let model = job.model.as_str();
     let (script, main, observer) = (shown(&job.script), shown(&job.main), shown(&job.observer));
     let (value, dropped) = (shown(&job.value), shown(&job.dropped));
-    println!(rt; "{line} => {}", verb_name(job.command))?;
-    println!(rt; "  files [{model}] [{script}] main [{main}] observer [{observer}]")?;
     println!(rt;
-        "  value [{value}] drop [{dropped}] nodes {} number {}",
-        job.nodes, job.number
+        "{line} => {}\n  files [{model}] [{script}] main [{main}] observer [{observer}]\n  value [{value}] drop [{dropped}] nodes {} number {}",
+        verb_name(job.command),
+        job.nodes,
+        job.number
     )
 }
 

@@ -20,14 +20,18 @@ pub(crate) fn no_memory(_memory: Memory) -> io::Error {
     io::Error::from(io::ErrorKind::OutOfMemory)
 }
 
+fn run(rt: &HostRuntime) -> io::Result<()> {
+    names::run(rt)?;
+    rows::run(rt)?;
+    domain_values::run(rt)?;
+    expressions::run(rt)?;
+    classes::run(rt)?;
+    families::run(rt)?;
+    table_texts::run(rt)?;
+    files::run(rt)?;
+    jobs::run(rt)
+}
+
 fn main(rt: HostRuntime) -> io::Result<()> {
-    names::run(&rt)?;
-    rows::run(&rt)?;
-    domain_values::run(&rt)?;
-    expressions::run(&rt)?;
-    classes::run(&rt)?;
-    families::run(&rt)?;
-    table_texts::run(&rt)?;
-    files::run(&rt)?;
-    jobs::run(&rt)
+    run(&rt)
 }

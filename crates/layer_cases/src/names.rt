@@ -10,9 +10,7 @@ pub fn run(rt: &HostRuntime) -> io::Result<()> {
     let first = names.intern("a").map_err(no_memory)?.n;
     let second = names.intern("b").map_err(no_memory)?.n;
     let again = names.intern("a").map_err(no_memory)?.n;
-    println!(rt; "name a {first}")?;
-    println!(rt; "name b {second}")?;
-    println!(rt; "name a {again}")?;
+    println!(rt; "name a {first}\nname b {second}\nname a {again}")?;
     match names.find("c") {
         Some(number) => println!(rt; "name c {}", number.n),
         None => println!(rt; "name c has none"),

@@ -1,34 +1,47 @@
 //! The texts of values.
 
 use domains::Value;
-use std::alloc::{AllocError, Global};
+use std::fmt;
+use std::fmt::Display;
 
-/// The text of a value.
-pub fn value_text(alloc: Global, value: Value) -> Result<String, AllocError> {
-    match value {
-        Value::Truth(truth) => format!(in alloc; "Truth({truth})"),
-        Value::Whole(number) => format!(in alloc; "Whole({number})"),
-        Value::Symbol(symbol) => format!(in alloc; "Symbol({symbol})"),
-    }
-}
+/// A value, by its kind.
+#[derive(Clone, Copy)]
+pub(crate) struct ValueText(pub(crate) Value);
 
-/// The text of a value, where there is one.
-pub fn option_text(alloc: Global, value: Option<Value>) -> Result<String, AllocError> {
-    match value {
-        None => String::from_str(alloc, "None"),
-        Some(value) => format!(in alloc; "Some({})", value_text(alloc, value)?),
-    }
-}
-
-/// The text of a list of values.
-pub fn values_text(alloc: Global, values: &[Value]) -> Result<String, AllocError> {
-    let mut text = String::from_str(alloc, "[")?;
-    for (place, value) in values.iter().enumerate() {
-        if place > 0 {
-            text.push_str(", ")?;
+impl Display for ValueText {
+    fn fmt<W: fmt::Write>(&self, f: &mut fmt::Formatter<W>) -> fmt::Result {
+        match self.0 {
+            Value::Truth(truth) => write!(f, "Truth({truth})"),
+            Value::Whole(number) => write!(f, "Whole({number})"),
+            Value::Symbol(symbol) => write!(f, "Symbol({symbol})"),
         }
-        text.push_str(value_text(alloc, *value)?.as_str())?;
     }
-    text.push_str("]")?;
-    Ok(text)
+}
+
+/// A value, where there is one.
+#[derive(Clone, Copy)]
+pub(crate) struct OptionText(pub(crate) Option<Value>);
+
+impl Display for OptionText {
+    fn fmt<W: fmt::Write>(&self, f: &mut fmt::Formatter<W>) -> fmt::Result {
+        match self.0 {
+            None => write!(f, "None"),
+            Some(value) => write!(f, "Some({})", ValueText(value)),
+        }
+    }
+}
+
+/// A list of values.
+#[derive(Clone, Copy)]
+pub(crate) struct ListText<'a>(pub(crate) &'a [Value]);
+
+impl<'a> Display for ListText<'a> {
+    fn fmt<W: fmt::Write>(&self, f: &mut fmt::Formatter<W>) -> fmt::Result {
+        write!(f, "[")?;
+        for (place, value) in self.0.iter().enumerate() {
+            let comma = if place > 0 { ", " } else { "" };
+            write!(f, "{comma}{}", ValueText(*value))?;
+        }
+        write!(f, "]")
+    }
 }

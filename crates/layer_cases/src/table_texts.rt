@@ -9,6 +9,32 @@ use aralia_text::{AraliaFault, read};
 use std::alloc::Global;
 use std::io;
 
+/// The names of events, and a text over them: a table, texts that go wrong in the line of a gate, and texts that go
+/// wrong in the two last lines.
+const CASES: [(&[&str], &str); 18] = [
+    (
+        &["die", "wear"],
+        "g1 := e.wear & -e.die;\ng2 := -e.wear | g1;\nconflict := false;\ntop := e.die;\n",
+    ),
+    (&["die", "wear"], ""),
+    (&["a"], "g1 :=  e.a & e.a;\n"),
+    (&["a"], "g2 := e.a & e.a;\n"),
+    (&["a"], "g1 := e.a & e.a;\ng2 := g1 & g2;\n"),
+    (&["a"], "g1 := e.a & e.a;\ng2 := g01 & g1;\n"),
+    (&["a"], "g1 := e.a;\n"),
+    (&["a"], "g1 := e.a & e.a | e.a;\n"),
+    (&["a"], "g1 := true & e.a;\n"),
+    (&[], "g1 := e.a & e.a;\n"),
+    (&["pump", "pipe"], "conflict := e.pumq;\n"),
+    (&["ab"], "conflict := e.a;\n"),
+    (&["a b"], "conflict := e.a b;\n"),
+    (&[], "conflict := -true;\n"),
+    (&["a"], "conflict := -true;\n"),
+    (&["a"], "conflict := true;\ntop := tr"),
+    (&["a"], "conflict := true;\ntop := false;\n\n"),
+    (&["a"], ""),
+];
+
 fn texts_of(alloc: Global, events: &[&str]) -> io::Result<Vec<Text>> {
     let mut texts = Vec::new(alloc);
     for event in events {
@@ -44,38 +70,10 @@ fn show(rt: &HostRuntime, events: &[&str], text: &str) -> io::Result<()> {
     }
 }
 
-// Texts that go wrong in the line of a gate.
-fn show_gates(rt: &HostRuntime) -> io::Result<()> {
-    show(rt, &["a"], "g1 :=  e.a & e.a;\n")?;
-    show(rt, &["a"], "g2 := e.a & e.a;\n")?;
-    show(rt, &["a"], "g1 := e.a & e.a;\ng2 := g1 & g2;\n")?;
-    show(rt, &["a"], "g1 := e.a & e.a;\ng2 := g01 & g1;\n")?;
-    show(rt, &["a"], "g1 := e.a;\n")?;
-    show(rt, &["a"], "g1 := e.a & e.a | e.a;\n")?;
-    show(rt, &["a"], "g1 := true & e.a;\n")?;
-    show(rt, &[], "g1 := e.a & e.a;\n")
-}
-
-// Texts that go wrong in the two last lines.
-fn show_last(rt: &HostRuntime) -> io::Result<()> {
-    show(rt, &["pump", "pipe"], "conflict := e.pumq;\n")?;
-    show(rt, &["ab"], "conflict := e.a;\n")?;
-    show(rt, &["a b"], "conflict := e.a b;\n")?;
-    show(rt, &[], "conflict := -true;\n")?;
-    show(rt, &["a"], "conflict := -true;\n")?;
-    show(rt, &["a"], "conflict := true;\ntop := tr")?;
-    show(rt, &["a"], "conflict := true;\ntop := false;\n\n")?;
-    show(rt, &["a"], "")
-}
-
 /// Reads a text of a table, and texts of none.
 pub fn run(rt: &HostRuntime) -> io::Result<()> {
-    show(
-        rt,
-        &["die", "wear"],
-        "g1 := e.wear & -e.die;\ng2 := -e.wear | g1;\nconflict := false;\ntop := e.die;\n",
-    )?;
-    show(rt, &["die", "wear"], "")?;
-    show_gates(rt)?;
-    show_last(rt)
+    for (events, text) in &CASES {
+        show(rt, events, text)?;
+    }
+    Ok(())
 }

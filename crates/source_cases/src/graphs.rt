@@ -2,9 +2,8 @@
 //! to nine names of types also those that have both. The program must say that a body contains itself exactly where the graph says so, and show the first type name from which
 //! the body that has it is reached again.
 
+use crate::refused::{Refusal, table_of};
 use ar_base::{Place, RuleFault};
-use ar_parser::parse;
-use class_table::table;
 use std::alloc::{AllocError, Global};
 use std::io;
 
@@ -17,9 +16,6 @@ const LAYOUTS: [&str; 22] = [
 
 /// The most names of types for which the graphs with `extends` and instances side by side are made too.
 const MOST_MIXED: usize = 9;
-
-/// The room for a text, in bytes.
-const ROOM: usize = 65_536;
 
 /// The column of the type in ` extends A;`.
 const EXTENDED: u32 = 10;
@@ -58,41 +54,53 @@ struct Standing {
     owner: Option<char>,
 }
 
-// A text, and the first type name from which the body that has it is reached again.
+// Bodies and cells of a layout.
 #[derive(Drop)]
-struct Made {
-    text: String,
-    breach: Option<Place>,
+struct Graph {
+    bodies: Vec<Standing>,
+    cells: Vec<Cell>,
 }
 
 /// Prints for each layout and each choice of edges how many graphs there are, in how many a body contains itself, and
 /// for how many the program says otherwise.
 pub fn print_graphs(rt: &HostRuntime) -> io::Result<()> {
     for layout in &LAYOUTS {
-        print_layout(rt, layout, Edges::Extends)?;
-        print_layout(rt, layout, Edges::Instances)?;
-        print_layout(rt, layout, Edges::Both)?;
+        for edges in [Edges::Extends, Edges::Instances, Edges::Both] {
+            print_layout(rt, layout, edges)?;
+        }
     }
     Ok(())
 }
 
 fn print_layout(rt: &HostRuntime, layout: &str, edges: Edges) -> io::Result<()> {
-    let bodies = bodies_of(rt.alloc(), layout)?;
-    let mut cells = cells_of(rt.alloc(), &bodies)?;
-    if matches!(edges, Edges::Both) && cells.len() > MOST_MIXED {
+    let mut graph = graph_of(rt.alloc(), layout)?;
+    if matches!(edges, Edges::Both) && graph.cells.len() > MOST_MIXED {
         return Ok(());
     }
-    let mut breaches = 0u64;
-    let mut wrong = 0u64;
-    let count = graphs_of(cells.len(), edges);
-    for _ in 0..count {
-        let made = made_of(rt.alloc(), layout, &bodies, &cells)?;
-        breaches = breaches.saturating_add(u64::from(made.breach.is_some()));
-        wrong = wrong.saturating_add(u64::from(!is_right(rt.alloc(), &made)));
-        advance(&mut cells, edges);
-    }
+    let count = graphs_of(graph.cells.len(), edges);
+    let (breaches, wrong) = tried(rt.alloc(), layout, &mut graph, edges, count)?;
     let kind = name_of(edges);
     println!(rt; "{layout} {kind}: {count} graphs, {breaches} with a breach, {wrong} wrong")
+}
+
+// In how many of so many graphs a body contains itself, and for how many the program says otherwise.
+fn tried(
+    alloc: Global,
+    layout: &str,
+    graph: &mut Graph,
+    edges: Edges,
+    count: u32,
+) -> Result<(u64, u64), AllocError> {
+    let mut breaches = 0u64;
+    let mut wrong = 0u64;
+    for _ in 0..count {
+        let text = text_of(alloc, layout, &graph.cells)?;
+        let breach = breach_of(layout, graph);
+        breaches = breaches.saturating_add(u64::from(breach.is_some()));
+        wrong = wrong.saturating_add(u64::from(!is_right(told(alloc, text.as_str()), breach)));
+        advance(&mut graph.cells, edges);
+    }
+    Ok((breaches, wrong))
 }
 
 fn name_of(edges: Edges) -> &'static str {
@@ -103,20 +111,31 @@ fn name_of(edges: Edges) -> &'static str {
     }
 }
 
+// The body in which this one stands: the last one before it that does not end before it.
+fn owner_of(layout: &str, body: char) -> Option<char> {
+    let (before, _) = layout.split_once(body)?;
+    let mut ended = 0u32;
+    for letter in before.chars().rev() {
+        if letter == ')' {
+            ended = ended.saturating_add(1);
+        } else if ended == 0 {
+            return Some(letter);
+        } else {
+            ended -= 1;
+        }
+    }
+    None
+}
+
 // The bodies in the order of their letters, each with the one in which it stands.
 fn bodies_of(alloc: Global, layout: &str) -> Result<Vec<Standing>, AllocError> {
-    let mut open: Vec<char> = Vec::new(alloc);
     let mut bodies = Vec::new(alloc);
-    for letter in layout.chars() {
-        if letter == ')' {
-            open.pop();
-        } else {
-            let owner = open.last().copied();
+    for body in layout.chars() {
+        if body != ')' {
             bodies.push(Standing {
-                body: letter,
-                owner,
+                body,
+                owner: owner_of(layout, body),
             })?;
-            open.push(letter)?;
         }
     }
     Ok(bodies)
@@ -137,6 +156,13 @@ fn cells_of(alloc: Global, bodies: &[Standing]) -> Result<Vec<Cell>, AllocError>
         }
     }
     Ok(cells)
+}
+
+// The first graph of a layout, without edges.
+fn graph_of(alloc: Global, layout: &str) -> Result<Graph, AllocError> {
+    let bodies = bodies_of(alloc, layout)?;
+    let cells = cells_of(alloc, &bodies)?;
+    Ok(Graph { bodies, cells })
 }
 
 // How many graphs there are.
@@ -171,131 +197,119 @@ fn next_edge(edge: Edge, edges: Edges) -> Edge {
 }
 
 // The model of a graph, a type name a line.
-fn made_of(
-    alloc: Global,
-    layout: &str,
-    bodies: &[Standing],
-    cells: &[Cell],
-) -> Result<Made, AllocError> {
-    let mut made = Made {
-        text: String::from_str(alloc, "block Z\nend\n")?,
-        breach: None,
-    };
-    let mut line = 3u32;
+fn text_of(alloc: Global, layout: &str, cells: &[Cell]) -> Result<String, AllocError> {
+    let mut text = String::from_str(alloc, "block Z\nend\n")?;
     for letter in layout.chars() {
-        if letter == ')' {
-            made.text.push_str("end\n")?;
-            line = line.saturating_add(1);
-        } else {
-            line = put_body(alloc, &mut made, line, letter, bodies, cells)?;
-        }
+        put_letter(&mut text, letter, cells)?;
     }
-    Ok(made)
+    Ok(text)
 }
 
-// Puts the head of a body and its type names behind the text, from this line on; answers the line behind them.
-fn put_body(
-    alloc: Global,
-    made: &mut Made,
-    line: u32,
-    body: char,
-    bodies: &[Standing],
-    cells: &[Cell],
-) -> Result<u32, AllocError> {
-    let kind = if body.is_ascii_uppercase() {
-        "class"
+// Puts the head of a body and its type names behind the text, or the end of one.
+fn put_letter(text: &mut String, letter: char, cells: &[Cell]) -> Result<(), AllocError> {
+    if letter == ')' {
+        return text.push_str("end\n");
+    }
+    text.push_str(if letter.is_ascii_uppercase() {
+        "class "
     } else {
-        "block"
-    };
-    let head = format!(in alloc; "{kind} {body}\n")?;
-    made.text.push_str(&head)?;
-    let mut line = line.saturating_add(1);
+        "block "
+    })?;
+    text.push(letter)?;
     for cell in cells {
-        if cell.from == body && !matches!(cell.edge, Edge::Absent) {
-            let column = put_edge(alloc, &mut made.text, cell)?;
-            if made.breach.is_none() && reaches(alloc, bodies, cells, cell.to, body)? {
-                made.breach = Some(Place { line, column });
-            }
-            line = line.saturating_add(1);
+        if cell.from == letter && !matches!(cell.edge, Edge::Absent) {
+            put_edge(text, cell)?;
         }
     }
-    Ok(line)
+    text.push_str("\n")
 }
 
-// Puts the line of an edge; answers the column of the type in it.
-fn put_edge(alloc: Global, text: &mut String, cell: &Cell) -> Result<u32, AllocError> {
-    let from = cell.from;
-    let to = cell.to;
-    match cell.edge {
-        Edge::Extends => {
-            let line = format!(in alloc; " extends {to};\n")?;
-            text.push_str(&line)?;
-            Ok(EXTENDED)
-        }
-        _ => {
-            let line = format!(in alloc; " {to} of{from}{to};\n")?;
-            text.push_str(&line)?;
-            Ok(DECLARED)
+// Puts the line of an edge behind the end of the line before.
+fn put_edge(text: &mut String, cell: &Cell) -> Result<(), AllocError> {
+    let is_instance = matches!(cell.edge, Edge::Instance);
+    text.push_str(if is_instance { "\n " } else { "\n extends " })?;
+    text.push(cell.to)?;
+    if is_instance {
+        text.push_str(" of")?;
+        text.push(cell.from)?;
+        text.push(cell.to)?;
+    }
+    text.push(';')
+}
+
+// The first type name from which the body that has it is reached again.
+fn breach_of(layout: &str, graph: &Graph) -> Option<Place> {
+    let mut line = 2u32;
+    for letter in layout.chars() {
+        line = line.saturating_add(1);
+        for cell in &graph.cells {
+            if cell.from == letter && !matches!(cell.edge, Edge::Absent) {
+                line = line.saturating_add(1);
+                if reaches(graph, cell.to, letter) {
+                    let column = column_of(cell.edge);
+                    return Some(Place { line, column });
+                }
+            }
         }
     }
+    None
+}
+
+// The column of the type in the line of an edge.
+fn column_of(edge: Edge) -> u32 {
+    match edge {
+        Edge::Extends => EXTENDED,
+        _ => DECLARED,
+    }
+}
+
+// The set of one body.
+fn set_of(body: char) -> u32 {
+    1u32.wrapping_shl(u32::from(body))
 }
 
 // Whether one body is the other, or contains it through any number of bodies.
-fn reaches(
-    alloc: Global,
-    bodies: &[Standing],
-    cells: &[Cell],
-    from: char,
-    to: char,
-) -> Result<bool, AllocError> {
-    let mut seen = Vec::new(alloc);
-    seen.push(from)?;
-    for _ in bodies {
-        for standing in bodies {
-            if let Some(owner) = standing.owner {
-                see(&mut seen, owner, standing.body)?;
-            }
-        }
-        for cell in cells {
-            if !matches!(cell.edge, Edge::Absent) {
-                see(&mut seen, cell.from, cell.to)?;
+fn reaches(graph: &Graph, from: char, to: char) -> bool {
+    let mut seen = set_of(from);
+    for _ in &graph.bodies {
+        seen = seen | contained(graph, seen);
+    }
+    seen & set_of(to) != 0
+}
+
+// The bodies that one of these contains.
+fn contained(graph: &Graph, seen: u32) -> u32 {
+    let mut next = 0u32;
+    for standing in &graph.bodies {
+        if let Some(owner) = standing.owner {
+            if seen & set_of(owner) != 0 {
+                next = next | set_of(standing.body);
             }
         }
     }
-    Ok(has(&seen, to))
-}
-
-// Adds a body where the one that contains it is there.
-fn see(seen: &mut Vec<char>, owner: char, body: char) -> Result<(), AllocError> {
-    if has(seen, owner) && !has(seen, body) {
-        seen.push(body)?;
-    }
-    Ok(())
-}
-
-fn has(seen: &[char], body: char) -> bool {
-    for one in seen {
-        if *one == body {
-            return true;
+    for cell in &graph.cells {
+        if seen & set_of(cell.from) != 0 && !matches!(cell.edge, Edge::Absent) {
+            next = next | set_of(cell.to);
         }
     }
-    false
+    next
 }
 
-// Whether the program says of a text what the graph says of it.
-fn is_right(alloc: Global, made: &Made) -> bool {
-    if made.text.len() > ROOM {
-        return false;
+// What the program says of a text: where a body contains itself, or that none does; nothing where it gives no such answer.
+fn told(alloc: Global, text: &str) -> Option<Option<Place>> {
+    match table_of(alloc, text, None) {
+        Ok(_) => Some(None),
+        Err(Refusal::Broken(RuleFault::Rule(3, at))) => Some(Some(at)),
+        Err(Refusal::Broken(RuleFault::Rule(_, _))) => Some(None),
+        Err(_) => None,
     }
-    let Ok(model) = parse(alloc, made.text.as_bytes()) else {
-        return false;
-    };
-    match (table(alloc, model, None), made.breach) {
-        (Err(RuleFault::Rule(3, at)), Some(breach)) => {
-            at.line == breach.line && at.column == breach.column
-        }
-        (Ok(_), None) => true,
-        (Err(RuleFault::Rule(rule, _)), None) => rule != 3,
+}
+
+// Whether this is what the graph says.
+fn is_right(told: Option<Option<Place>>, breach: Option<Place>) -> bool {
+    match (told, breach) {
+        (Some(Some(at)), Some(breach)) => at.line == breach.line && at.column == breach.column,
+        (Some(None), None) => true,
         _ => false,
     }
 }

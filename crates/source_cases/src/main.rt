@@ -3,9 +3,10 @@
 #![tactic(auto)]
 
 mod graphs;
-mod made;
+mod long_texts;
 mod reading_texts;
 mod readings;
+mod refused;
 mod shown;
 mod table_texts;
 mod tables;
@@ -18,9 +19,13 @@ use std::io;
 use tables::print_tables;
 use trees::print_trees;
 
+fn print_all(rt: &HostRuntime) -> io::Result<()> {
+    print_readings(rt)?;
+    print_tables(rt)?;
+    print_trees(rt)?;
+    print_graphs(rt)
+}
+
 fn main(rt: HostRuntime) -> io::Result<()> {
-    print_readings(&rt)?;
-    print_tables(&rt)?;
-    print_trees(&rt)?;
-    print_graphs(&rt)
+    print_all(&rt)
 }

@@ -1,5 +1,6 @@
 //! Texts with their answers: worked models, texts at the edges of the grammar, and refusals with their places.
 
+use crate::long_texts::text_of;
 use ar_parser::{ParseFault, parse};
 use std::{fs, io};
 
@@ -141,25 +142,19 @@ fn print_texts(rt: &HostRuntime, texts: &[&str]) -> io::Result<()> {
     Ok(())
 }
 
-// Appends a part so many times over.
-fn append(text: &mut String, part: &str, count: u32) -> io::Result<()> {
-    for _ in 0..count {
-        if text.push_str(part).is_err() {
-            return Err(io::Error::from(io::ErrorKind::OutOfMemory));
-        }
-    }
-    Ok(())
-}
-
 // Prints what each deep text is.
 fn print_deep(rt: &HostRuntime) -> io::Result<()> {
     for (first, again, count, then, closes, last) in &DEEP {
-        let mut text = String::new(rt.alloc());
-        append(&mut text, first, 1)?;
-        append(&mut text, again, *count)?;
-        append(&mut text, then, 1)?;
-        append(&mut text, closes, *count)?;
-        append(&mut text, last, 1)?;
+        let text = text_of(
+            rt.alloc(),
+            &[
+                (*first, 0, 1),
+                (*again, 0, *count),
+                (*then, 0, 1),
+                (*closes, 0, *count),
+                (*last, 0, 1),
+            ],
+        )?;
         print!(rt; "{first:?} {count} times {again:?} {then:?} {closes:?} {last:?}: ")?;
         print_answer(rt, text.as_bytes())?;
     }

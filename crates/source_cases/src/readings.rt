@@ -3,7 +3,8 @@
 //! What it must print was written by hand from the texts and the grammar.
 
 use crate::reading_texts::print_cases;
-use crate::shown::{show_domain, show_member, show_name, show_place};
+use crate::shown::Leaf::{At, Name};
+use crate::shown::{show_domain, show_member};
 use ar_parser::{ParseFault, parse};
 use ar_syntax::{Item, Model, Unit};
 use std::{fs, io};
@@ -49,27 +50,19 @@ fn print_names(rt: &HostRuntime, model: &Model) -> io::Result<()> {
     Ok(())
 }
 
-// Prints the members of a unit.
+// Prints a unit, and each of its members in a line of its own.
 fn print_unit(rt: &HostRuntime, kind: &str, unit: &Unit) -> io::Result<()> {
-    print!(rt; "{kind} ")?;
-    show_name(rt, unit.name)?;
-    print!(rt; " at ")?;
-    show_place(rt, unit.at)?;
-    println!(rt; "")?;
+    print!(rt; "{kind} {} at {}", Name(unit.name), At(unit.at))?;
     for member in &unit.members {
-        print!(rt; "  ")?;
+        print!(rt; "\n  ")?;
         show_member(rt, member)?;
-        println!(rt; "")?;
     }
-    Ok(())
+    println!(rt)
 }
 
 fn print_item(rt: &HostRuntime, item: &Item) -> io::Result<()> {
     match item {
-        Item::Domain(domain) => {
-            show_domain(rt, domain)?;
-            println!(rt; "")
-        }
+        Item::Domain(domain) => show_domain(rt, domain),
         Item::Class(unit) => print_unit(rt, "class", unit),
         Item::Block(unit) => print_unit(rt, "block", unit),
     }
@@ -80,9 +73,7 @@ fn print_model(rt: &HostRuntime, model: &Model) -> io::Result<()> {
     for item in &model.items {
         print_item(rt, item)?;
     }
-    print!(rt; "end ")?;
-    show_place(rt, model.end)?;
-    println!(rt; "")
+    println!(rt; "end {}", At(model.end))
 }
 
 // Prints the tree of the model of two pumps.

@@ -1,64 +1,62 @@
 //! Writes parts of the source tree, each by the names of its types and fields. Of forms and members those are written
-//! in full that the worked model has.
+//! in full that the worked model has. The texts before and behind a part are written with it.
 
+use Leaf::{At, Bytes, Name};
 use ar_base::{NameId, Place, Span};
 use ar_syntax::{
     DomainBody, DomainDecl, Instr, Member, Path, PathStart, RawExpr, RawForm, RawRelation, Setting,
     TypeForm, TypeName, Word,
 };
-use std::io;
+use std::fmt::Display;
+use std::{fmt, io};
 
-pub fn show_name(rt: &HostRuntime, name: NameId) -> io::Result<()> {
-    print!(rt; "Id {{ n: {}, of: PhantomData<_> }}", name.n)
+/// A name, a place or the bytes of a part.
+#[derive(Clone, Copy)]
+pub(crate) enum Leaf {
+    Name(NameId),
+    At(Place),
+    Bytes(Span),
 }
 
-pub fn show_place(rt: &HostRuntime, at: Place) -> io::Result<()> {
-    print!(rt; "Place {{ line: {}, column: {} }}", at.line, at.column)
-}
-
-fn show_span(rt: &HostRuntime, span: Span) -> io::Result<()> {
-    print!(rt; "Span {{ from: {}, to: {} }}", span.from, span.to)
-}
-
-// A comma before each item but the first.
-fn part(rt: &HostRuntime, place: usize) -> io::Result<()> {
-    if place > 0 {
-        print!(rt; ", ")?;
+impl Display for Leaf {
+    fn fmt<W: fmt::Write>(&self, f: &mut fmt::Formatter<W>) -> fmt::Result {
+        match self {
+            Leaf::Name(name) => write!(f, "Id {{ n: {}, of: PhantomData<_> }}", name.n),
+            Leaf::At(at) => write!(f, "Place {{ line: {}, column: {} }}", at.line, at.column),
+            Leaf::Bytes(span) => write!(f, "Span {{ from: {}, to: {} }}", span.from, span.to),
+        }
     }
-    Ok(())
 }
 
-fn show_names(rt: &HostRuntime, names: &[NameId]) -> io::Result<()> {
-    for (place, name) in names.iter().enumerate() {
-        part(rt, place)?;
-        show_name(rt, *name)?;
-    }
-    Ok(())
+// What stands before the item at this place of a list.
+fn comma(place: usize) -> &'static str {
+    if place > 0 { ", " } else { "" }
 }
 
 fn show_placed(rt: &HostRuntime, names: &[(NameId, Place)]) -> io::Result<()> {
     for (place, (name, at)) in names.iter().enumerate() {
-        part(rt, place)?;
-        print!(rt; "(")?;
-        show_name(rt, *name)?;
-        print!(rt; ", ")?;
-        show_place(rt, *at)?;
-        print!(rt; ")")?;
+        print!(rt; "{}({}, {})", comma(place), Name(*name), At(*at))?;
     }
     Ok(())
 }
 
-fn show_path(rt: &HostRuntime, path: &Path) -> io::Result<()> {
-    let start = match path.start {
+fn start_name(start: PathStart) -> &'static str {
+    match start {
         PathStart::Here => "Here",
         PathStart::Owner => "Owner",
         PathStart::Main => "Main",
-    };
-    print!(rt; "Path {{ start: {start}, names: [")?;
-    show_names(rt, &path.names)?;
-    print!(rt; "], at: ")?;
-    show_place(rt, path.at)?;
-    print!(rt; " }}")
+    }
+}
+
+fn show_path(rt: &HostRuntime, before: &str, path: &Path, behind: &str) -> io::Result<()> {
+    print!(rt;
+        "{before}Path {{ start: {}, names: [",
+        start_name(path.start)
+    )?;
+    for (place, name) in path.names.iter().enumerate() {
+        print!(rt; "{}{}", comma(place), Name(*name))?;
+    }
+    print!(rt; "], at: {} }}{behind}", At(path.at))
 }
 
 fn relation_name(relation: RawRelation) -> &'static str {
@@ -73,14 +71,14 @@ fn relation_name(relation: RawRelation) -> &'static str {
 }
 
 #[cycle(show)]
-fn show_expr(rt: &HostRuntime, expr: &RawExpr) -> io::Result<()> {
-    print!(rt; "RawExpr {{ at: ")?;
-    show_place(rt, expr.at)?;
-    print!(rt; ", span: ")?;
-    show_span(rt, expr.span)?;
-    print!(rt; ", form: ")?;
+fn show_expr(rt: &HostRuntime, before: &str, expr: &RawExpr, behind: &str) -> io::Result<()> {
+    print!(rt;
+        "{before}RawExpr {{ at: {}, span: {}, form: ",
+        At(expr.at),
+        Bytes(expr.span)
+    )?;
     show_form(rt, &expr.form)?;
-    print!(rt; " }}")
+    print!(rt; " }}{behind}")
 }
 
 #[cycle(show)]
@@ -88,24 +86,14 @@ fn show_form(rt: &HostRuntime, form: &RawForm) -> io::Result<()> {
     match form {
         RawForm::Truth(truth) => print!(rt; "Truth({truth})"),
         RawForm::Real => print!(rt; "Real"),
-        RawForm::Path(path) => {
-            print!(rt; "Path(")?;
-            show_path(rt, path)?;
-            print!(rt; ")")
-        }
-        RawForm::Not(operand) => {
-            print!(rt; "Not(")?;
-            show_expr(rt, operand)?;
-            print!(rt; ")")
-        }
+        RawForm::Path(path) => show_path(rt, "Path(", path, ")"),
+        RawForm::Not(operand) => show_expr(rt, "Not(", operand, ")"),
         RawForm::All(operands) => show_exprs(rt, "All", operands),
         RawForm::Any(operands) => show_exprs(rt, "Any", operands),
         RawForm::Compare(relation, first, second) => {
-            print!(rt; "Compare({}, ", relation_name(*relation))?;
-            show_expr(rt, first)?;
-            print!(rt; ", ")?;
-            show_expr(rt, second)?;
-            print!(rt; ")")
+            print!(rt; "Compare({}", relation_name(*relation))?;
+            show_expr(rt, ", ", first, ", ")?;
+            show_expr(rt, "", second, ")")
         }
         _ => print!(rt; "another form"),
     }
@@ -115,156 +103,115 @@ fn show_form(rt: &HostRuntime, form: &RawForm) -> io::Result<()> {
 fn show_exprs(rt: &HostRuntime, name: &str, operands: &[RawExpr]) -> io::Result<()> {
     print!(rt; "{name}([")?;
     for (place, operand) in operands.iter().enumerate() {
-        part(rt, place)?;
-        show_expr(rt, operand)?;
+        show_expr(rt, comma(place), operand, "")?;
     }
     print!(rt; "])")
 }
 
-fn show_type(rt: &HostRuntime, named: TypeName) -> io::Result<()> {
-    print!(rt; "TypeName {{ form: ")?;
+fn show_type(rt: &HostRuntime, before: &str, named: TypeName) -> io::Result<()> {
+    let at = At(named.at);
     match named.form {
-        TypeForm::Boolean => print!(rt; "Boolean")?,
-        TypeForm::Integer => print!(rt; "Integer")?,
+        TypeForm::Boolean => print!(rt; "{before}TypeName {{ form: Boolean, at: {at} }}"),
+        TypeForm::Integer => print!(rt; "{before}TypeName {{ form: Integer, at: {at} }}"),
         TypeForm::Named(name) => {
-            print!(rt; "Named(")?;
-            show_name(rt, name)?;
-            print!(rt; ")")?;
+            print!(rt;
+                "{before}TypeName {{ form: Named({}), at: {at} }}",
+                Name(name)
+            )
         }
     }
-    print!(rt; ", at: ")?;
-    show_place(rt, named.at)?;
-    print!(rt; " }}")
 }
 
-fn show_word(rt: &HostRuntime, word: Word) -> io::Result<()> {
+fn show_word(rt: &HostRuntime, before: &str, word: Word) -> io::Result<()> {
     match word {
-        Word::Init => print!(rt; "Init"),
-        Word::Reset => print!(rt; "Reset"),
-        Word::Name(name) => {
-            print!(rt; "Name(")?;
-            show_name(rt, name)?;
-            print!(rt; ")")
-        }
+        Word::Init => print!(rt; "{before}Init"),
+        Word::Reset => print!(rt; "{before}Reset"),
+        Word::Name(name) => print!(rt; "{before}Name({})", Name(name)),
     }
 }
 
-fn show_setting(rt: &HostRuntime, setting: &Setting) -> io::Result<()> {
-    print!(rt; "Setting {{ target: [")?;
+fn show_setting(rt: &HostRuntime, before: &str, setting: &Setting) -> io::Result<()> {
+    print!(rt; "{before}Setting {{ target: [")?;
     for (place, word) in setting.target.iter().enumerate() {
-        part(rt, place)?;
-        show_word(rt, *word)?;
+        show_word(rt, comma(place), *word)?;
     }
-    print!(rt; "], at: ")?;
-    show_place(rt, setting.at)?;
-    print!(rt; ", value: ")?;
-    show_expr(rt, &setting.value)?;
-    print!(rt; " }}")
+    print!(rt; "], at: {}, value: ", At(setting.at))?;
+    show_expr(rt, "", &setting.value, " }")
 }
 
-fn show_settings(rt: &HostRuntime, settings: &[Setting]) -> io::Result<()> {
-    for (place, setting) in settings.iter().enumerate() {
-        part(rt, place)?;
-        show_setting(rt, setting)?;
-    }
-    Ok(())
-}
-
+// The last part of a member, and its end.
 fn show_instr(rt: &HostRuntime, instr: &Instr) -> io::Result<()> {
     match instr {
         Instr::Assign(path, value) => {
-            print!(rt; "Assign(")?;
-            show_path(rt, path)?;
-            print!(rt; ", ")?;
-            show_expr(rt, value)?;
-            print!(rt; ")")
+            show_path(rt, "Assign(", path, ", ")?;
+            show_expr(rt, "", value, "))")
         }
-        _ => print!(rt; "another instruction"),
+        _ => print!(rt; "another instruction)"),
     }
 }
 
-fn show_declared(rt: &HostRuntime, name: NameId, at: Place) -> io::Result<()> {
-    show_name(rt, name)?;
-    print!(rt; ", ")?;
-    show_place(rt, at)
+fn show_declaration(
+    rt: &HostRuntime,
+    named: TypeName,
+    names: &[(NameId, Place)],
+    settings: &[Setting],
+) -> io::Result<()> {
+    show_type(rt, "Declare(", named)?;
+    print!(rt; ", [")?;
+    show_placed(rt, names)?;
+    print!(rt; "], [")?;
+    for (place, setting) in settings.iter().enumerate() {
+        show_setting(rt, comma(place), setting)?;
+    }
+    print!(rt; "])")
 }
 
-fn show_delay(rt: &HostRuntime, delay: Option<Span>) -> io::Result<()> {
+fn show_event(rt: &HostRuntime, name: NameId, at: Place, delay: Option<Span>) -> io::Result<()> {
     match delay {
-        None => print!(rt; ", None)"),
-        Some(span) => {
-            print!(rt; ", Some(")?;
-            show_span(rt, span)?;
-            print!(rt; "))")
-        }
+        None => print!(rt; "Event({}, {}, None)", Name(name), At(at)),
+        Some(span) => print!(rt; "Event({}, {}, Some({}))", Name(name), At(at), Bytes(span)),
     }
 }
 
 /// Writes a member.
-pub fn show_member(rt: &HostRuntime, member: &Member) -> io::Result<()> {
+pub(crate) fn show_member(rt: &HostRuntime, member: &Member) -> io::Result<()> {
     match member {
-        Member::Declare(named, names, settings) => {
-            print!(rt; "Declare(")?;
-            show_type(rt, *named)?;
-            print!(rt; ", [")?;
-            show_placed(rt, names)?;
-            print!(rt; "], [")?;
-            show_settings(rt, settings)?;
-            print!(rt; "])")
-        }
+        Member::Declare(named, names, settings) => show_declaration(rt, *named, names, settings),
         Member::Kept(name, at, span) => {
-            print!(rt; "Kept(")?;
-            show_declared(rt, *name, *at)?;
-            print!(rt; ", ")?;
-            show_span(rt, *span)?;
-            print!(rt; ")")
+            print!(rt; "Kept({}, {}, {})", Name(*name), At(*at), Bytes(*span))
         }
-        Member::Event(name, at, delay) => {
-            print!(rt; "Event(")?;
-            show_declared(rt, *name, *at)?;
-            show_delay(rt, *delay)
-        }
+        Member::Event(name, at, delay) => show_event(rt, *name, *at, *delay),
         Member::Observer(named, name, at, value) => {
-            print!(rt; "Observer(")?;
-            show_type(rt, *named)?;
-            print!(rt; ", ")?;
-            show_declared(rt, *name, *at)?;
-            print!(rt; ", ")?;
-            show_expr(rt, value)?;
-            print!(rt; ")")
+            show_type(rt, "Observer(", *named)?;
+            print!(rt; ", {}, {}", Name(*name), At(*at))?;
+            show_expr(rt, ", ", value, ")")
         }
         Member::Local(name, at, guard, action) => {
-            print!(rt; "Local(")?;
-            show_declared(rt, *name, *at)?;
-            print!(rt; ", ")?;
-            show_expr(rt, guard)?;
-            print!(rt; ", ")?;
-            show_instr(rt, action)?;
-            print!(rt; ")")
+            print!(rt; "Local({}, {}", Name(*name), At(*at))?;
+            show_expr(rt, ", ", guard, ", ")?;
+            show_instr(rt, action)
         }
         Member::Assert(instr) => {
             print!(rt; "Assert(")?;
-            show_instr(rt, instr)?;
-            print!(rt; ")")
+            show_instr(rt, instr)
         }
         _ => print!(rt; "another member"),
     }
 }
 
-/// Writes a domain.
-pub fn show_domain(rt: &HostRuntime, domain: &DomainDecl) -> io::Result<()> {
-    print!(rt; "DomainDecl {{ name: ")?;
-    show_name(rt, domain.name)?;
-    print!(rt; ", at: ")?;
-    show_place(rt, domain.at)?;
-    print!(rt; ", body: ")?;
+/// Writes a domain, and the end of its line.
+pub(crate) fn show_domain(rt: &HostRuntime, domain: &DomainDecl) -> io::Result<()> {
+    print!(rt;
+        "DomainDecl {{ name: {}, at: {}, body: ",
+        Name(domain.name),
+        At(domain.at)
+    )?;
     match &domain.body {
-        DomainBody::Range(low, high) => print!(rt; "Range({low}, {high})")?,
+        DomainBody::Range(low, high) => println!(rt; "Range({low}, {high}) }}"),
         DomainBody::Symbols(names) => {
             print!(rt; "Symbols([")?;
             show_placed(rt, names)?;
-            print!(rt; "])")?;
+            println!(rt; "]) }}")
         }
     }
-    print!(rt; " }}")
 }

@@ -1,34 +1,21 @@
 //! Worked examples of the table of a model's bodies: for each text its table, or the rule that it breaks and where.
 //! What it must print was written by hand from the rules.
 
+use crate::long_texts::{TABLES, text_of};
+use crate::refused::{print_refusal, table_of};
 use crate::table_texts::CASES;
-use ar_base::{NameId, RuleFault};
-use ar_parser::parse;
-use class_table::{Body, Classes, Owned, TypeBody, table};
+use ar_base::NameId;
+use class_table::{Body, Classes, Owned, TypeBody};
 use domains::Domain;
-use std::alloc::AllocError;
 use std::io;
 
-/// The room for a text, in bytes.
-const ROOM: usize = 65_536;
-
-/// Prints each text with its table, or the rule that it breaks and where.
+/// Prints each text with its table, or the rule that it breaks and where; then whether long texts have a table.
 pub fn print_tables(rt: &HostRuntime) -> io::Result<()> {
     for (text, main) in &CASES {
-        println!(rt; "{text}")?;
-        print!(rt; "= ")?;
+        print!(rt; "{text}\n= ")?;
         print_answer(rt, text, main)?;
     }
-    for count in 256..258 {
-        println!(rt; "{count} symbols")?;
-        print_short(rt, wide_domain(rt, count)?.as_str())?;
-    }
-    println!(rt; "40 levels of one event, each twice")?;
-    print_short(rt, doubling(rt, 40)?.as_str())
-}
-
-fn no_memory() -> io::Error {
-    io::Error::from(io::ErrorKind::OutOfMemory)
+    print_long(rt)
 }
 
 // Prints what a type's name stands for.
@@ -44,9 +31,9 @@ fn print_type(rt: &HostRuntime, name: NameId, body: &TypeBody) -> io::Result<()>
 
 // Prints a body: its name with its place, the blocks in it, and all its members.
 fn print_body(rt: &HostRuntime, place: usize, body: &Body) -> io::Result<()> {
-    print!(rt; "  body {place} named {}", body.name.n)?;
     print!(rt;
-        " at {}:{} own {}",
+        "  body {place} named {} at {}:{} own {}",
+        body.name.n,
         body.at.line,
         body.at.column,
         body.own.len()
@@ -80,60 +67,22 @@ fn print_table(rt: &HostRuntime, classes: &Classes) -> io::Result<()> {
 
 // Prints the answer for a text, whose main block is asked for by a name or, where that is empty, not at all.
 fn print_answer(rt: &HostRuntime, text: &str, main: &str) -> io::Result<()> {
-    if text.len() > ROOM {
-        return println!(rt; "too long");
-    }
-    let Ok(model) = parse(rt.alloc(), text.as_bytes()) else {
-        return println!(rt; "no model");
-    };
     let asked = if main.is_empty() { None } else { Some(main) };
-    match table(rt.alloc(), model, asked) {
+    match table_of(rt.alloc(), text, asked) {
         Ok(classes) => print_table(rt, &classes),
-        Err(RuleFault::Rule(rule, at)) => println!(rt; "rule L{rule} at {}:{}", at.line, at.column),
-        Err(RuleFault::Limit(_)) => println!(rt; "a limit"),
-        Err(RuleFault::Memory) => Err(no_memory()),
+        Err(refusal) => print_refusal(rt, refusal),
     }
 }
 
-// Prints whether a long text has a table.
-fn print_short(rt: &HostRuntime, text: &str) -> io::Result<()> {
-    if text.len() > ROOM {
-        return println!(rt; "= too long");
+// Prints whether each long text has a table.
+fn print_long(rt: &HostRuntime) -> io::Result<()> {
+    for (name, parts) in &TABLES {
+        let text = text_of(rt.alloc(), parts)?;
+        print!(rt; "{name}\n= ")?;
+        match table_of(rt.alloc(), text.as_str(), None) {
+            Ok(_) => println!(rt; "kept")?,
+            Err(refusal) => print_refusal(rt, refusal)?,
+        }
     }
-    let Ok(model) = parse(rt.alloc(), text.as_bytes()) else {
-        return println!(rt; "= no model");
-    };
-    match table(rt.alloc(), model, None) {
-        Ok(_) => println!(rt; "= kept"),
-        Err(RuleFault::Rule(rule, at)) => println!(rt;
-            "= rule L{rule} at {}:{}",
-            at.line, at.column
-        ),
-        Err(RuleFault::Limit(_)) => println!(rt; "= a limit"),
-        Err(RuleFault::Memory) => println!(rt; "= no memory"),
-    }
-}
-
-// A domain of so many symbols.
-fn wide_domain(rt: &HostRuntime, count: u32) -> Result<String, AllocError> {
-    let mut text = String::from_str(rt.alloc(), "block B end domain D {s")?;
-    for symbol in 1..count {
-        let next = format!(in rt.alloc(); ", s{symbol}")?;
-        text.push_str(&next)?;
-    }
-    text.push_str("}")?;
-    Ok(text)
-}
-
-// Classes of which each extends the one before it twice.
-fn doubling(rt: &HostRuntime, levels: u32) -> Result<String, AllocError> {
-    let mut text = String::from_str(rt.alloc(), "class C0 event e; end block B end")?;
-    for level in 1..levels {
-        let before = level - 1;
-        let next = format!(in rt.alloc();
-            " class C{level} extends C{before}; extends C{before}; end"
-        )?;
-        text.push_str(&next)?;
-    }
-    Ok(text)
+    Ok(())
 }

@@ -1,83 +1,33 @@
 //! Worked examples of the tree of units: for each text its tree, the limit that it passes, or the rule that it breaks and
 //! where. What it must print was written by hand from the rules.
 
-use crate::made::{
-    blocks_inside, classes_of, clones_twice, empty_units, twice_each, wide_observers,
-};
+use crate::long_texts::{TREES, text_of};
+use crate::refused::{Refusal, print_refusal, table_of};
 use crate::tree_texts::CASES;
-use ar_base::{Count, NameId, RuleFault, UnitId};
-use ar_parser::parse;
-use class_table::table;
+use ar_base::{NameId, UnitId};
 use hierarchy::{Attribute, MemNode, ParNode, Source, Tree, UnitNode, VarNode};
 use instantiate::instantiate;
+use std::alloc::Global;
 use std::io;
-
-/// The room for a text, in bytes.
-const ROOM: usize = 1_048_576;
 
 /// Prints each text with its tree of units, the limit that it passes, or the rule that it breaks and where; then long
 /// texts at the limits and past them.
 pub fn print_trees(rt: &HostRuntime) -> io::Result<()> {
     for text in &CASES {
-        println!(rt; "{text}")?;
-        print!(rt; "= ")?;
+        print!(rt; "{text}\n= ")?;
         print_answer(rt, text, true)?;
     }
-    print_depths(rt)?;
-    print_numbers_of_units(rt)?;
-    print_numbers_of_things(rt)?;
-    print_nodes(rt)
+    print_long(rt)
 }
 
-// Blocks inside each other.
-fn print_depths(rt: &HostRuntime) -> io::Result<()> {
-    for count in 63..66 {
-        print!(rt; "{count} blocks inside each other below the main block = ")?;
-        print_answer(rt, blocks_inside(rt, count)?.as_str(), false)?;
-    }
-    Ok(())
-}
-
-// Classes, each with two of the one before, instances of a class, and clones of the units of the block before.
-fn print_numbers_of_units(rt: &HostRuntime) -> io::Result<()> {
-    for levels in 13..15 {
-        print!(rt; "{levels} classes, each with two of the one before = ")?;
-        print_answer(rt, twice_each(rt, levels)?.as_str(), false)?;
-    }
-    for count in 16_383..16_385 {
-        print!(rt; "{count} instances of a class without members = ")?;
-        print_answer(rt, empty_units(rt, count)?.as_str(), false)?;
-    }
-    print!(rt; "40 blocks, each with two clones of a unit of the one before = ")?;
-    print_answer(rt, clones_twice(rt, 40)?.as_str(), false)
-}
-
-// Variables and events.
-fn print_numbers_of_things(rt: &HostRuntime) -> io::Result<()> {
-    for member in ["", "Boolean w (init = true);"] {
-        print!(rt; "1,024 instances of a class with 32 variables, and {member:?} = ")?;
-        let text = classes_of(rt, 1_024, "Boolean", " (init = true)", member)?;
-        print_answer(rt, text.as_str(), false)?;
-    }
-    for member in ["", "event w;"] {
-        print!(rt; "512 instances of a class with 32 events, and {member:?} = ")?;
-        let text = classes_of(rt, 512, "event", "", member)?;
+// Prints each long text's counts, or why it has none.
+fn print_long(rt: &HostRuntime) -> io::Result<()> {
+    for (name, parts) in &TREES {
+        let text = text_of(rt.alloc(), parts)?;
+        print!(rt; "{name} = ")?;
         print_answer(rt, text.as_str(), false)?;
     }
     Ok(())
-}
-
-// Nodes of the tree.
-fn print_nodes(rt: &HostRuntime) -> io::Result<()> {
-    for member in ["", "event e;"] {
-        print!(rt; "71 units of 28,168 nodes, and 72 nodes with {member:?} = ")?;
-        print_answer(rt, wide_observers(rt, 28_166, member)?.as_str(), false)?;
-    }
-    Ok(())
-}
-
-fn no_memory() -> io::Error {
-    io::Error::from(io::ErrorKind::OutOfMemory)
 }
 
 // Prints names with the units that they lead to.
@@ -183,40 +133,17 @@ fn print_counts(rt: &HostRuntime, tree: &Tree) -> io::Result<()> {
     )
 }
 
-fn count_name(count: Count) -> &'static str {
-    match count {
-        Count::Depth => "Depth",
-        Count::Units => "Units",
-        Count::Variables => "Variables",
-        Count::Events => "Events",
-        Count::TreeNodes => "TreeNodes",
-        _ => "another count",
-    }
-}
-
-fn print_refusal(rt: &HostRuntime, fault: RuleFault) -> io::Result<()> {
-    match fault {
-        RuleFault::Rule(rule, at) => println!(rt; "rule L{rule} at {}:{}", at.line, at.column),
-        RuleFault::Limit(count) => println!(rt; "limit {}", count_name(count)),
-        RuleFault::Memory => Err(no_memory()),
-    }
+// The tree of a text.
+fn tree_of(alloc: Global, text: &str) -> Result<Tree, Refusal> {
+    let classes = table_of(alloc, text, None)?;
+    instantiate(alloc, classes).map_err(Refusal::Broken)
 }
 
 // Prints the answer for a text, with all of its tree or its counts alone.
 fn print_answer(rt: &HostRuntime, text: &str, whole: bool) -> io::Result<()> {
-    if text.len() > ROOM {
-        return println!(rt; "too long");
-    }
-    let Ok(model) = parse(rt.alloc(), text.as_bytes()) else {
-        return println!(rt; "no model");
-    };
-    let classes = match table(rt.alloc(), model, None) {
-        Ok(classes) => classes,
-        Err(fault) => return print_refusal(rt, fault),
-    };
-    match instantiate(rt.alloc(), classes) {
+    match tree_of(rt.alloc(), text) {
         Ok(tree) if whole => print_tree(rt, &tree),
         Ok(tree) => print_counts(rt, &tree),
-        Err(fault) => print_refusal(rt, fault),
+        Err(refusal) => print_refusal(rt, refusal),
     }
 }

@@ -123,11 +123,17 @@ fn show_classes(rt: &HostRuntime, name: &str, classes: &[Block]) -> io::Result<(
     println!(rt)
 }
 
-fn main(rt: HostRuntime) -> io::Result<()> {
-    show_plan(&rt, "loop-of-flows")?;
-    show_plan(&rt, "two-pumps")?;
-    for (name, observer) in MODELS {
-        draw(&rt, name, observer)?;
+// Runs all models.
+fn run(rt: &HostRuntime) -> io::Result<()> {
+    for name in ["loop-of-flows", "two-pumps"] {
+        show_plan(rt, name)?;
     }
-    show_steps(&rt, "refused-step")
+    for (name, observer) in MODELS {
+        draw(rt, name, observer)?;
+    }
+    show_steps(rt, "refused-step")
+}
+
+fn main(rt: HostRuntime) -> io::Result<()> {
+    run(&rt)
 }

@@ -3,30 +3,27 @@
 //! Each line of the file `cases` is a case: its name, the number of the load that is to fail or `-`, the number of
 //! the put that is to fail or `-`, and the words of the job. Words that name a file of the folder stand for its
 //! bytes. For each case its name, the status, how many faults the shelf and the sink counted, and the bytes that
-//! were written are printed; behind a listing of cuts also how many of its orders, fired as a script, end with the
-//! wanted value, and what is said of it where it is given back to be checked. Then the limits are run, each at its
-//! number and one past it, over texts that are made here, then a long listing over sinks that fail, and last the
-//! plants of the examples.
+//! were written are printed. Then come the texts of the file `texts`, each with a job over it, the limits, each at its
+//! number and one past it, over texts that are made here, a long listing over sinks that fail, and texts of tables that
+//! are read.
 #![tactic(auto)]
 
-mod checked;
 mod limits;
 mod made;
-mod orders;
-mod plants;
 mod sinks;
+mod table_texts;
+mod texts;
 
 use altarica_run::altarica;
 use ar_base::Memory;
 use ar_io::{MemoryShelf, MemorySink};
-use checked::run_checks;
 use limits::run_limits;
-use orders::run_orders;
-use plants::run_plants;
 use sinks::run_sinks;
 use std::io::Write;
 use std::str::from_utf8;
 use std::{fs, io};
+use table_texts::run_table_texts;
+use texts::run_texts;
 
 /// The room for the text of a case, in bytes.
 const ROOM: usize = 65_536;
@@ -61,20 +58,7 @@ fn run(
     let status = altarica(rt.alloc(), words, shelf, &mut sink).number();
     let faults = (shelf.fault_count(), sink.fault_count());
     println!(rt; "{name}: status {status} faults {} {}", faults.0, faults.1)?;
-    io::writer(rt).write_all(sink.bytes())?;
-    if status == 0 && is_listing(words) {
-        run_orders(rt, name, words, sink.bytes())?;
-        run_checks(rt, name, shelf, words, sink.bytes())?;
-    }
-    Ok(())
-}
-
-// Whether the words ask for a listing of cuts.
-fn is_listing(words: &[String]) -> bool {
-    match words.first() {
-        Some(command) => command.as_str() == "cuts",
-        None => false,
-    }
+    io::writer(rt).write_all(sink.bytes())
 }
 
 // Runs the job of the words over the files of the folder that they name.
@@ -149,12 +133,13 @@ fn run_cases(rt: &HostRuntime) -> io::Result<()> {
     Ok(())
 }
 
-// Runs the cases, the limits, the failing sinks and the plants.
+// Runs the cases, the texts, the limits, the failing sinks, and the texts of tables.
 fn run_all(rt: &HostRuntime) -> io::Result<()> {
     run_cases(rt)?;
+    run_texts(rt)?;
     run_limits(rt)?;
     run_sinks(rt)?;
-    run_plants(rt)
+    run_table_texts(rt)
 }
 
 fn main(rt: HostRuntime) -> io::Result<()> {

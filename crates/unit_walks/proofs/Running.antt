@@ -1,5 +1,5 @@
 -- The walk of one statement, and of those that have to be walked before it.
-use Rattle.std.proofs.Common.{◌≡◌, ◌<◌, ◌+◌, ◌++◌, inl, ℕ, Bool, true, false, List, [], ◌∷◌, Option, Some, None, option_map, length, slice_get, refl, sym, ◌∙◌, ap, subst, arith, Result, Ok, Err, IfOk, OnOk}
+use Rattle.std.proofs.Common.{◌≡◌, ◌<◌, ◌+◌, ◌-◌, ◌*◌, ◌^◌, ◌++◌, inl, ℕ, Bool, true, false, List, [], ◌∷◌, Option, Some, None, option_map, length, slice_get, refl, sym, ◌∙◌, ap, subst, arith, Result, Ok, Err, IfOk, OnOk}
 use Rattle.std.specs.Borrow.{Bor}
 use Rattle.ar_base.specs.Lists.{Stands}
 use Rattle.ar_base.specs.Numbers.{NameId, BodyId}
@@ -10,7 +10,7 @@ use Rattle.hierarchy.specs.Units.{UnitPath, start_of, kind_at, numbers}
 use Rattle.unit_walks.specs.Ends.{NameEnds, NamesEnd, IsStatement, nowhere}
 use Rattle.unit_walks.specs.Forms.{kind_in, IsFormsFor, IsLookedUp, form_at}
 use Rattle.unit_walks.specs.Tables.{known_at, level_of, paths_of, StandsIf, EndsAt, Means, IsTable, IsSet, IsForgotten, IsEntered, Extends}
-use Rattle.unit_walks.specs.Walking.{IsFrame, IsAtStart, Chain, bottom, above, IsWalking, IsAnswered, After, Steps, weight, Weighs, IsRun, IsKnown, IsReady}
+use Rattle.unit_walks.specs.Walking.{IsFrame, IsAtStart, Chain, bottom, above, IsWalking, IsAnswered, IsKept, After, Steps, weight, Weighs, IsRun, IsKnown, IsReady}
 use Rattle.unit_walks.specs.declared.forms.Forms.{Forms}
 use Rattle.unit_walks.specs.declared.forms.UnitForm.{UnitForm}
 use Rattle.unit_walks.specs.declared.forms.UnitForm.TheVariants as form
@@ -24,7 +24,7 @@ use Rattle.unit_walks.specs.declared.walking.Step.TheVariants.{On, Into, Done}
 use Rattle.ar_base.proofs.Standing.{stands_one}
 use Rattle.ar_base.proofs.Items.{last_one}
 use Rattle.unit_walks.proofs.LookUps.{looked_up}
-use Rattle.unit_walks.proofs.TableSteps.{extends_both, extends_none, extends_forgotten, table_forgotten, means_forgotten, set_wide, set_extends, grown_wide, grown_extends, grown_stands, frame_wide, table_set, table_grown, met_there}
+use Rattle.unit_walks.proofs.TableSteps.{IsWider, extends_both, extends_none, extends_forgotten, table_forgotten, means_forgotten, set_wide, set_extends, grown_wide, grown_extends, grown_stands, frame_wide, table_set, table_grown, met_there}
 use Rattle.unit_walks.proofs.Stepping.{if_ok, none_some, looked_none, looked_inner, looked_clone, looked_alias, entered_level, starts_none, none_ends}
 
 -- the walk of the top frame is under way, and what was known stays known
@@ -83,17 +83,28 @@ pub went_done : (s : RootedModel) (below : List Frame) (top : Frame) (old new : 
     → Steps s below top old new r → IsAnswered s below top new
 went_done s below top old new r e t = subst (λ r. After s below top new r) e t.after
 
+-- the top statement is answered, and it may be kept how far its path leads
+pub kept_after : (s : RootedModel) (below : List Frame) (top : Frame) (old mid new : Table) (r : Step) → r ≡ Done
+    → IsWalking s below top old → Steps s below top old mid r
+    → ((u v : UnitPath) → IsFrame s (paths_of mid) top u v → IsAnswered s below top mid → IsKept s below top mid new)
+    → IsKept s below top mid new
+kept_after s below top old mid new r e w t k =
+    let wide : IsWider (paths_of old) (paths_of mid) = record { keeps = t.extends.units } in
+    k w.from w.here (frame_wide wide w.frame) (went_done s below top old mid r e t)
+
 pub into_smaller : (below all : List Frame) (top next : Frame) (old new : Table) (r : Step) → r ≡ Into next
     → all ≡ below ++ top ∷ [] → Weighs top old new r
     → weight new + load all + length next.rest.now < weight old + load below + length top.rest.now
 into_smaller below all top next old new r e a w =
     let h = subst (λ r. Weighs top old new r) e w in let k = ap load a in let l = load_push below top in omega (arith, h, k, l)
 
-pub done_smaller : (below all : List Frame) (top next : Frame) (old new : Table) (r : Step) → r ≡ Done
-    → below ≡ all ++ next ∷ [] → Weighs top old new r
+pub done_smaller : (below all : List Frame) (top next : Frame) (old mid new : Table) (r : Step) → r ≡ Done
+    → below ≡ all ++ next ∷ [] → Weighs top old mid r → new.count ≡ mid.count
     → weight new + load all + length next.rest.now < weight old + load below + length top.rest.now
-done_smaller below all top next old new r e a w =
-    let h = subst (λ r. Weighs top old new r) e w in let k = ap load a in let l = load_push all next in omega (arith, h, k, l)
+done_smaller below all top next old mid new r e a w c =
+    let h = subst (λ r. Weighs top old mid r) e w in
+    let same : weight new ≡ weight mid = ap (λ n. (16777216 - n) * 2 ^ 65) c in
+    let k = ap load a in let l = load_push all next in omega (arith, h, k, l, same)
 
 pub none_left : {A : Type 0} (xs : List A) → length xs ≡ 0 → xs ≡ []
 none_left [] e = refl

@@ -1,5 +1,5 @@
 -- One step of a walk.
-use Rattle.std.proofs.Common.{◌≡◌, ◌<◌, ◌+◌, ◌-◌, ◌*◌, ◌^◌, ◌++◌, length, ◌⊎◌, inl, inr, ℕ, suc, Bool, true, false, List, [], ◌∷◌, Option, Some, None, option_map, slice_get, refl, sym, Result, Ok, Err, IfOk, ◌∙◌, ap, subst, arith, append_assoc, append-nil}
+use Rattle.std.proofs.Common.{◌≡◌, ◌<◌, ◌+◌, ◌-◌, ◌*◌, ◌^◌, ◌++◌, length, ◌⊎◌, inl, inr, ℕ, suc, Bool, true, false, List, [], ◌∷◌, Option, Some, None, option_map, slice_get, refl, sym, Result, Ok, Err, IfOk, ◌∙◌, ap, subst, arith, append_assoc, length-append, drop}
 use Rattle.std.specs.Borrow.{Bor}
 use Rattle.std.proofs.lemmas.Option.{same_Some}
 use Rattle.ar_base.specs.Lists.{Stands}
@@ -15,13 +15,14 @@ use Rattle.hierarchy.specs.Tie.{IsSetAt, none, some}
 use Rattle.unit_walks.specs.Ends.{NameEnds, NamesEnd, NeverEnds, Reached, IsStatement, clone, alias, inner, clones, clones_none, embeds, no_unit, absent, nowhere, arrives, on, stops}
 use Rattle.unit_walks.specs.Forms.{kind_in, may_be_unit, IsFormsFor, IsLookedUp, form_at}
 use Rattle.unit_walks.specs.Forms as l
-use Rattle.unit_walks.specs.Tables.{known_at, end_at, level_of, paths_of, StandsIf, HasFrame, EndsAt, EndsNowhere, Means, PathEnds, IsMet, IsTable, IsSet, IsGrown, IsEntered, KeepsEnd}
-use Rattle.unit_walks.specs.Walking.{IsFrame, IsAtStart, Chain, bottom, above, IsWalking, After, IsStep, IsNameStep, IsStatementStep, Steps, weight, Weighs}
+use Rattle.unit_walks.specs.Tables.{known_at, end_at, level_of, paths_of, StandsIf, HasFrame, EndsAt, EndsNowhere, Means, PathLeads, IsMet, IsTable, IsSet, IsGrown, IsEntered, KeepsEnd}
+use Rattle.unit_walks.specs.Walking.{IsFrame, IsAtStart, Chain, bottom, above, IsWalking, IsAnswered, IsKept, After, IsStep, IsNameStep, IsStatementStep, Steps, weight, Weighs}
 use Rattle.unit_walks.specs.declared.forms.Forms.{Forms}
 use Rattle.unit_walks.specs.declared.forms.UnitForm.{UnitForm}
 use Rattle.unit_walks.specs.declared.forms.UnitForm.TheVariants as form
 use Rattle.unit_walks.specs.declared.tables.Table.{Table}
 use Rattle.unit_walks.specs.declared.tables.Frame.{Frame}
+use Rattle.unit_walks.specs.declared.tables.Reach.{Reach}
 use Rattle.unit_walks.specs.declared.tables.Met.{Met}
 use Rattle.unit_walks.specs.declared.tables.Known.{Known}
 use Rattle.unit_walks.specs.declared.tables.Known.TheVariants.{Following, ToUnit, Nothing, Loops}
@@ -107,18 +108,6 @@ walking_set {below = below} {top = top} u w i h m = let wide = set_wide i in rec
   table = table_set (below ++ top ∷ []) (below ++ top ∷ []) w.table i h m (λ b y n k. k);
 }
 
--- or with one more end of a path that is kept
-walking_kept : {s : RootedModel} {below : List Frame} {top : Frame} {old new : Table} {b x a k : ℕ}
-    → IsWalking s below top old → KeepsEnd old new b x a k → PathEnds s (paths_of old) b x a k
-    → IsWalking s below top new
-walking_kept {below = below} {top = top} w i h = let wide = kept_wide i in record {
-  from = w.from;
-  here = w.here;
-  frame = frame_wide wide w.frame;
-  chain = chain_wide wide w.chain;
-  table = table_kept (below ++ top ∷ []) w.table i h;
-}
-
 alias_ends : {s : RootedModel} {u : UnitPath} {x n : ℕ} {p : Path} {m : Option MemberKind} {o : Option UnitPath}
     → IsStatement p false m → NamesEnd s n (start_of p.start u) (numbers p.names.items) o → NameEnds s (suc n) u x m o
 alias_ends alias r = embeds r
@@ -147,6 +136,24 @@ reached_end {s = s} {u = u} {v = v} {x = x} {b = b} e f r = let P : Bool → Lis
 none_to_go : (xs : List NameId) → xs ≡ [] → numbers xs ≡ []
 none_to_go xs e = ap numbers e
 
+length_numbers : (xs : List NameId) → length (numbers xs) ≡ length xs
+length_numbers [] = refl
+length_numbers (x ∷ xs) = ap suc (length_numbers xs)
+
+-- the names behind the first ones
+pub names_behind : (xs : List NameId) (before rest : List ℕ) → numbers xs ≡ before ++ rest
+    → numbers (drop (length xs - length rest) xs) ≡ rest
+names_behind xs before rest e =
+    subst (λ n. numbers (drop n xs) ≡ rest) (sym count) (behind xs before e)
+  where
+    behind : (xs : List NameId) (before : List ℕ) → numbers xs ≡ before ++ rest → numbers (drop (length before) xs) ≡ rest
+    behind xs [] e = e
+    behind [] (b ∷ bs) e = cc
+    behind (x ∷ xs) (b ∷ bs) e = behind xs bs (cc e)
+
+    count : length xs - length rest ≡ length before
+    count = let a = length_numbers xs in let b = ap length e in let c = length-append before rest in omega (arith, a, b, c)
+
 pub starts_none : (paths : List UnitPath) (o : Option UnitPath) → StandsIf paths None o → o ≡ None
 starts_none paths None h = refl
 starts_none paths (Some u) h = absurd h
@@ -156,51 +163,46 @@ pub starts_some : (paths : List UnitPath) (n : ℕ) (o : Option UnitPath) → St
 starts_some paths n None h = absurd h
 starts_some paths n (Some v) h = (v, refl, h)
 
--- nothing is kept of where the path leads, and the walk is as before
-pub kept_nothing : (top : Frame) (t : Table) → IsStep top t t (On top)
-kept_nothing top t s below w = record { after = w; extends = extends_none t }
+-- nothing is kept of how far the path leads, and all is as before
+pub kept_nothing : {s : RootedModel} {below : List Frame} {top : Frame} {t : Table} → IsAnswered s below top t
+    → IsKept s below top t t
+kept_nothing {t = t} a = record { answered = a; extends = extends_none t }
 
--- it is kept where the path leads
-pub kept_end : (top : Frame) (old new : Table) (d : Met) (a : ℕ) → top.rest.now ≡ [] → top.start ≡ Some a
-    → Some d ≡ slice_get old.units.items top.unit → KeepsEnd old new d.body.n top.name.n a top.at
-    → IsStep top old new (On top)
-kept_end top old new d a over g e i s below w =
-    let q = reached_end refl (none_to_go top.rest.now over) w.frame.reached in
-    let m = met_there s (below ++ top ∷ []) old w.table top.unit w.from d w.frame.unit e in
-    let v = starts_some (paths_of old) a (start_of q.path.start w.from) (w.frame.start q.path a g q.is) in
-    let is : IsStatement q.path top.is_clone (kind_in s (body_of s w.from) top.name.n) = q.is in
-    let h : PathEnds s (paths_of old) d.body.n top.name.n a top.at = record {
+-- it is kept how far the path leads
+pub kept_end : {s : RootedModel} {below : List Frame} {top : Frame} {old new : Table} {u v : UnitPath} (d : Met) (a : ℕ)
+    (k : Reach) → IsFrame s (paths_of old) top u v → IsAnswered s below top old → top.start ≡ Some a
+    → Some d ≡ slice_get old.units.items top.unit → k.unit ≡ top.at → k.rest ≡ length top.rest.now
+    → KeepsEnd old new d.body.n top.name.n a k → IsKept s below top old new
+kept_end {s = s} {below = below} {top = top} {old = old} {u = u} {v = v} d a k f w g e at to_go i =
+    let q = f.reached in
+    let m = met_there s below old w.table top.unit u d f.unit e in
+    let first = starts_some (paths_of old) a (start_of q.path.start u) (f.start q.path a g q.is) in
+    let is : IsStatement q.path top.is_clone (kind_in s (body_of s u) top.name.n) = q.is in
+    let h : PathLeads s (paths_of old) d.body.n top.name.n a k = record {
       path = q.path;
       is_clone = top.is_clone;
       is = subst (λ b. IsStatement q.path top.is_clone (kind_in s b top.name.n)) m.body is;
-      first = v.0;
-      last = w.here;
-      starts = v.2;
-      stands = w.frame.at;
-      height = q.height + 0;
-      ends = subst (λ o. NamesEnd s (q.height + 0) o (numbers q.path.names.items) (Some w.here)) v.1 (whole q);
+      first = first.0;
+      last = v;
+      starts = first.2;
+      stands = subst (λ n. Stands (paths_of old) n v) (sym at) f.at;
+      before = q.before;
+      rest = numbers top.rest.now;
+      names = q.names;
+      to_go = length_numbers top.rest.now ∙ sym to_go;
+      height = q.height;
+      ends = subst (λ o. NamesEnd s q.height o q.before (Some v)) first.1 q.ran;
     } in
-    record { after = walking_kept w i h; extends = kept_extends i }
-
--- what is done after that
-pub kept_then : (top : Frame) (old mid new : Table) (r : Step) → IsStep top old mid (On top) → IsStep top mid new r
-    → IsStep top old new r
-kept_then top old mid new r f g s below w =
-    let a = f s below w in
-    let b = g s below a.after in
-    record { after = b.after; extends = extends_both a.extends b.extends }
-
-pub kept_weighs : (top : Frame) (old mid new : Table) (r : Step) → mid.count ≡ old.count → Weighs top mid new r
-    → Weighs top old new r
-kept_weighs top old mid new r e h = go r h
-  where
-    same : weight mid ≡ weight old
-    same = ap (λ n. (16777216 - n) * 2 ^ 65) e
-
-    go : (r : Step) → Weighs top mid new r → Weighs top old new r
-    go (On f) h = let k = same in omega (arith, h, k)
-    go (Into f) h = let k = same in omega (arith, h, k)
-    go Done h = let k = same in omega (arith, h, k)
+    let wide = kept_wide i in
+    record {
+      answered = record {
+        from = w.from;
+        stands = wide.keeps top.unit w.from w.stands;
+        chain = chain_wide wide w.chain;
+        table = table_kept below w.table i h;
+      };
+      extends = kept_extends i;
+    }
 
 -- an answer leaves no more to look at, and a name that leads to a unit leaves fewer names
 pub answer_weighs : (top : Frame) (old new : Table) (a x : ℕ) (c : Known) (r : Step) → r ≡ Done
@@ -574,10 +576,13 @@ module _ (s : RootedModel) (frames : List Frame) (t : Table) (k : IsTable s fram
     },
   )
 
-  pub begins_last : (d : Met) (n : ℕ) (g : Frame) → Some d ≡ slice_get t.units.items f.unit
+  pub begins_far : (d : Met) (n : Reach) (g : Frame) → Some d ≡ slice_get t.units.items f.unit
       → Some n ≡ end_at t d.body.n f.name.n f.at → g.unit ≡ f.unit → g.name ≡ f.name → g.is_clone ≡ f.is_clone
-      → g.at ≡ n → g.rest.now ≡ [] → g.start ≡ None → (v : UnitPath) × IsFrame s (paths_of t) g u v
-  begins_last d n g e h a b c j over fresh =
+      → g.at ≡ n.unit
+      → ((before rest : List ℕ) → numbers f.rest.now ≡ before ++ rest → length rest ≡ n.rest
+      → numbers g.rest.now ≡ rest)
+      → g.start ≡ None → (v : UnitPath) × IsFrame s (paths_of t) g u v
+  begins_far d n g e h a b c j over fresh =
       let m = met_there s frames t k f.unit u d i.unit e in
       let q = k.ends d.body.n f.name.n f.at n (sym h) in
       let is : IsStatement q.path q.is_clone (kind_in s (body_of s u) f.name.n) =
@@ -585,15 +590,15 @@ module _ (s : RootedModel) (frames : List Frame) (t : Table) (k : IsTable s fram
       let same : q.path ≡ p = one_path is i.is in
       let first : q.first ≡ from_start.0 = stands_one (paths_of t) f.at q.first from_start.0 q.starts from_start.2 in
       let P : ℕ → Bool → List ℕ → Type 0 = λ x z xs. Reached s u x z q.last xs in
-      let reached : P f.name.n f.is_clone [] = record {
+      let names : numbers p.names.items ≡ q.before ++ q.rest = ap (λ (p : Path). numbers p.names.items) (sym same) ∙ q.names in
+      let to_go : numbers g.rest.now ≡ q.rest = over q.before q.rest (ap numbers i.names ∙ names) q.to_go in
+      let reached : P f.name.n f.is_clone q.rest = record {
         path = p;
         is = i.is;
-        before = numbers p.names.items;
+        before = q.before;
         height = q.height;
-        names = sym (append-nil (numbers p.names.items));
-        ran = subst (λ o. NamesEnd s q.height o (numbers p.names.items) (Some q.last))
-            (ap Some first ∙ sym from_start.1)
-            (subst (λ p. NamesEnd s q.height (Some q.first) (numbers p.names.items) (Some q.last)) same q.ends);
+        names = names;
+        ran = subst (λ o. NamesEnd s q.height o q.before (Some q.last)) (ap Some first ∙ sym from_start.1) q.ends;
       } in (
         q.last,
         record {
@@ -601,7 +606,7 @@ module _ (s : RootedModel) (frames : List Frame) (t : Table) (k : IsTable s fram
           at = subst (λ n. Stands (paths_of t) n q.last) (sym j) q.stands;
           reached = subst (λ x. P x g.is_clone (numbers g.rest.now)) (sym (ap (λ (x : NameId). x.n) b))
               (subst (λ z. P f.name.n z (numbers g.rest.now)) (sym c)
-              (subst (λ xs. P f.name.n f.is_clone xs) (sym (none_to_go g.rest.now over)) reached));
+              (subst (λ xs. P f.name.n f.is_clone xs) (sym to_go) reached));
           start = λ q a e is. absurd (none_some a (sym fresh ∙ e));
         },
       )

@@ -13,11 +13,12 @@ use Rattle.hierarchy.specs.Models.{RootedModel}
 use Rattle.hierarchy.specs.Units.{UnitPath, UnitLevel, body_of, bodies_of, has_number, start_of}
 use Rattle.hierarchy.specs.Tie.{IsSetAt, none, some}
 use Rattle.unit_walks.specs.Forms.{same_pair}
-use Rattle.unit_walks.specs.Tables.{known_at, same_triple, end_at, level_of, path_below, path_met, paths_from, paths_of, Above, StandsIf, HasFrame, EndsAt, Means, PathEnds, IsMet, IsTable, IsSet, IsForgotten, IsGrown, KeepsEnd, Extends}
+use Rattle.unit_walks.specs.Tables.{known_at, same_triple, end_at, level_of, path_below, path_met, paths_from, paths_of, Above, StandsIf, HasFrame, EndsAt, Means, PathLeads, IsMet, IsTable, IsSet, IsForgotten, IsGrown, KeepsEnd, Extends}
 use Rattle.unit_walks.specs.Walking.{IsFrame, Chain, bottom, above}
 use Rattle.unit_walks.specs.declared.tables.Table.{Table}
 use Rattle.unit_walks.specs.declared.tables.Met.{Met}
 use Rattle.unit_walks.specs.declared.tables.Frame.{Frame}
+use Rattle.unit_walks.specs.declared.tables.Reach.{Reach}
 use Rattle.unit_walks.specs.declared.tables.Known.{Known}
 use Rattle.unit_walks.specs.declared.tables.Known.TheVariants.{Following, ToUnit, Nothing, Loops}
 
@@ -71,8 +72,8 @@ pub starts_wide : {paths more : List UnitPath} (a : ℕ) (o : Option UnitPath) �
 starts_wide a None w h = h
 starts_wide a (Some u) w h = w.keeps a u h
 
-pub ends_wide : {s : RootedModel} {paths more : List UnitPath} {b x a k : ℕ} → IsWider paths more
-    → PathEnds s paths b x a k → PathEnds s more b x a k
+pub ends_wide : {s : RootedModel} {paths more : List UnitPath} {b x a : ℕ} {k : Reach} → IsWider paths more
+    → PathLeads s paths b x a k → PathLeads s more b x a k
 ends_wide {a = a} {k = k} w i = record {
   path = i.path;
   is_clone = i.is_clone;
@@ -80,15 +81,19 @@ ends_wide {a = a} {k = k} w i = record {
   first = i.first;
   last = i.last;
   starts = w.keeps a i.first i.starts;
-  stands = w.keeps k i.last i.stands;
+  stands = w.keeps k.unit i.last i.stands;
+  before = i.before;
+  rest = i.rest;
+  names = i.names;
+  to_go = i.to_go;
   height = i.height;
   ends = i.ends;
 }
 
 -- where paths lead is kept as before
 ends_stay : {s : RootedModel} {old : Table} (new : Table) (frames : List Frame) → IsTable s frames old
-    → IsWider (paths_of old) (paths_of new) → new.ends ≡ old.ends → (b x a k : ℕ) → end_at new b x a ≡ Some k
-    → PathEnds s (paths_of new) b x a k
+    → IsWider (paths_of old) (paths_of new) → new.ends ≡ old.ends → (b x a : ℕ) (k : Reach)
+    → end_at new b x a ≡ Some k → PathLeads s (paths_of new) b x a k
 ends_stay new frames t w e b x a k q = ends_wide w
     (t.ends b x a k (subst (λ ends. get same_triple ends (b, x, a) ≡ Some k) e q))
 
@@ -261,15 +266,15 @@ wider e = record { keeps = e.units }
 
 -- It is kept where a path leads to
 
-pub kept_wide : {old new : Table} {b x a k : ℕ} → KeepsEnd old new b x a k → IsWider (paths_of old) (paths_of new)
+pub kept_wide : {old new : Table} {b x a : ℕ} {k : Reach} → KeepsEnd old new b x a k → IsWider (paths_of old) (paths_of new)
 kept_wide {new = new} i = record
     { keeps = λ n w p. subst (λ paths. Stands paths n w) (sym (ap (paths_from []) i.units)) p }
 
-pub kept_extends : {old new : Table} {b x a k : ℕ} → KeepsEnd old new b x a k → Extends old new
+pub kept_extends : {old new : Table} {b x a : ℕ} {k : Reach} → KeepsEnd old new b x a k → Extends old new
 kept_extends i = record { units = (kept_wide i).keeps; known = λ c y d q. (d, i.known c y ∙ q) }
 
-pub table_kept : {s : RootedModel} {old new : Table} {b x a k : ℕ} (frames : List Frame) → IsTable s frames old
-    → KeepsEnd old new b x a k → PathEnds s (paths_of old) b x a k → IsTable s frames new
+pub table_kept : {s : RootedModel} {old new : Table} {b x a : ℕ} {k : Reach} (frames : List Frame)
+    → IsTable s frames old → KeepsEnd old new b x a k → PathLeads s (paths_of old) b x a k → IsTable s frames new
 table_kept {s = s} {old = old} {new = new} {b = b} {x = x} {a = a} {k = k} frames t i h = record {
   main = (kept_wide i).keeps 0 [] t.main;
   units = λ n d w p q. met_wide (kept_wide i) (t.units n d w (subst (λ ds. Stands ds n d) i.units p) (old_at n w q));
@@ -282,21 +287,22 @@ table_kept {s = s} {old = old} {new = new} {b = b} {x = x} {a = a} {k = k} frame
     old_at : (n : ℕ) (w : UnitPath) → Stands (paths_of new) n w → Stands (paths_of old) n w
     old_at n w p = subst (λ paths. Stands paths n w) (ap (paths_from []) i.units) p
 
-    apart : (c y n j : ℕ) → end_at new c y n ≡ Some j → ((c ≡ b) × (y ≡ x) × (n ≡ a) → ⊥)
-        → PathEnds s (paths_of old) c y n j
+    apart : (c y n : ℕ) (j : Reach) → end_at new c y n ≡ Some j → ((c ≡ b) × (y ≡ x) × (n ≡ a) → ⊥)
+        → PathLeads s (paths_of old) c y n j
     apart c y n j q f = t.ends c y n j (sym (i.other c y n f) ∙ q)
 
-    same : (c y n j : ℕ) → end_at new c y n ≡ Some j → c ≡ b → y ≡ x → n ≡ a → PathEnds s (paths_of old) c y n j
+    same : (c y n : ℕ) (j : Reach) → end_at new c y n ≡ Some j → c ≡ b → y ≡ x → n ≡ a
+        → PathLeads s (paths_of old) c y n j
     same c y n j q e f g =
         let r : end_at new b x a ≡ Some j =
         subst (λ n. end_at new b x n ≡ Some j) g
         (subst (λ y. end_at new b y n ≡ Some j) f (subst (λ c. end_at new c y n ≡ Some j) e q)) in
-        let P : ℕ → ℕ → ℕ → ℕ → Type 0 = λ c y n j. PathEnds s (paths_of old) c y n j in
+        let P : ℕ → ℕ → ℕ → Reach → Type 0 = λ c y n j. PathLeads s (paths_of old) c y n j in
         subst (λ c. P c y n j) (sym e) (subst (λ y. P b y n j) (sym f)
         (subst (λ n. P b x n j) (sym g) (subst (λ j. P b x a j) (same_Some _ _ (sym i.here ∙ r)) h)))
 
-    go : (c y n j : ℕ) → end_at new c y n ≡ Some j → (c ≡ b) ⊎ (c ≡ b → ⊥) → (y ≡ x) ⊎ (y ≡ x → ⊥)
-        → (n ≡ a) ⊎ (n ≡ a → ⊥) → PathEnds s (paths_of old) c y n j
+    go : (c y n : ℕ) (j : Reach) → end_at new c y n ≡ Some j → (c ≡ b) ⊎ (c ≡ b → ⊥) → (y ≡ x) ⊎ (y ≡ x → ⊥)
+        → (n ≡ a) ⊎ (n ≡ a → ⊥) → PathLeads s (paths_of old) c y n j
     go c y n j q (inl e) (inl f) (inl g) = same c y n j q e f g
     go c y n j q (inr e) f g = apart c y n j q (λ z. e z.0)
     go c y n j q (inl e) (inr f) g = apart c y n j q (λ z. f z.1)

@@ -12,6 +12,7 @@ use Rattle.unit_walks.specs.Forms.{same_pair, kind_in}
 use Rattle.unit_walks.specs.declared.tables.Table.{Table}
 use Rattle.unit_walks.specs.declared.tables.Met.{Met}
 use Rattle.unit_walks.specs.declared.tables.Frame.{Frame}
+use Rattle.unit_walks.specs.declared.tables.Reach.{Reach}
 use Rattle.unit_walks.specs.declared.tables.Known.{Known}
 use Rattle.unit_walks.specs.declared.tables.Known.TheVariants.{Following, ToUnit, Nothing, Loops}
 
@@ -22,8 +23,8 @@ known_at t a x = get same_pair t.known (a, x)
 abbrev pub same_triple : ℕ × ℕ × ℕ → ℕ × ℕ × ℕ → Bool
 same_triple a b = (nat_eq a.0 b.0 && nat_eq a.1 b.1) && nat_eq a.2 b.2
 
--- the unit to which it is kept that the path of the statement x of body b leads from unit a
-abbrev pub end_at : Table → ℕ → ℕ → ℕ → Option ℕ
+-- how far it is kept that the path of the statement x of body b leads from unit a
+abbrev pub end_at : Table → ℕ → ℕ → ℕ → Option Reach
 end_at t b x a = get same_triple t.ends (b, x, a)
 
 -- the level of a unit
@@ -84,17 +85,21 @@ Means m paths frames a u x Nothing = EndsNowhere m u x
 Means m paths frames a u x Loops = NeverEnds m u x
 Means m paths frames a u x Following = HasFrame frames a x
 
--- the path of the statement x of body b ends, from the unit of number a, in the unit of number k
-pub record PathEnds (m : RootedModel) (paths : List UnitPath) (b x a k : ℕ) : Type 0 where
+-- the path of the statement x of body b leads so far from the unit of number a
+pub record PathLeads (m : RootedModel) (paths : List UnitPath) (b x a : ℕ) (k : Reach) : Type 0 where
   pub path : Path
   pub is_clone : Bool
   pub is : IsStatement path is_clone (kind_in m b x)
   pub first : UnitPath
   pub last : UnitPath
   pub starts : Stands paths a first
-  pub stands : Stands paths k last
+  pub stands : Stands paths k.unit last
+  pub before : List ℕ
+  pub rest : List ℕ
+  pub names : numbers path.names.items ≡ before ++ rest
+  pub to_go : length rest ≡ k.rest
   pub height : ℕ
-  pub ends : NamesEnd m height (Some first) (numbers path.names.items) (Some last)
+  pub ends : NamesEnd m height (Some first) before (Some last)
 
 -- the entry is that of the unit
 pub record IsMet (m : RootedModel) (paths : List UnitPath) (u : UnitPath) (d : Met) : Type 0 where
@@ -111,7 +116,7 @@ pub record IsTable (m : RootedModel) (frames : List Frame) (t : Table) : Type 0 
   pub known : (a x : ℕ) (c : Known) (u : UnitPath) → Stands (paths_of t) a u → known_at t a x ≡ Some c
       → Means m (paths_of t) frames a u x c
   pub within : (a x : ℕ) (c : Known) → known_at t a x ≡ Some c → a < length t.units.items
-  pub ends : (b x a k : ℕ) → end_at t b x a ≡ Some k → PathEnds m (paths_of t) b x a k
+  pub ends : (b x a : ℕ) (k : Reach) → end_at t b x a ≡ Some k → PathLeads m (paths_of t) b x a k
 
 -- one entry is set, and k are new
 pub record IsSet (old new : Table) (a x : ℕ) (c : Known) (k : ℕ) : Type 0 where
@@ -136,8 +141,8 @@ pub record IsGrown (old new : Table) (d : Met) (n : ℕ) : Type 0 where
   pub count : new.count ≡ old.count
   pub ends : new.ends ≡ old.ends
 
--- that the path of the statement x of body b leads from unit a to unit k is kept
-pub record KeepsEnd (old new : Table) (b x a k : ℕ) : Type 0 where
+-- that the path of the statement x of body b leads so far from unit a is kept
+pub record KeepsEnd (old new : Table) (b x a : ℕ) (k : Reach) : Type 0 where
   pub units : new.units.items ≡ old.units.items
   pub known : (c y : ℕ) → known_at new c y ≡ known_at old c y
   pub count : new.count ≡ old.count

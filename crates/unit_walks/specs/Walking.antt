@@ -91,6 +91,11 @@ IsNameStep forms top y old new r = (m : RootedModel) (below : List Frame) (more 
     → IsWalking m below top old
     → numbers top.rest.now ≡ y ∷ more → Steps m below top old new r
 
+-- the top frame's statement is answered as before, and it may be kept how far its path leads
+pub record IsKept (m : RootedModel) (below : List Frame) (top : Frame) (old new : Table) : Type 0 where
+  pub answered : IsAnswered m below top new
+  pub extends : Extends old new
+
 -- no walk is under way, and what was known stays known
 pub record IsRun (m : RootedModel) (old new : Table) : Type 0 where
   pub table : IsTable m [] new

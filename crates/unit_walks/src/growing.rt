@@ -17,7 +17,7 @@ use crate::indexing::forms_of;
 use crate::tables::{Known, Table, start_table};
 use crate::walking::known;
 use ar_base::{Count, Memory, NameId, RuleFault, UnitId};
-use ar_syntax::{Path, PathStart};
+use ar_syntax::Path;
 use class_table::Classes;
 use hierarchy::Outline;
 use std::alloc::Global;
@@ -86,23 +86,23 @@ fn made(
     }
 }
 
-// Whether the path of a clone begins in the clone's own unit with a name that is no unit there, so that no walk is needed:
-// such a clone may stand in far more units than a tree has nodes.
+// Whether the path of a clone begins with a name that is no unit where it begins, so that no walk is needed: such a clone
+// may stand in far more units than a tree has nodes.
 fn is_lost(forms: &Forms, table: &Table, unit: u32, path: &Path) -> bool
     ensures { result ≡ true → (m : RootedModel) (u : UnitPath) (x : ℕ) → IsFormsFor m forms.now
         → IsTable m [] table.now → Stands (paths_of table.now) unit u
         → kind_at m u x ≡ Some (Clone path.now) → EndsNowhere m u x }
 {
-    let PathStart::Here = path.start else {
+    let Some(start) = table.start(path.start, unit) else {
         return false;
     };
     let Some(first) = path.names.first() else {
         return false;
     };
-    let Some(here) = table.unit(unit) else {
+    let Some(there) = table.unit(start) else {
         return false;
     };
-    match forms.form(here.body, *first) {
+    match forms.form(there.body, *first) {
         None => true,
         Some(_) => false,
     }

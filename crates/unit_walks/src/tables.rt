@@ -42,6 +42,15 @@ pub(crate) enum Known {
     Loops,
 }
 
+/// How far a long path leads: to its end, or to where its next name leads to no unit or to a walk that loops.
+#[derive(Clone, Copy)]
+pub(crate) struct Reach {
+    /// The unit to which its first names lead, by its number in the table.
+    pub unit: u32,
+    /// How many names are to go from there.
+    pub rest: usize,
+}
+
 /// The units that walks have come to, by number, and what is known of the names in them.
 #[derive(Drop)]
 pub(crate) struct Table {
@@ -51,9 +60,9 @@ pub(crate) struct Table {
     pub known: HashMap<(u32, u32), Known>,
     /// How many names in units are known.
     pub count: u32,
-    /// The units to which long paths lead, by the body and the name of the statement and by the unit where the path
-    /// begins. There is one at most for each statement in a unit that was walked to the end of its path.
-    pub ends: HashMap<(u32, u32, u32), u32>,
+    /// How far long paths lead, by the body and the name of the statement and by the unit where the path begins. There is
+    /// one at most for each statement in a unit that was walked.
+    pub ends: HashMap<(u32, u32, u32), Reach>,
 }
 
 /// A clone or an alias whose path is being walked.
@@ -69,7 +78,7 @@ pub(crate) struct Frame<'a> {
     pub at: u32,
     /// The names that are to go.
     pub rest: &'a [NameId],
-    /// The unit where its path begins, if where it leads to is to be kept.
+    /// The unit where its path begins, if it is to be kept how far it leads.
     pub start: Option<u32>,
 }
 
@@ -131,25 +140,25 @@ impl Table {
         }
     }
 
-    /// The unit to which a path leads from the unit `start`, where that is kept: that of the statement of this name in
-    /// units of the body.
-    pub(crate) fn end(&self, body: BodyId, name: NameId, start: u32) -> Option<u32>
+    /// How far a path leads from the unit `start`, where that is kept: that of the statement of this name in units of
+    /// the body.
+    pub(crate) fn end(&self, body: BodyId, name: NameId, start: u32) -> Option<Reach>
         ensures { result ≡ end_at self.now body.n name.n start }
     {
         self.ends.get(&(body.n, name.n, start)).copied()
     }
 
-    /// Keeps the unit to which a path leads from the unit `start`.
+    /// Keeps how far a path leads from the unit `start`.
     pub(crate) fn keep_end(
         &mut self,
         body: BodyId,
         name: NameId,
         start: u32,
-        unit: u32,
+        reach: Reach,
     ) -> Result<(), Memory>
-        ensures { OnOk result (KeepsEnd self.old self.new body.n name.n start unit) }
+        ensures { OnOk result (KeepsEnd self.old self.new body.n name.n start reach) }
     {
-        self.ends.insert((body.n, name.n, start), unit)?;
+        self.ends.insert((body.n, name.n, start), reach)?;
         Ok(())
     }
 

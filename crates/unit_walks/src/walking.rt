@@ -1,25 +1,25 @@
 //! Walks along paths. What each name in a unit leads to is found once; what leads to nothing is found anew where it is
-//! asked for again. A long path is walked once from each unit where it begins: all instances of a class whose path begins
-//! at the main block share one walk.
+//! asked for again. A long path is walked once from each unit where it begins, also where it leads to nothing: all
+//! instances of a class whose path begins at the main block share one walk.
 
-ghost use Rattle.std.specs.Prelude.{◌≡◌, ◌≤◌, List, [], ◌∷◌, true, length, IfOk, OnOk, Some};
+ghost use Rattle.std.specs.Prelude.{◌≡◌, ◌≤◌, ◌++◌, ℕ, List, [], ◌∷◌, true, length, IfOk, OnOk, Some};
 ghost use Rattle.ar_base.specs.Lists.{Stands};
 ghost use Rattle.ar_syntax.specs.declared.paths.Path.{Path as Written};
 ghost use Rattle.hierarchy.specs.Models.{RootedModel};
-ghost use Rattle.hierarchy.specs.Units.{UnitPath, kind_at};
+ghost use Rattle.hierarchy.specs.Units.{UnitPath, kind_at, numbers};
 ghost use Rattle.unit_walks.specs.Ends.{IsStatement};
 ghost use Rattle.unit_walks.specs.Forms.{IsFormsFor};
 ghost use Rattle.unit_walks.specs.Tables.{paths_of, IsTable, IsSet, IsEntered};
-ghost use Rattle.unit_walks.specs.Walking.{IsFrame, IsAtStart, IsStep, IsNameStep, IsStatementStep, Steps, Weighs, IsWalking, IsReady, IsRun, IsKnown};
+ghost use Rattle.unit_walks.specs.Walking.{IsFrame, IsAtStart, IsStep, IsNameStep, IsStatementStep, Steps, Weighs, IsWalking, IsAnswered, IsKept, IsReady, IsRun, IsKnown};
 ghost use Rattle.unit_walks.specs.declared.tables.Frame.{Frame as Walk};
 
 use crate::forms::{Forms, UnitForm};
-use crate::tables::{Frame, Known, Met, Table};
+use crate::tables::{Frame, Known, Met, Reach, Table};
 use ar_base::{Memory, NameId};
 use ar_syntax::Path;
 use std::alloc::Global;
 
-/// A path of so many names or more is long: where it leads to is kept. To look that up is more work than to walk a
+/// A path of so many names or more is long: how far it leads is kept. To look that up is more work than to walk a
 /// shorter one.
 const LONG_PATH: usize = 8;
 
@@ -65,10 +65,11 @@ fn copy<'a>(table: &mut Table, top: &Frame) -> Result<Step<'a>, Memory>
     answer(table, top, Known::ToUnit(unit))
 }
 
-// Keeps where the path of the top statement leads to, if that is to be kept.
+// Keeps how far the path of an answered statement leads, if that is to be kept.
 fn keep_end(table: &mut Table, top: &Frame) -> Result<(), Memory>
-    ensures step { top.now.rest.now ≡ []
-        → OnOk result (IsStep top.now table.old table.new (Step.On top.now)) }
+    ensures kept { (m : RootedModel) (below : List Walk) (u v : UnitPath)
+        → IsFrame m (paths_of table.old) top.now u v → IsAnswered m below top.now table.old
+        → OnOk result (IsKept m below top.now table.old table.new) }
     ensures same { OnOk result (table.new.count ≡ table.old.count) }
 {
     let Some(start) = top.start else {
@@ -77,7 +78,11 @@ fn keep_end(table: &mut Table, top: &Frame) -> Result<(), Memory>
     let Some(here) = table.unit(top.unit) else {
         return Ok(());
     };
-    table.keep_end(here.body, top.name, start, top.at)
+    let reach = Reach {
+        unit: top.at,
+        rest: top.rest.len(),
+    };
+    table.keep_end(here.body, top.name, start, reach)
 }
 
 // The path of the top statement has been walked to its end.
@@ -85,7 +90,6 @@ fn arrive<'a>(table: &mut Table, top: &Frame) -> Result<Step<'a>, Memory>
     ensures step { top.now.rest.now ≡ [] → IfOk result (IsStep top.now table.old table.new) }
     ensures weighs { IfOk result (Weighs top.now table.old table.new) }
 {
-    keep_end(table, top)?;
     if top.is_clone {
         copy(table, top)
     } else {
@@ -102,8 +106,18 @@ fn enter(table: &mut Table, unit: u32, met: Met) -> Result<u32, Memory>
     Ok(number)
 }
 
-// The walk of a statement: from the start of its path, or, where it is kept where a long path leads to from there,
-// at its end.
+// The last so many names.
+fn last(names: &[NameId], count: usize) -> &[NameId]
+    ensures rest { (before rest : List ℕ) → numbers names.now ≡ before ++ rest → length rest ≡ count
+        → numbers result.now ≡ rest }
+    ensures short { length result.now ≤ length names.now }
+{
+    let before = names.len().saturating_sub(count);
+    &names[before..]
+}
+
+// The walk of a statement: from the start of its path, or, where it is kept how far a long path leads from there,
+// from where it leads to.
 fn begin<'a>(table: &Table, first: Frame<'a>) -> Frame<'a>
     ensures frame { (m : RootedModel) (frames : List Walk) (u : UnitPath) (p : Written)
         → IsTable m frames table.now → IsAtStart m (paths_of table.now) first.entry u p
@@ -123,9 +137,9 @@ fn begin<'a>(table: &Table, first: Frame<'a>) -> Frame<'a>
             start: Some(first.at),
             ..first
         },
-        Some(at) => Frame {
-            at,
-            rest: &[],
+        Some(reach) => Frame {
+            at: reach.unit,
+            rest: last(first.rest, reach.rest),
             ..first
         },
     }
@@ -236,10 +250,13 @@ fn run<'a>(
                 below.push(top)?;
                 top = next;
             }
-            Step::Done => match below.pop() {
-                None => return Ok(()),
-                Some(next) => top = next,
-            },
+            Step::Done => {
+                keep_end(table, &top)?;
+                match below.pop() {
+                    None => return Ok(()),
+                    Some(next) => top = next,
+                }
+            }
         }
     }
 }

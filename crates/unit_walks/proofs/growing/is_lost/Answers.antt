@@ -1,8 +1,12 @@
-use Rattle.std.proofs.Common.{◌≡◌, ℕ, suc, List, [], ◌∷◌, Some, None, slice_get, sym, ap, subst, ◌∙◌}
+use Rattle.std.proofs.Common.{◌≡◌, ℕ, suc, List, [], ◌∷◌, Option, Some, None, slice_get, sym, ap, subst, ◌∙◌}
 use Rattle.ar_base.specs.Numbers.{NameId}
-use Rattle.ar_syntax.specs.declared.paths.PathStart.{PathStart}
 use Rattle.hierarchy.specs.Models.{RootedModel}
 use Rattle.hierarchy.specs.Units.{UnitPath, kind_at, start_of, numbers}
+use Rattle.unit_walks.specs.Forms.{IsFormsFor, form_at}
+use Rattle.unit_walks.specs.Tables.{paths_of, StandsIf, IsTable}
+use Rattle.unit_walks.specs.declared.forms.Forms.{Forms}
+use Rattle.unit_walks.specs.declared.tables.Table.{Table}
+use Rattle.unit_walks.specs.declared.tables.Met.{Met}
 use Rattle.unit_walks.specs.Ends.{NameEnds, NamesEnd, clones_none, stops}
 use Rattle.unit_walks.proofs.Running.{fresh_absent}
 use Rattle.unit_walks.proofs.growing.is_lost.Goals as goal
@@ -16,19 +20,26 @@ begins m n u (x ∷ xs) first e ends =
     let same : first ≡ x = cc in
     subst (λ (z : NameId). NamesEnd m n (Some u) (z.n ∷ numbers xs) None) same (stops ends)
 
+-- names of which the first is nothing in the unit where they begin
+nowhere : (m : RootedModel) (forms : Forms) (t : Table) (at : ℕ) (there : Met) (first : NameId) (names : List NameId)
+    (o : Option UnitPath) → IsFormsFor m forms → IsTable m [] t → StandsIf (paths_of t) (Some at) o
+    → Some there ≡ slice_get t.units.items at → None ≡ form_at forms there.body.n first.n
+    → Some first ≡ slice_get names 0 → (h : ℕ) × NamesEnd m h o (numbers names) None
+nowhere m forms t at there first names None f k s e g h = absurd s
+nowhere m forms t at there first names (Some v) f k s e g h =
+    let ends = (fresh_absent m forms t at v there first.n f k s e g).known v s in
+    (ends.height, begins m ends.height v names first h ends.ends)
+
 pub returns-in-None : goal.returns-in-None
 returns-in-None c = λ e m u x f t s kind.
     let path = c.args.path.now in
-    let first = c.in-Some.first.now in
-    let nowhere = (fresh_absent m c.args.forms.now c.args.table.now c.args.unit u c.in-Some-unit.here first.n f t s
-    c.in-Some-unit.ensures c.in-None.ensures).known u s in
+    let start : StandsIf (paths_of c.args.table.now) (Some c.in-Some.start) (start_of path.start u) =
+    subst (λ o. StandsIf (paths_of c.args.table.now) o (start_of path.start u)) c.in-Some.is
+    (c.start.ensures m [] u t s) in
+    let ends = nowhere m c.args.forms.now c.args.table.now c.in-Some.start c.in-Some-unit.there c.in-Some-first.first.now
+    path.names.items (start_of path.start u) f t start c.in-Some-unit.ensures c.in-None.ensures
+    (c.in-Some-first.ensures.value ∙ ap (λ (z : List NameId). slice_get z 0) c.deref.ensures.value) in
     record {
-      height = suc nowhere.height;
-      ends = subst (λ z. NameEnds m (suc nowhere.height) u x z None) (sym kind)
-          (clones_none
-          (subst (λ (z : PathStart). NamesEnd m nowhere.height (start_of z u) (numbers path.names.items) None)
-          (sym c.in-Here.is)
-          (begins m nowhere.height u path.names.items first
-          (c.in-Some.ensures.value ∙ ap (λ (z : List NameId). slice_get z 0) c.deref.ensures.value)
-          nowhere.ends)));
+      height = suc ends.0;
+      ends = subst (λ z. NameEnds m (suc ends.0) u x z None) (sym kind) (clones_none ends.1);
     }

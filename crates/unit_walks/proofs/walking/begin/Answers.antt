@@ -1,5 +1,5 @@
 use Rattle.std.proofs.Common.{refl}
-use Rattle.unit_walks.proofs.Stepping.{begins_first, begins_long, begins_last}
+use Rattle.unit_walks.proofs.Stepping.{begins_first, begins_long, begins_far}
 use Rattle.unit_walks.proofs.walking.begin.Goals as goal
 
 pub returns-then-first-lt-LONG_PATH-clause-frame : goal.returns-then-first-lt-LONG_PATH-clause-frame
@@ -13,5 +13,6 @@ pub returns-in-None-clause-frame : goal.returns-in-None-clause-frame
 returns-in-None-clause-frame c = λ m frames u p t i. begins_long m frames c.args.table.now t c.args.first u p i
 
 pub returns-in-Some-end-clause-frame : goal.returns-in-Some-end-clause-frame
-returns-in-Some-end-clause-frame c = λ m frames u p t i. begins_last m frames c.args.table.now t c.args.first u p i
-    c.in-Some.here c.in-Some-end.at _ c.in-Some.ensures c.in-Some-end.ensures refl refl refl refl refl i.fresh
+returns-in-Some-end-clause-frame c = λ m frames u p t i. begins_far m frames c.args.table.now t c.args.first u p i
+    c.in-Some.here c.in-Some-end.reach _ c.in-Some.ensures c.in-Some-end.ensures refl refl refl refl
+    c.last.ensures.rest i.fresh

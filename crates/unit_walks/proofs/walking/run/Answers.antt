@@ -1,6 +1,6 @@
 use Rattle.std.proofs.Common.{sym, ◌∙◌}
 use Rattle.unit_walks.proofs.TableSteps.{extends_both}
-use Rattle.unit_walks.proofs.Running.{went_on, went_into, went_done, into_smaller, done_smaller, popped, finished, none_left}
+use Rattle.unit_walks.proofs.Running.{went_on, went_into, kept_after, into_smaller, done_smaller, popped, finished, none_left}
 use Rattle.unit_walks.proofs.walking.run.Goals as goal
 
 pub walk-preserved-in-On : goal.walk-preserved-in-On
@@ -33,23 +33,25 @@ pub walk-preserved : goal.walk-preserved
 walk-preserved c = λ m f w.
     let i = c.walk.invariant m f w in
     let t = c.in_ok-next.ensures.step m c.walk.below.items f i.walking in
-    let a = went_done m c.walk.below.items c.walk.top c.walk.table c.take_step.new.table c.in_ok-next.field-0
-    c.in-Done.is t in
+    let k = kept_after m c.walk.below.items c.walk.top c.walk.table c.take_step.new.table c.keep_end.new.table
+    c.in_ok-next.field-0 c.in-Done.is i.walking t (c.in_ok-keep_end-in-Done.ensures.kept m c.walk.below.items) in
     record {
-      walking = popped m c.walk.below.items c.pop.new.self.items c.walk.top c.in-Some.next c.take_step.new.table
-          a c.in-Some.ensures.items;
-      extends = extends_both i.extends t.extends;
+      walking = popped m c.walk.below.items c.pop.new.self.items c.walk.top c.in-Some.next c.keep_end.new.table
+          k.answered c.in-Some.ensures.items;
+      extends = extends_both i.extends (extends_both t.extends k.extends);
     }
 
 pub walk-smaller : goal.walk-smaller
 walk-smaller c = done_smaller c.walk.below.items c.pop.new.self.items c.walk.top c.in-Some.next c.walk.table
-    c.take_step.new.table c.in_ok-next.field-0 c.in-Done.is c.in-Some.ensures.items c.in_ok-next.ensures.weighs
+    c.take_step.new.table c.keep_end.new.table c.in_ok-next.field-0 c.in-Done.is c.in-Some.ensures.items
+    c.in_ok-next.ensures.weighs c.in_ok-keep_end-in-Done.ensures.same
 
 pub returns-in-None : goal.returns-in-None
 returns-in-None c = λ m f w.
     let i = c.walk.invariant m f w in
     let t = c.in_ok-next.ensures.step m c.walk.below.items f i.walking in
-    let a = went_done m c.walk.below.items c.walk.top c.walk.table c.take_step.new.table c.in_ok-next.field-0
-    c.in-Done.is t in
-    finished m c.walk.below.items c.walk.top c.args.table.now c.walk.table c.take_step.new.table a
-    (none_left c.walk.below.items (sym c.walk.below.ok.0 ∙ c.in-None.ensures.cases.0)) i.extends t.extends
+    let k = kept_after m c.walk.below.items c.walk.top c.walk.table c.take_step.new.table c.keep_end.new.table
+    c.in_ok-next.field-0 c.in-Done.is i.walking t (c.in_ok-keep_end-in-Done.ensures.kept m c.walk.below.items) in
+    finished m c.walk.below.items c.walk.top c.args.table.now c.walk.table c.keep_end.new.table k.answered
+    (none_left c.walk.below.items (sym c.walk.below.ok.0 ∙ c.in-None.ensures.cases.0)) i.extends
+    (extends_both t.extends k.extends)

@@ -1,9 +1,9 @@
 -- The answer of the stage.
-use Rattle.std.proofs.Common.{◌≡◌, ℕ, suc, List, map, Option, Some, None, Result, Ok, Err, IfNone, Vec, Global, refl, sym, ap, subst, arith}
-use Rattle.ar_base.specs.Breach.{IsBroken}
+use Rattle.std.proofs.Common.{◌≡◌, ℕ, ◌<◌, List, [], ◌∷◌, ◌++◌, map, Option, Some, None, Result, Ok, Err, IfNone, Vec, Global, refl, sym, ap, subst, arith}
+use Rattle.ar_base.specs.Breach.{IsBroken, AreKept}
 use Rattle.ar_base.specs.Lists.{IsOneOf, Along}
 use Rattle.ar_base.specs.Numbers.{NameId, BodyId}
-use Rattle.ar_base.specs.Stages.{Meets, kept_rule, IsRefusal, rule_told}
+use Rattle.ar_base.specs.Stages.{Keeps, kept, broken, Meets, kept_rule, IsRefusal, rule_told}
 use Rattle.ar_base.specs.declared.faults.RuleFault.{RuleFault}
 use Rattle.ar_base.specs.declared.faults.RuleFault.TheVariants.{Rule, Limit, Memory}
 use Rattle.ar_base.specs.declared.places.Place.{Place}
@@ -15,8 +15,8 @@ use Rattle.class_table.specs.Declaring.{Declared, IsDeclared}
 use Rattle.class_table.specs.Tables.{IsBodyOf, IsNamedType, IsTableOfModel, IsMain}
 use Rattle.class_table.specs.Tabling.{Tabulates, table, breach}
 use Rattle.class_table.specs.Rules.{BreaksItems, BreaksTypes, BreaksContainment, BreaksNames, BreaksTextRule, l1, l2, l3, l4, l5, text_rules}
-use Rattle.class_table.specs.Earliest.{IsEarliest}
-use Rattle.class_table.specs.Testing.{KeptBelow, TestsBelow, kept, broken, TakesApart, parts, wrong, KeepsDeclared}
+use Rattle.class_table.specs.Earliest.{IsEarliest, nowhere, there}
+use Rattle.class_table.specs.Testing.{TakesApart, parts, wrong, AreAsDeclared}
 use Rattle.class_table.specs.Laying.{AreParts}
 use Rattle.class_table.specs.Shown.{Shows, IsListed}
 use Rattle.class_table.specs.Kinds.{KnowsTypes}
@@ -31,7 +31,7 @@ use Rattle.class_table.specs.Rows.{AreInside}
 use Rattle.class_table.proofs.Acyclic.{is_complete}
 use Rattle.class_table.proofs.Listed.{classes_named}
 use Rattle.class_table.proofs.FirstPlaces.{earliest_same}
-use Rattle.class_table.proofs.Broken.{none_below, next_below, all_kept, broken_at, kept_none, is_l1, is_l2, is_l3, is_l4, is_l5}
+use Rattle.class_table.proofs.Broken.{each_of, each_of_none, none_kept, one_more_kept, broken_at, broken_of_more, is_l1, is_l2, is_l3, is_l4, is_l5}
 
 -- what the parts declare
 unfoldable pub declared_of : (items : List Item) (p : Parts) → AreParts items p → Declared
@@ -53,21 +53,6 @@ kept_err r None x e = absurd (cc)
 kept_err r (Some p) x e = (p, refl, cc)
 
 module _ (model : Model) (main : Option (List ℕ)) (d : Declared) where
-  one1 : IsOneOf text_rules 1
-  one1 = one_first 1 _
-
-  one2 : IsOneOf text_rules 2
-  one2 = one_rest 1 _ 2 (one_first 2 _)
-
-  one3 : IsOneOf text_rules 3
-  one3 = one_rest 1 _ 3 (one_rest 2 _ 3 (one_first 3 _))
-
-  one4 : IsOneOf text_rules 4
-  one4 = one_rest 1 _ 4 (one_rest 2 _ 4 (one_rest 3 _ 4 (one_first 4 _)))
-
-  one5 : IsOneOf text_rules 5
-  one5 = one_rest 1 _ 5 (one_rest 2 _ 5 (one_rest 3 _ 5 (one_rest 4 _ 5 (one_first 5 _))))
-
   -- the tests, by their rules
   pub tests1 : (f : Option Place) → IsEarliest (BreaksItems model.items.items) f
       → IsEarliest (BreaksTextRule model main d 1) f
@@ -83,126 +68,168 @@ module _ (model : Model) (main : Option (List ℕ)) (d : Declared) where
   tests4 f h = earliest_same f (λ p b. l4 b) (is_l4 model main d) h
 
   -- a test that passes
-  pub passes_test : (n : ℕ) (f : Option Place) → f ≡ None → KeptBelow model main d n
-      → IsEarliest (BreaksTextRule model main d n) f → KeptBelow model main d (suc n)
-  passes_test n f e k h = kept_none model main d n k (subst (IsEarliest (BreaksTextRule model main d n)) e h)
+  pub passes_test : (rules : List ℕ) (n : ℕ) (f : Option Place) → f ≡ None
+      → AreKept rules (BreaksTextRule model main d) → IsEarliest (BreaksTextRule model main d n) f
+      → AreKept (rules ++ n ∷ []) (BreaksTextRule model main d)
+  passes_test rules n f e k h = one_more_kept (BreaksTextRule model main d) rules n k
+      (subst (IsEarliest (BreaksTextRule model main d n)) e h)
 
   -- a test that refuses
-  pub refuses_test : (n : ℕ) (f : Option Place) (x : RuleFault) (m : ℕ) → IsOneOf text_rules n
-      → KeptBelow model main d n → IsEarliest (BreaksTextRule model main d n) f
-      → (p : Place) × (f ≡ Some p) × (x ≡ Rule n p) → IsRefusal (TestsBelow m model main d) (rule_told x)
-  refuses_test n f x m o k h w =
-      subst (λ (y : RuleFault). IsRefusal (TestsBelow m model main d) (rule_told y)) (sym w.2)
-      (broken (broken_at model main d n w.0 o k (subst (IsEarliest (BreaksTextRule model main d n)) w.1 h)))
+  pub refuses_test : (before after : List ℕ) (n : ℕ) (f : Option Place) (x : RuleFault)
+      → ((s : ℕ) → IsOneOf after s → n < s) → AreKept before (BreaksTextRule model main d)
+      → IsEarliest (BreaksTextRule model main d n) f → (p : Place) × (f ≡ Some p) × (x ≡ Rule n p)
+      → IsRefusal (Keeps (before ++ n ∷ after) (BreaksTextRule model main) d) (rule_told x)
+  refuses_test before after n f x least k h w =
+      subst (λ (y : RuleFault). IsRefusal (Keeps (before ++ n ∷ after) (BreaksTextRule model main) d) (rule_told y))
+      (sym w.2) (broken (broken_at (BreaksTextRule model main d) before after n w.0 least k
+      (subst (IsEarliest (BreaksTextRule model main d n)) w.1 h)))
 
   -- the test of rule L1
-  pub first_kept : IsEarliest (BreaksItems model.items.items) None → KeptBelow model main d 2
-  first_kept h = kept_none model main d 1 (none_below model main d) (tests1 None h)
+  pub first_kept : IsEarliest (BreaksItems model.items.items) None → AreKept (1 ∷ []) (BreaksTextRule model main d)
+  first_kept h = passes_test [] 1 None refl (none_kept (BreaksTextRule model main d)) (tests1 None h)
 
   pub first_broken : (p : Place) → IsEarliest (BreaksItems model.items.items) (Some p)
       → IsBroken text_rules (BreaksTextRule model main d) 1 p
-  first_broken p h = broken_at model main d 1 p one1 (none_below model main d) (tests1 (Some p) h)
+  first_broken p h =
+      broken_at (BreaksTextRule model main d) [] (2 ∷ 3 ∷ 4 ∷ 5 ∷ []) 1 p
+      (each_of (λ s. 1 < s) 2 _ (omega arith) (each_of (λ s. 1 < s) 3 _ (omega arith)
+      (each_of (λ s. 1 < s) 4 _ (omega arith) (each_of (λ s. 1 < s) 5 _ (omega arith) (each_of_none (λ s. 1 < s))))))
+      (none_kept (BreaksTextRule model main d)) (tests1 (Some p) h)
 
   -- the tests of rules L2 to L4
-  pub refuses2 : (f : Option Place) (x : RuleFault) (m : ℕ) → KeptBelow model main d 2 → IsEarliest (BreaksTypes d) f
-      → Err x ≡ kept_rule 2 f → IsRefusal (TestsBelow m model main d) (rule_told x)
-  refuses2 f x m k h e = refuses_test 2 f x m one2 k (tests2 f h) (kept_err 2 f x e)
+  pub refuses2 : (f : Option Place) (x : RuleFault) → AreKept (1 ∷ []) (BreaksTextRule model main d)
+      → IsEarliest (BreaksTypes d) f → Err x ≡ kept_rule 2 f
+      → IsRefusal (Keeps (1 ∷ 2 ∷ 3 ∷ []) (BreaksTextRule model main) d) (rule_told x)
+  refuses2 f x k h e = refuses_test (1 ∷ []) (3 ∷ []) 2 f x
+      (each_of (λ s. 2 < s) 3 [] (omega arith) (each_of_none (λ s. 2 < s))) k (tests2 f h) (kept_err 2 f x e)
 
-  pub passes2 : (f : Option Place) (x : Unit {0}) → KeptBelow model main d 2 → IsEarliest (BreaksTypes d) f
-      → Ok x ≡ kept_rule 2 f → KeptBelow model main d 3
-  passes2 f x k h e = passes_test 2 f (kept_ok 2 f x e) k (tests2 f h)
+  pub passes2 : (f : Option Place) (x : Unit {0}) → AreKept (1 ∷ []) (BreaksTextRule model main d)
+      → IsEarliest (BreaksTypes d) f → Ok x ≡ kept_rule 2 f → AreKept (1 ∷ 2 ∷ []) (BreaksTextRule model main d)
+  passes2 f x k h e = passes_test (1 ∷ []) 2 f (kept_ok 2 f x e) k (tests2 f h)
 
-  pub refuses3 : (f : Option Place) (x : RuleFault) (m : ℕ) → KeptBelow model main d 3
-      → IsEarliest (BreaksContainment d) f → Err x ≡ kept_rule 3 f → IsRefusal (TestsBelow m model main d) (rule_told x)
-  refuses3 f x m k h e = refuses_test 3 f x m one3 k (tests3 f h) (kept_err 3 f x e)
+  pub refuses3 : (f : Option Place) (x : RuleFault) → AreKept (1 ∷ 2 ∷ []) (BreaksTextRule model main d)
+      → IsEarliest (BreaksContainment d) f → Err x ≡ kept_rule 3 f
+      → IsRefusal (Keeps (1 ∷ 2 ∷ 3 ∷ []) (BreaksTextRule model main) d) (rule_told x)
+  refuses3 f x k h e = refuses_test (1 ∷ 2 ∷ []) [] 3 f x (each_of_none (λ s. 3 < s)) k (tests3 f h) (kept_err 3 f x e)
 
-  pub passes3 : (f : Option Place) (x : Unit {0}) → KeptBelow model main d 3 → IsEarliest (BreaksContainment d) f
-      → Ok x ≡ kept_rule 3 f → KeptBelow model main d 4
-  passes3 f x k h e = passes_test 3 f (kept_ok 3 f x e) k (tests3 f h)
+  pub passes3 : (f : Option Place) (x : Unit {0}) → AreKept (1 ∷ 2 ∷ []) (BreaksTextRule model main d)
+      → IsEarliest (BreaksContainment d) f → Ok x ≡ kept_rule 3 f
+      → AreKept (1 ∷ 2 ∷ 3 ∷ []) (BreaksTextRule model main d)
+  passes3 f x k h e = passes_test (1 ∷ 2 ∷ []) 3 f (kept_ok 3 f x e) k (tests3 f h)
 
-  pub refuses4 : (f : Option Place) (x : RuleFault) (m : ℕ) → KeptBelow model main d 4 → IsEarliest (BreaksNames d) f
-      → Err x ≡ kept_rule 4 f → IsRefusal (TestsBelow m model main d) (rule_told x)
-  refuses4 f x m k h e = refuses_test 4 f x m one4 k (tests4 f h) (kept_err 4 f x e)
+  pub refuses4 : (f : Option Place) (x : RuleFault) → AreKept (1 ∷ 2 ∷ 3 ∷ []) (BreaksTextRule model main d)
+      → IsEarliest (BreaksNames d) f → Err x ≡ kept_rule 4 f
+      → IsRefusal (Keeps (1 ∷ 2 ∷ 3 ∷ 4 ∷ []) (BreaksTextRule model main) d) (rule_told x)
+  refuses4 f x k h e = refuses_test (1 ∷ 2 ∷ 3 ∷ []) [] 4 f x (each_of_none (λ s. 4 < s)) k (tests4 f h)
+      (kept_err 4 f x e)
 
-  pub passes4 : (f : Option Place) (x : Unit {0}) → KeptBelow model main d 4 → IsEarliest (BreaksNames d) f
-      → Ok x ≡ kept_rule 4 f → KeptBelow model main d 5
-  passes4 f x k h e = passes_test 4 f (kept_ok 4 f x e) k (tests4 f h)
+  pub passes4 : (f : Option Place) (x : Unit {0}) → AreKept (1 ∷ 2 ∷ 3 ∷ []) (BreaksTextRule model main d)
+      → IsEarliest (BreaksNames d) f → Ok x ≡ kept_rule 4 f
+      → AreKept (1 ∷ 2 ∷ 3 ∷ 4 ∷ []) (BreaksTextRule model main d)
+  passes4 f x k h e = passes_test (1 ∷ 2 ∷ 3 ∷ []) 4 f (kept_ok 4 f x e) k (tests4 f h)
 
   -- the answer of the last of them, where the members are listed
   pub answers4 : (bodies : List Body) (f : Option Place) (r : Result (Unit {0}) RuleFault) → r ≡ kept_rule 4 f
-      → KeptBelow model main d 4 → IsEarliest (BreaksNames d) f → IsListed d bodies
-      → Meets {X = Unit {0}} (TestsBelow 5 model main) (λ (e : Declared) (u : Unit {0}). IsListed e bodies) d r
+      → AreKept (1 ∷ 2 ∷ 3 ∷ []) (BreaksTextRule model main d) → IsEarliest (BreaksNames d) f → IsListed d bodies
+      → Meets {X = Unit {0}} (Keeps (1 ∷ 2 ∷ 3 ∷ 4 ∷ []) (BreaksTextRule model main))
+      (λ (e : Declared) (u : Unit {0}). IsListed e bodies) d r
   answers4 bodies f r e k h l =
-      subst (λ (z : Result (Unit {0}) RuleFault). Meets {X = Unit {0}} (TestsBelow 5 model main)
-      (λ (e : Declared) (u : Unit {0}). IsListed e bodies) d z) (sym e) (by f h)
+      subst (λ (z : Result (Unit {0}) RuleFault). Meets {X = Unit {0}}
+      (Keeps (1 ∷ 2 ∷ 3 ∷ 4 ∷ []) (BreaksTextRule model main)) (λ (e : Declared) (u : Unit {0}). IsListed e bodies) d z)
+      (sym e) (by f h)
     where
-      by : (f : Option Place) → IsEarliest (BreaksNames d) f → Meets {X = Unit {0}} (TestsBelow 5 model main)
-          (λ (e : Declared) (u : Unit {0}). IsListed e bodies) d (kept_rule 4 f)
+      by : (f : Option Place) → IsEarliest (BreaksNames d) f → Meets {X = Unit {0}}
+          (Keeps (1 ∷ 2 ∷ 3 ∷ 4 ∷ []) (BreaksTextRule model main)) (λ (e : Declared) (u : Unit {0}). IsListed e bodies) d
+          (kept_rule 4 f)
       by None h = (d, kept (passes4 None tt k h refl), l)
-      by (Some p) h = refuses4 (Some p) (Rule 4 p) 5 k h refl
+      by (Some p) h = refuses4 (Some p) (Rule 4 p) k h refl
 
   -- the tests that passed
-  kept_all : (n : ℕ) (e : Declared) → TestsBelow n model main d (Ok e) → KeptBelow model main e n
-  kept_all n e (kept k) = k
+  kept_all : (rules : List ℕ) (e : Declared) → Keeps rules (BreaksTextRule model main) d (Ok e)
+      → AreKept rules (BreaksTextRule model main e)
+  kept_all rules e (kept k) = k
 
-  same_declared : (n : ℕ) (e : Declared) → TestsBelow n model main d (Ok e) → e ≡ d
-  same_declared n e (kept k) = refl
+  same_declared : (rules : List ℕ) (e : Declared) → Keeps rules (BreaksTextRule model main) d (Ok e) → e ≡ d
+  same_declared rules e (kept k) = refl
 
-  pub passed : {A : Type 0} (holds : Declared → List A → Type 0) (n : ℕ) (e : Declared) (xs : List A)
-      → TestsBelow n model main d (Ok e) → holds e xs → KeptBelow model main d n × holds d xs
-  passed holds n e xs t h = subst (λ (f : Declared). KeptBelow model main f n × holds f xs) (same_declared n e t)
-      (kept_all n e t, h)
+  pub passed : {A : Type 0} (holds : Declared → List A → Type 0) (rules : List ℕ) (e : Declared) (xs : List A)
+      → Keeps rules (BreaksTextRule model main) d (Ok e) → holds e xs
+      → AreKept rules (BreaksTextRule model main d) × holds d xs
+  passed holds rules e xs t h =
+      subst (λ (f : Declared). AreKept rules (BreaksTextRule model main f) × holds f xs) (same_declared rules e t)
+      (kept_all rules e t, h)
 
-  pub passed_all : (bodies : List Body) (e : Declared) → TestsBelow 5 model main d (Ok e) → IsListed e bodies
-      → KeptBelow model main d 5 × IsListed d bodies
-  passed_all bodies e t l = passed (λ (f : Declared) (bs : List Body). IsListed f bs) 5 e bodies t l
+  pub passed_all : (bodies : List Body) (e : Declared)
+      → Keeps (1 ∷ 2 ∷ 3 ∷ 4 ∷ []) (BreaksTextRule model main) d (Ok e) → IsListed e bodies
+      → AreKept (1 ∷ 2 ∷ 3 ∷ 4 ∷ []) (BreaksTextRule model main d) × IsListed d bodies
+  passed_all bodies e t l = passed (λ (f : Declared) (bs : List Body). IsListed f bs) (1 ∷ 2 ∷ 3 ∷ 4 ∷ []) e bodies t l
 
   -- a refusal of earlier tests is one of later tests too
-  later_answer : (n m : ℕ) (a : Result Declared RuleFault) (x : RuleFault) → a ≡ Err x → TestsBelow n model main d a
-      → TestsBelow m model main d (Err x)
-  later_answer n m a x e (kept k) = absurd (cc)
-  later_answer n m a x e (broken b) = subst (TestsBelow m model main d) e (broken b)
+  later_answer : (rules : List ℕ) (n : ℕ) (a : Result Declared RuleFault) (x : RuleFault)
+      → ((r : ℕ) → IsOneOf rules r → r < n) → a ≡ Err x → Keeps rules (BreaksTextRule model main) d a
+      → Keeps (rules ++ n ∷ []) (BreaksTextRule model main) d (Err x)
+  later_answer rules n a x below e (kept k) = absurd (cc)
+  later_answer rules n a x below e (broken {r = r} {p = p} b) =
+      subst (Keeps (rules ++ n ∷ []) (BreaksTextRule model main) d) e
+      (broken (broken_of_more (BreaksTextRule model main d) rules n r p (below r b.is_one) b))
 
-  pub refused_later : (n m : ℕ) (x : RuleFault) → IsRefusal (TestsBelow n model main d) (rule_told x)
-      → IsRefusal (TestsBelow m model main d) (rule_told x)
-  refused_later n m (Rule r p) h = later_answer n m (Err (Rule r p)) (Rule r p) refl h
-  refused_later n m (Limit c) h = later_answer n m (Err (Limit c)) (Limit c) refl h
-  refused_later n m Memory h = tt
+  later_refusal : (rules : List ℕ) (n : ℕ) (x : RuleFault) → ((r : ℕ) → IsOneOf rules r → r < n)
+      → IsRefusal (Keeps rules (BreaksTextRule model main) d) (rule_told x)
+      → IsRefusal (Keeps (rules ++ n ∷ []) (BreaksTextRule model main) d) (rule_told x)
+  later_refusal rules n (Rule r p) below h = later_answer rules n (Err (Rule r p)) (Rule r p) below refl h
+  later_refusal rules n (Limit c) below h = later_answer rules n (Err (Limit c)) (Limit c) below refl h
+  later_refusal rules n Memory below h = tt
+
+  pub refused_later : (x : RuleFault)
+      → IsRefusal (Keeps (1 ∷ 2 ∷ 3 ∷ []) (BreaksTextRule model main) d) (rule_told x)
+      → IsRefusal (Keeps (1 ∷ 2 ∷ 3 ∷ 4 ∷ []) (BreaksTextRule model main) d) (rule_told x)
+  refused_later x = later_refusal (1 ∷ 2 ∷ 3 ∷ []) 4 x
+      (each_of (λ r. r < 4) 1 _ (omega arith) (each_of (λ r. r < 4) 2 _ (omega arith)
+      (each_of (λ r. r < 4) 3 _ (omega arith) (each_of_none (λ r. r < 4)))))
 
   -- and one of the table
-  table_answer : (n : ℕ) (a : Result Declared RuleFault) (x : RuleFault) → IsDeclared model d → a ≡ Err x
-      → TestsBelow n model main d a → Tabulates main model (Err x)
-  table_answer n a x i e (kept k) = absurd (cc)
-  table_answer n a x i e (broken {r = r} {p = p} b) = subst (λ (y : RuleFault). Tabulates main model (Err y))
+  table_answer : (a : Result Declared RuleFault) (x : RuleFault) → IsDeclared model d → a ≡ Err x
+      → Keeps text_rules (BreaksTextRule model main) d a → Tabulates main model (Err x)
+  table_answer a x i e (kept k) = absurd (cc)
+  table_answer a x i e (broken {r = r} {p = p} b) = subst (λ (y : RuleFault). Tabulates main model (Err y))
       (let s : Rule r p ≡ x = cc in s) (breach d i b)
 
-  pub refused_table : (n : ℕ) (x : RuleFault) → IsDeclared model d → IsRefusal (TestsBelow n model main d) (rule_told x)
+  table_refusal : (x : RuleFault) → IsDeclared model d
+      → IsRefusal (Keeps text_rules (BreaksTextRule model main) d) (rule_told x)
       → IsRefusal (Tabulates main model) (rule_told x)
-  refused_table n (Rule r p) i h = table_answer n (Err (Rule r p)) (Rule r p) i refl h
-  refused_table n (Limit c) i h = table_answer n (Err (Limit c)) (Limit c) i refl h
-  refused_table n Memory i h = tt
+  table_refusal (Rule r p) i h = table_answer (Err (Rule r p)) (Rule r p) i refl h
+  table_refusal (Limit c) i h = table_answer (Err (Limit c)) (Limit c) i refl h
+  table_refusal Memory i h = tt
+
+  pub refused_table : (x : RuleFault) → IsDeclared model d
+      → IsRefusal (Keeps (1 ∷ 2 ∷ 3 ∷ 4 ∷ []) (BreaksTextRule model main) d) (rule_told x)
+      → IsRefusal (Tabulates main model) (rule_told x)
+  refused_table x i h = table_refusal x i (later_refusal (1 ∷ 2 ∷ 3 ∷ 4 ∷ []) 5 x
+      (each_of (λ r. r < 5) 1 _ (omega arith) (each_of (λ r. r < 5) 2 _ (omega arith)
+      (each_of (λ r. r < 5) 3 _ (omega arith) (each_of (λ r. r < 5) 4 _ (omega arith) (each_of_none (λ r. r < 5)))))) h)
 
   -- members can be listed in an order
-  pub can_list : (rows : List (Vec ℕ Global)) (order : List ℕ) → IsDeclared model d → KeptBelow model main d 4
-      → AreInside d rows → IsOrder rows order → CanList d order
+  pub can_list : (rows : List (Vec ℕ Global)) (order : List ℕ) → IsDeclared model d
+      → AreKept (1 ∷ 2 ∷ 3 ∷ []) (BreaksTextRule model main d) → AreInside d rows → IsOrder rows order → CanList d order
   can_list rows order i k inside o = record {
-    complete = is_complete i (λ p b. k.kept 3 p one3 (omega arith) (l3 b)) rows order inside o;
-    classes = classes_named d (λ p b. k.kept 2 p one2 (omega arith) (l2 b));
+    complete = is_complete i (λ p b. k.kept 3 p (one_rest 1 _ 3 (one_rest 2 _ 3 (one_first 3 []))) (l3 b)) rows order
+        inside o;
+    classes = classes_named d (λ p b. k.kept 2 p (one_rest 1 _ 2 (one_first 2 (3 ∷ []))) (l2 b));
   }
 
   -- without a main block
-  pub refuses5 : IsDeclared model d → KeptBelow model main d 5 → ((b : ℕ) → IsMain model.names d main b → ⊥)
-      → Tabulates main model (Err (Rule 5 model.end))
-  refuses5 i k n = breach d i (record {
-    is_one = one5;
-    breaks_there = l5 (record { no_main = n; place = refl });
-    no_lesser = k.kept;
-    no_earlier = λ q e b. let h = is_l5 model main d q b in not_before q model.end e h.place;
-  })
+  pub refuses5 : IsDeclared model d → AreKept (1 ∷ 2 ∷ 3 ∷ 4 ∷ []) (BreaksTextRule model main d)
+      → ((b : ℕ) → IsMain model.names d main b → ⊥) → Tabulates main model (Err (Rule 5 model.end))
+  refuses5 i k n = breach d i
+      (broken_at (BreaksTextRule model main d) (1 ∷ 2 ∷ 3 ∷ 4 ∷ []) [] 5 model.end (each_of_none (λ s. 5 < s)) k
+      (there (l5 (record { no_main = n; place = refl }))
+      (λ q e b. let h = is_l5 model main d q b in not_before q model.end e h.place)))
 
   -- with one
-  pub gives : (c : Classes) → KeptBelow model main d 5 → IsTableOfModel model main d c → Tabulates main model (Ok c)
-  gives c k t = table d t (all_kept model main d (next_below model main d 5 k (λ q b. let h = is_l5 model main d q b in h.no_main c.main.n t.is_main)))
+  pub gives : (c : Classes) → AreKept (1 ∷ 2 ∷ 3 ∷ 4 ∷ []) (BreaksTextRule model main d)
+      → IsTableOfModel model main d c → Tabulates main model (Ok c)
+  gives c k t = table d t (passes_test (1 ∷ 2 ∷ 3 ∷ 4 ∷ []) 5 None refl k
+      (nowhere (λ q b. let h = is_l5 model main d q b in h.no_main c.main.n t.is_main)))
 
 module _ (model : Model) (p : Parts) (h : AreParts model.items.items p) where
   -- the parts declare what the model declares
@@ -227,7 +254,7 @@ module _ (model : Model) (p : Parts) (h : AreParts model.items.items p) where
   unfolding declared_of
   blocks_parts = refl
 
-  pub keeps_parts : KeepsDeclared model (declared_of model.items.items p h) p.bodies.items p.types.items
+  pub keeps_parts : AreAsDeclared model (declared_of model.items.items p h) p.bodies.items p.types.items
   keeps_parts = record { declared = declares; as_text = bodies_parts; as_types = types_parts }
 
   -- the table
@@ -296,7 +323,7 @@ module _ (model : Model) (main : Option (List ℕ)) where
 
 -- bodies and types as declared, with the kinds of the types
 pub shows_kept : (model : Model) (d : Declared) (bodies : List Body) (types : List (NameId × TypeBody))
-    → KeepsDeclared model d bodies types → (k : TypeKinds) → KnowsTypes d k → Shows d bodies k
+    → AreAsDeclared model d bodies types → (k : TypeKinds) → KnowsTypes d k → Shows d bodies k
 shows_kept model d bodies types h k n = record { as_text = h.as_text; known = n }
 
 -- an answer by its equation

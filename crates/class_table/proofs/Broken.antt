@@ -1,15 +1,13 @@
 -- The least rule that is broken.
-use Rattle.std.proofs.Common.{◌≡◌, ℕ, suc, ◌<◌, ◌⊎◌, List, [], ◌∷◌, Option, Some, None, sym, subst, inl, inr, arith}
+use Rattle.std.proofs.Common.{ℕ, ◌<◌, ◌⊎◌, List, [], ◌∷◌, ◌++◌, Option, Some, None, sym, subst, inl, inr, arith}
 use Rattle.ar_base.specs.Lists.{IsOneOf}
 use Rattle.ar_base.specs.Breach.{IsBroken, AreKept}
 use Rattle.ar_base.specs.declared.places.Place.{Place}
-use Rattle.ar_base.proofs.Standing.{one_cases, one_none}
-use Rattle.ar_base.proofs.Comparing.{lt_or_same}
+use Rattle.ar_base.proofs.Standing.{one_cases, one_none, one_first, one_split, one_left, one_right, only_item}
 use Rattle.ar_syntax.specs.declared.items.Model.{Model}
 use Rattle.class_table.specs.Declaring.{Declared}
-use Rattle.class_table.specs.Rules.{BreaksItems, BreaksTypes, BreaksContainment, BreaksNames, LacksMain, BreaksTextRule, l1, l2, l3, l4, l5, text_rules}
+use Rattle.class_table.specs.Rules.{BreaksItems, BreaksTypes, BreaksContainment, BreaksNames, LacksMain, BreaksTextRule, l1, l2, l3, l4, l5}
 use Rattle.class_table.specs.Earliest.{IsEarliest, nowhere, there}
-use Rattle.class_table.specs.Testing.{KeptBelow}
 
 module _ (model : Model) (main : Option (List ℕ)) (d : Declared) where
   -- the tests of the rules, each with what it found
@@ -29,76 +27,54 @@ module _ (model : Model) (main : Option (List ℕ)) (d : Declared) where
   pub is_l5 : (p : Place) → BreaksTextRule model main d 5 p → LacksMain model main d p
   is_l5 p (l5 h) = h
 
-  rules : (r : ℕ) → IsOneOf text_rules r → (r ≡ 1) ⊎ ((r ≡ 2) ⊎ ((r ≡ 3) ⊎ ((r ≡ 4) ⊎ (r ≡ 5))))
-  rules r h = by1 (one_cases 1 _ r h)
+-- what holds of the first and of each of the rest
+pub each_of : (P : ℕ → Type 0) (x : ℕ) (xs : List ℕ) → P x → ((r : ℕ) → IsOneOf xs r → P r) → (r : ℕ)
+    → IsOneOf (x ∷ xs) r → P r
+each_of P x xs h k r o = elim (one_cases x xs r o) [ inl e ↦ subst P e h | inr s ↦ k r s ]
+
+pub each_of_none : (P : ℕ → Type 0) (r : ℕ) → IsOneOf [] r → P r
+each_of_none P r o = absurd (one_none r o)
+
+module _ (breaks : ℕ → Place → Type 0) where
+  pub none_kept : AreKept [] breaks
+  none_kept = record { kept = λ r p o b. one_none r o }
+
+  -- one rule more that is kept
+  pub one_more_kept : (rules : List ℕ) (n : ℕ) → AreKept rules breaks → IsEarliest (breaks n) None
+      → AreKept (rules ++ n ∷ []) breaks
+  one_more_kept rules n h (nowhere e) = record { kept = λ r p o b. by r p b (one_split rules (n ∷ []) r o) }
     where
-      by5 : (5 ≡ r) ⊎ IsOneOf [] r → r ≡ 5
-      by5 (inl e) = sym e
-      by5 (inr o) = absurd (one_none r o)
+      by : (r : ℕ) (p : Place) → breaks r p → IsOneOf rules r ⊎ IsOneOf (n ∷ []) r → ⊥
+      by r p b (inl o) = h.kept r p o b
+      by r p b (inr o) = e p (subst (λ (s : ℕ). breaks s p) (sym (only_item n r o)) b)
 
-      by4 : (4 ≡ r) ⊎ IsOneOf (5 ∷ []) r → (r ≡ 4) ⊎ (r ≡ 5)
-      by4 (inl e) = inl (sym e)
-      by4 (inr o) = inr (by5 (one_cases 5 _ r o))
-
-      by3 : (3 ≡ r) ⊎ IsOneOf (4 ∷ 5 ∷ []) r → (r ≡ 3) ⊎ ((r ≡ 4) ⊎ (r ≡ 5))
-      by3 (inl e) = inl (sym e)
-      by3 (inr o) = inr (by4 (one_cases 4 _ r o))
-
-      by2 : (2 ≡ r) ⊎ IsOneOf (3 ∷ 4 ∷ 5 ∷ []) r → (r ≡ 2) ⊎ ((r ≡ 3) ⊎ ((r ≡ 4) ⊎ (r ≡ 5)))
-      by2 (inl e) = inl (sym e)
-      by2 (inr o) = inr (by3 (one_cases 3 _ r o))
-
-      by1 : (1 ≡ r) ⊎ IsOneOf (2 ∷ 3 ∷ 4 ∷ 5 ∷ []) r → (r ≡ 1) ⊎ ((r ≡ 2) ⊎ ((r ≡ 3) ⊎ ((r ≡ 4) ⊎ (r ≡ 5))))
-      by1 (inl e) = inl (sym e)
-      by1 (inr o) = inr (by2 (one_cases 2 _ r o))
-
-  pub none_below : KeptBelow model main d 1
-  none_below = record { kept = λ s q o l b. by s q o l b }
+  -- the rule behind those that are kept, where those after it are greater, is broken first at the place that is found
+  pub broken_at : (before after : List ℕ) (n : ℕ) (p : Place) → ((s : ℕ) → IsOneOf after s → n < s)
+      → AreKept before breaks → IsEarliest (breaks n) (Some p) → IsBroken (before ++ n ∷ after) breaks n p
+  broken_at before after n p least h (there b e) = record {
+    is_one = one_right before (n ∷ after) n (one_first n after);
+    breaks_there = b;
+    no_lesser = λ s q o l c. lesser s q l c (one_split before (n ∷ after) s o);
+    no_earlier = e;
+  }
     where
-      by : (s : ℕ) (q : Place) → IsOneOf text_rules s → s < 1 → BreaksTextRule model main d s q → ⊥
-      by s q o l b = elim (rules s o) [
-        | inl e ↦ omega (arith, e, l)
-        | inr f ↦ elim f [
-          | inl e ↦ omega (arith, e, l)
-          | inr g ↦ elim g [
-            | inl e ↦ omega (arith, e, l)
-            | inr h ↦ elim h [ inl e ↦ omega (arith, e, l) | inr e ↦ omega (arith, e, l) ]
-          ]
-        ]
+      lesser : (s : ℕ) (q : Place) → s < n → breaks s q → IsOneOf before s ⊎ IsOneOf (n ∷ after) s → ⊥
+      lesser s q l c (inl o) = h.kept s q o c
+      lesser s q l c (inr o) = elim (one_cases n after s o) [
+        | inl f ↦ omega (arith, f, l)
+        | inr f ↦ let g = least s f in omega (arith, g, l)
       ]
 
-  pub next_below : (n : ℕ) → KeptBelow model main d n → ((q : Place) → BreaksTextRule model main d n q → ⊥)
-      → KeptBelow model main d (suc n)
-  next_below n h k = record { kept = λ s q o l b. by s q o l b (cases s l) }
+  -- a greater rule behind the rules changes nothing
+  pub broken_of_more : (rules : List ℕ) (m n : ℕ) (p : Place) → n < m → IsBroken rules breaks n p
+      → IsBroken (rules ++ m ∷ []) breaks n p
+  broken_of_more rules m n p g b = record {
+    is_one = one_left rules (m ∷ []) n b.is_one;
+    breaks_there = b.breaks_there;
+    no_lesser = λ s q o l c. lesser s q l c (one_split rules (m ∷ []) s o);
+    no_earlier = b.no_earlier;
+  }
     where
-      cases : (s : ℕ) → s < suc n → (s < n) ⊎ (s ≡ n)
-      cases s l = lt_or_same s n (omega (arith, l))
-
-      by : (s : ℕ) (q : Place) → IsOneOf text_rules s → s < suc n → BreaksTextRule model main d s q → (s < n) ⊎ (s ≡ n)
-          → ⊥
-      by s q o l b (inl m) = h.kept s q o m b
-      by s q o l b (inr e) = k q (subst (λ (r : ℕ). BreaksTextRule model main d r q) e b)
-
-  pub all_kept : KeptBelow model main d 6 → AreKept text_rules (BreaksTextRule model main d)
-  all_kept h = record { kept = λ r p o b. h.kept r p o (below r o) b }
-    where
-      below : (r : ℕ) → IsOneOf text_rules r → r < 6
-      below r o = elim (rules r o) [
-        | inl e ↦ omega (arith, e)
-        | inr f ↦ elim f [
-          | inl e ↦ omega (arith, e)
-          | inr g ↦ elim g [
-            | inl e ↦ omega (arith, e)
-            | inr h ↦ elim h [ inl e ↦ omega (arith, e) | inr e ↦ omega (arith, e) ]
-          ]
-        ]
-      ]
-
-  -- the rule is broken first at the place that is found
-  pub broken_at : (n : ℕ) (p : Place) → IsOneOf text_rules n → KeptBelow model main d n
-      → IsEarliest (BreaksTextRule model main d n) (Some p) → IsBroken text_rules (BreaksTextRule model main d) n p
-  broken_at n p o h (there b e) = record { is_one = o; breaks_there = b; no_lesser = h.kept; no_earlier = e }
-
-  pub kept_none : (n : ℕ) → KeptBelow model main d n → IsEarliest (BreaksTextRule model main d n) None
-      → KeptBelow model main d (suc n)
-  kept_none n h (nowhere e) = next_below n h e
+      lesser : (s : ℕ) (q : Place) → s < n → breaks s q → IsOneOf rules s ⊎ IsOneOf (m ∷ []) s → ⊥
+      lesser s q l c (inl o) = b.no_lesser s q o l c
+      lesser s q l c (inr o) = let e = only_item m s o in omega (arith, e, g, l)

@@ -1,5 +1,5 @@
 -- Bodies that are laid one after the other.
-use Rattle.std.proofs.Common.{◌≡◌, ℕ, ◌+◌, ◌≤◌, List, [], ◌∷◌, ◌++◌, length, set, get_or, Vec, false, refl, sym, ◌∙◌, ap, subst, arith, append_assoc, length-append}
+use Rattle.std.proofs.Common.{◌≡◌, ℕ, ◌+◌, ◌<◌, List, [], ◌∷◌, ◌++◌, length, set, get_or, Vec, false, refl, sym, ◌∙◌, ap, subst, arith, append_assoc, length-append}
 use Rattle.std.proofs.lemmas.List.{append-nil}
 use Rattle.std.specs.Global.{Global}
 use Rattle.ar_base.specs.Lists.{Along, none as along_none, one_and as along_and}
@@ -83,6 +83,14 @@ so_far_next name at ms own own' old mid new m o e s l = record {
     last : Lays (length mid) (m ∷ []) (o ∷ []) l.inner
     last = subst (Lays (length mid) (m ∷ []) (o ∷ [])) (append-nil l.inner) (one_and l.lays none)
 
+-- the own one is there
+pub so_far_there : (name : NameId) (at : Place) (ms : List Member) (own : List Owned) (old new : List Body)
+    → LaysSoFar name at ms own old new → length old < length new
+so_far_there name at ms own old new s =
+    let a = ap (λ (bs : List Body). length bs) s.joined in
+    let b = length-append old (s.head ∷ s.rest) in
+    omega (arith, a, b)
+
 pub so_far_end : (u : UnitTree) (own : Vec Owned Global) (old mid new : List Body) (place : ℕ) → place ≡ length old
     → LaysSoFar u.name u.at u.members.items own.items old mid → KeepsOwn own mid new place → LaysUnit u old new
 so_far_end u own old mid new place p s k = record {
@@ -142,11 +150,6 @@ keep_kept own bodies place d = record { kept = λ front rest b e p. kept front r
         ≡ front ++ record b { own = own } ∷ rest) (sym e)
         (subst (λ (n : ℕ). set (front ++ b ∷ rest) n (record (get_or (front ++ b ∷ rest) n d) { own = own })
         ≡ front ++ record b { own = own } ∷ rest) (sym p) base)
-
--- where the place is not there, nothing is between two parts
-pub keep_past : (own : Vec Owned Global) (bodies : List Body) (place : ℕ) → length bodies ≤ place
-    → KeepsOwn own bodies bodies place
-keep_past own bodies place l = record { kept = λ front rest b e p. let a = ap (λ (bs : List Body). length bs) e in let c = length-append front (b ∷ rest) in absurd (omega (arith, a, c, p, l)) }
 
 -- a loop over the members of a unit: those that are done, and those that are left
 pub record LayingOn (u : UnitTree) (rest : List Member) (len : ℕ) (own : List Owned) (old new : List Body) : Type

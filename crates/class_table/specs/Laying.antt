@@ -31,11 +31,13 @@ pub record LaysMember (m : Member) (o : Owned) (old new : List Body) : Type 0 wh
   pub as_text : Along IsBodyOf bodies inner
   pub lays : Lays_one (length old) m (out-Member m) o inner
 
--- behind these bodies stands one of this name and place
+-- behind these bodies stands one of this name and place, without members
 pub record AddsBody (name : NameId) (at : Place) (old new : List Body) : Type 0 where
   pub body : Body
   pub has_name : body.name ≡ name
   pub has_place : body.at ≡ at
+  pub no_own : body.own.items ≡ []
+  pub no_all : body.all.items ≡ []
   pub joined : new ≡ old ++ body ∷ []
 
 -- this member was added to those of a body, and behind the bodies stand those of the blocks in it
@@ -53,7 +55,7 @@ pub record AreParts (items : List Item) (p : Parts) : Type 0 where
   pub symbols : FirstUses [] (flat_map symbols_of items) (map (λ (x : NameId). x.n) p.symbols.items)
   pub lays : Lays_items 0 items bodies types (map (λ (b : BodyId). b.n) p.blocks.items)
 
--- the body between the two parts has these members
+-- the body at the place has these members; all else is as it was
 pub record KeepsOwn (own : Vec Owned Global) (old new : List Body) (place : ℕ) : Type 0 where
   pub kept : (front rest : List Body) (b : Body) → old ≡ front ++ b ∷ rest → place ≡ length front
       → new ≡ front ++ record b { own = own } ∷ rest

@@ -1,6 +1,6 @@
 //! The bodies of units, numbered in the order of their headings.
 
-ghost use Rattle.std.specs.Prelude.{◌≡◌, ◌≤◌, ◌++◌, length, List, OnOk, IfOk};
+ghost use Rattle.std.specs.Prelude.{◌≡◌, ◌<◌, ◌≤◌, ◌++◌, length, List, OnOk, IfOk};
 ghost use Rattle.class_table.specs.Laying.{LaysUnit, AddsBody, AddsMember, KeepsOwn};
 
 use crate::tables::{Body, MOST_BODIES, Owned};
@@ -78,9 +78,8 @@ fn add_body(
 
 // Keeps the members of a body with it.
 fn keep_own(bodies: &mut [Body], place: usize, own: Vec<Owned>)
+    requires { place < length bodies.old }
     ensures { KeepsOwn own bodies.old bodies.new place }
 {
-    if place < bodies.len() {
-        bodies[place].own = own;
-    }
+    bodies[place].own = own;
 }

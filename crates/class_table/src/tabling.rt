@@ -1,15 +1,16 @@
 //! The table of a model.
 
-ghost use Rattle.std.specs.Prelude.{◌≡◌, ◌≤◌, ℕ, Vec, List, Option, length, option_map};
+ghost use Rattle.std.specs.Prelude.{◌≡◌, ◌≤◌, ℕ, Vec, List, [], ◌∷◌, Option, length, option_map};
 ghost use Rattle.std.specs.Global.{Global};
-ghost use Rattle.ar_base.specs.Stages.{Meets};
+ghost use Rattle.ar_base.specs.Breach.{AreKept};
+ghost use Rattle.ar_base.specs.Stages.{Keeps, Meets};
 ghost use Rattle.class_table.specs.Tabling.{Tabulates};
 ghost use Rattle.std.specs.Prelude.{IfOk};
 ghost use Rattle.class_table.specs.Declaring.{Declared as Declaration, IsDeclared};
-ghost use Rattle.class_table.specs.Testing.{KeptBelow, TestsBelow, TakesApart, KeepsDeclared};
+ghost use Rattle.class_table.specs.Testing.{TakesApart, AreAsDeclared};
 ghost use Rattle.ar_syntax.specs.declared.items.Model.{Model as Tree};
 ghost use Rattle.class_table.specs.Earliest.{IsEarliest};
-ghost use Rattle.class_table.specs.Rules.{BreaksContainment};
+ghost use Rattle.class_table.specs.Rules.{BreaksContainment, BreaksTextRule};
 ghost use Rattle.class_table.specs.Rows.{AreInside};
 ghost use Rattle.class_table.specs.Ordering.{IsOrder};
 ghost use Rattle.class_table.specs.Listing.{CanList};
@@ -65,8 +66,9 @@ fn ordered(alloc: Global, bodies: &[Body], kinds: &TypeKinds) -> Result<Vec<u32>
     requires shown { (model : Tree) × (d : Declaration) × IsDeclared model d
         × Shows d bodies.now kinds.now }
     ensures { (model : Tree) (main : Option (List ℕ)) (d : Declaration) → IsDeclared model d
-        → Shows d bodies.now kinds.now → KeptBelow model main d 2
-        → Meets (TestsBelow 4 model main) (λ d order. CanList d order.items) d result }
+        → Shows d bodies.now kinds.now → AreKept (1 ∷ []) (BreaksTextRule model main d)
+        → Meets (Keeps (1 ∷ 2 ∷ 3 ∷ []) (BreaksTextRule model main))
+        (λ d order. CanList d order.items) d result }
 {
     keep(2, first_misnamed(bodies, kinds))?;
     let rows = all_inside(alloc, bodies, kinds)?;
@@ -83,10 +85,13 @@ fn list_all(
 ) -> Result<(), RuleFault>
     requires few { length bodies.old ≤ 16777216 }
     requires declared { (model : Tree) × (main : Option (List ℕ)) × (d : Declaration)
-        × KeepsDeclared model d bodies.old types.now × KeptBelow model main d 2 }
+        × AreAsDeclared model d bodies.old types.now
+        × AreKept (1 ∷ []) (BreaksTextRule model main d) }
     ensures { (model : Tree) (main : Option (List ℕ)) (d : Declaration)
-        → KeepsDeclared model d bodies.old types.now → KeptBelow model main d 2
-        → Meets (TestsBelow 5 model main) (λ d _. IsListed d bodies.new) d result }
+        → AreAsDeclared model d bodies.old types.now
+        → AreKept (1 ∷ []) (BreaksTextRule model main d)
+        → Meets (Keeps (1 ∷ 2 ∷ 3 ∷ 4 ∷ []) (BreaksTextRule model main))
+        (λ d _. IsListed d bodies.new) d result }
 {
     let kinds = TypeKinds::new(alloc, types)?;
     let order = ordered(alloc, bodies, &kinds)?;

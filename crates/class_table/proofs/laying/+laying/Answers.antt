@@ -2,7 +2,7 @@ use Rattle.std.proofs.Common.{◌≡◌, refl, sym, ◌∙◌, ap, arith, length
 use Rattle.std.proofs.lemmas.List.{take_at}
 use Rattle.ar_syntax.specs.declared.members.Member.{out-Member}
 use Rattle.ar_syntax.specs.declared.members.Member.TheViews as view
-use Rattle.class_table.proofs.Laid.{on_start, on_next, on_end, member_block, member_plain, not_block}
+use Rattle.class_table.proofs.Laid.{so_far_there, on_start, on_next, on_end, member_block, member_plain, not_block}
 use Rattle.class_table.proofs.laying.+laying.Goals as goal
 
 pub lay_unit-loop-member-init : goal.lay_unit-loop-member-init
@@ -21,6 +21,12 @@ lay_unit-loop-member-preserved t c = record {
       c.loop-member.invariant.laying c.in_ok-lay_member.ensures.laid;
   few = c.in_ok-lay_member.ensures.few c.loop-member.invariant.few;
 }
+
+pub lay_unit-keep_own-requires : goal.lay_unit-keep_own-requires
+lay_unit-keep_own-requires t c =
+    let l = so_far_there _ _ _ _ _ _ c.loop-member.invariant.laying.so_far in
+    let n = c.in_ok-id.ensures.number in
+    rw c.deref_mut.ensures.value (omega (arith, l, n))
 
 pub lay_unit-returns-clause-number : goal.lay_unit-returns-clause-number
 lay_unit-returns-clause-number t c = c.in_ok-id.ensures.number

@@ -43,7 +43,7 @@ returns-in_err-list_all c =
     (rw (c.deref_mut.ensures.value, c.deref.ensures.value) (keeps_parts c.args.model _ a)) k in
     let r = err_from_is_err_and c.from_residual-in_err-list_all.result c.from_residual-in_err-list_all.ensures.1 in
     meets_err (Tabulates (option_map (λ t. t.now) c.args.main)) (λ (c answer : Classes). answer ≡ c) c.args.model _ _
-    (r.1 ∙ ap (λ e. Err e) r.2) (refused_table c.args.model main d 5 _ (declares c.args.model _ a) l)
+    (r.1 ∙ ap (λ e. Err e) r.2) (refused_table c.args.model main d _ (declares c.args.model _ a) l)
 
 pub returns-in_default : goal.returns-in_default
 returns-in_default c =

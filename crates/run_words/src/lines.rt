@@ -2,7 +2,7 @@
 
 ghost use Rattle.std.specs.Prelude.{◌≡◌, ◌≢◌, false, [], ◌∷◌, List, ℕ, map, codes, IfOk, option_map};
 ghost use Rattle.clap.specs.Words.{app_of, fault_of, found_of, matches_of, rows_of, first_of, all_of, rule_of};
-ghost use Rattle.run_words.specs.declared.jobs.JobFault.TheVariants.{Usage};
+ghost use Rattle.run_words.specs.declared.jobs.JobFault.TheVariants.{Memory, Usage};
 ghost use Rattle.run_words.specs.Lines.{program, command as command_rule, files as files_rule};
 ghost use Rattle.run_words.specs.Lines.{command_words_of, option};
 ghost use Rattle.run_words.specs.Arguments.{AreBy, rules};
@@ -80,7 +80,8 @@ pub(crate) fn matches<'a>(alloc: Global, words: &'a [&'a str]) -> Result<ArgMatc
 
 // What an error of `clap` says of the words.
 fn fault(kind: ErrorKind) -> JobFault
-    ensures { result ≡ Usage → kind ≢ ErrorKind.OutOfMemory }
+    ensures memory { kind ≡ ErrorKind.OutOfMemory → result ≡ Memory }
+    ensures usage { kind ≢ ErrorKind.OutOfMemory → result ≡ Usage }
 {
     match kind {
         ErrorKind::OutOfMemory => JobFault::Memory,

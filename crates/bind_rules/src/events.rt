@@ -14,7 +14,7 @@ use crate::rules::Rule;
 use ar_base::{NameId, Place, UnitId};
 use ar_syntax::{Member, Part, Path, PathStart};
 use bind_scopes::Scopes;
-use written_forms::earlier;
+use class_table::earliest::earliest;
 
 // The place of the path, where it names no event.
 fn no_event(scopes: &Scopes<'_>, unit: UnitId, path: &Path) -> Option<Place>
@@ -40,7 +40,7 @@ fn no_event_in(scopes: &Scopes<'_>, unit: UnitId, parts: &[Part]) -> Option<Plac
 {
     let mut found = None;
     for part in parts {
-        found = earlier(found, no_event(scopes, unit, &part.event));
+        found = earliest(found, no_event(scopes, unit, &part.event));
     }
     found
 }
@@ -70,7 +70,7 @@ fn misnamed_event(scopes: &Scopes<'_>, unit: UnitId, member: &Member) -> Option<
 {
     match member {
         Member::Hide(path) => no_event(scopes, unit, path),
-        Member::Sync(name, at, parts) => earlier(
+        Member::Sync(name, at, parts) => earliest(
             no_own_event(scopes, unit, *name, *at),
             no_event_in(scopes, unit, parts),
         ),

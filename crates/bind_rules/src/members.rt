@@ -20,10 +20,10 @@ use crate::rules::Rule;
 use ar_base::{BodyId, Place, UnitId};
 use ar_syntax::Member;
 use bind_scopes::{Scope, Scopes};
+use class_table::earliest::earliest;
 use class_table::{Owned, owned_at};
 use hierarchy::UnitNode;
 use typed_expr::ValueKind;
-use written_forms::earlier;
 
 // The earliest place at which the member breaks the rule.
 fn in_member<'a>(scopes: &'a Scopes<'a>, rule: Rule, unit: UnitId, member: &Member) -> Option<Place>
@@ -38,9 +38,9 @@ fn in_member<'a>(scopes: &'a Scopes<'a>, rule: Rule, unit: UnitId, member: &Memb
         Member::Local(_, _, guard, action) => {
             let truth = ValueKind::Truth;
             let test = in_expression(scopes, rule, unit, Scope::Everything, truth, guard);
-            earlier(event, earlier(test, in_action(scopes, rule, unit, action)))
+            earliest(event, earliest(test, in_action(scopes, rule, unit, action)))
         }
-        Member::Assert(instr) => earlier(event, in_assertion(scopes, rule, unit, instr)),
+        Member::Assert(instr) => earliest(event, in_assertion(scopes, rule, unit, instr)),
         _ => event,
     }
 }
@@ -95,7 +95,7 @@ fn in_sites<'a>(
 {
     let mut found = None;
     for site in sites {
-        found = earlier(found, in_site(scopes, rule, unit, *site));
+        found = earliest(found, in_site(scopes, rule, unit, *site));
     }
     found
 }
@@ -123,7 +123,7 @@ pub(crate) fn in_units<'a>(scopes: &'a Scopes<'a>, rule: Rule) -> Option<Place>
     let mut found = None;
     for (place, node) in scopes.tree.units.iter().enumerate() {
         let here = in_unit(scopes, rule, UnitId::new(place as u32), node);
-        found = earlier(found, here);
+        found = earliest(found, here);
     }
     found
 }

@@ -12,7 +12,7 @@ use crate::members::in_units;
 use crate::values::{in_observers, in_parameters, in_variables};
 use ar_base::Place;
 use bind_scopes::Scopes;
-use written_forms::earlier;
+use class_table::earliest::earliest;
 
 /// A rule that is tested in a whole tree.
 #[derive(Clone, Copy)]
@@ -31,9 +31,9 @@ fn first_in<'a>(scopes: &'a Scopes<'a>, rule: Rule) -> Option<Place>
     ensures { (m : RootedModel) (units : List UnitPath) → AreScopes m units scopes.now
         → IsEarliest (BreaksTree m units rule) result }
 {
-    let values = earlier(in_variables(scopes, rule), in_parameters(scopes, rule));
-    let others = earlier(in_observers(scopes, rule), in_units(scopes, rule));
-    earlier(values, others)
+    let values = earliest(in_variables(scopes, rule), in_parameters(scopes, rule));
+    let others = earliest(in_observers(scopes, rule), in_units(scopes, rule));
+    earliest(values, others)
 }
 
 /// The earliest place at which something in the tree names nothing of the kind that is needed

@@ -25,10 +25,10 @@ use crate::rules::Rule;
 use ar_base::Place;
 use ar_syntax::{Member, RawExpr, TypeForm};
 use bind_scopes::{Scope, Scopes, is_same_kind, is_same_value, kind_of_domain, written};
+use class_table::earliest::earliest;
 use class_table::{Classes, Owned, owned_at};
 use hierarchy::{Attribute, MemNode, ParNode, Source, VarNode};
 use typed_expr::ValueKind;
-use written_forms::earlier;
 
 // The scope of a value by the setting in which it stands, where the first is that of a value that
 // its thing declares itself.
@@ -184,7 +184,7 @@ pub(crate) fn in_variables<'a>(scopes: &'a Scopes<'a>, rule: Rule) -> Option<Pla
     let mut last = None;
     for node in &scopes.tree.variables {
         let test = in_variable(scopes, rule, last, node);
-        found = earlier(found, test.2);
+        found = earliest(found, test.2);
         last = Some(test);
     }
     found
@@ -198,7 +198,7 @@ pub(crate) fn in_parameters<'a>(scopes: &'a Scopes<'a>, rule: Rule) -> Option<Pl
 {
     let mut found = None;
     for (place, node) in scopes.tree.parameters.iter().enumerate() {
-        found = earlier(found, in_parameter(scopes, rule, place as u32, node));
+        found = earliest(found, in_parameter(scopes, rule, place as u32, node));
     }
     found
 }
@@ -211,7 +211,7 @@ pub(crate) fn in_observers<'a>(scopes: &'a Scopes<'a>, rule: Rule) -> Option<Pla
 {
     let mut found = None;
     for node in &scopes.tree.observers {
-        found = earlier(found, in_observer(scopes, rule, node));
+        found = earliest(found, in_observer(scopes, rule, node));
     }
     found
 }

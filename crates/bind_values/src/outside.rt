@@ -14,10 +14,10 @@ ghost use Rattle.bind_values.specs.Values.{IsValue, IsParameterValue, IsDomainAt
 
 use ar_base::Place;
 use bind_scopes::{Scopes, written};
+use class_table::earliest::earliest;
 use domains::{Domain, Value};
 use gts_core::value_at;
 use hierarchy::{Attribute, ParNode, VarNode};
-use written_forms::earlier;
 
 // Whether the domain has the value.
 fn holds(domain: &Domain, value: Value) -> bool
@@ -80,7 +80,7 @@ pub(crate) fn outside_variables(scopes: &Scopes<'_>, values: &[Value]) -> Option
 {
     let mut found = None;
     for (place, node) in scopes.tree.variables.iter().enumerate() {
-        found = earlier(
+        found = earliest(
             found,
             outside_variable(scopes, node, value_at(values, place)),
         );
@@ -96,7 +96,7 @@ pub(crate) fn outside_parameters(scopes: &Scopes<'_>, values: &[Value]) -> Optio
 {
     let mut found = None;
     for (place, node) in scopes.tree.parameters.iter().enumerate() {
-        found = earlier(
+        found = earliest(
             found,
             outside_parameter(scopes, node, value_at(values, place)),
         );

@@ -17,9 +17,9 @@ use crate::computing::{parameter_values, variable_values};
 use crate::outside::{outside_parameters, outside_variables};
 use ar_base::{Memory, Place};
 use bind_scopes::Scopes;
+use class_table::earliest::earliest;
 use domains::Value;
 use std::alloc::Global;
-use written_forms::earlier;
 
 /// The values of a tree, which hold before anything happens.
 #[derive(Drop)]
@@ -44,7 +44,7 @@ pub fn valued(alloc: Global, scopes: &Scopes<'_>) -> Result<Result<Values, Place
     let parameters = parameter_values(alloc, scopes)?;
     let variables = variable_values(alloc, scopes, &parameters)?;
     let first = outside_parameters(scopes, &parameters);
-    match earlier(first, outside_variables(scopes, &variables)) {
+    match earliest(first, outside_variables(scopes, &variables)) {
         Some(place) => Ok(Err(place)),
         None => Ok(Ok(Values {
             parameters,

@@ -1,8 +1,10 @@
 -- The program's command as `clap` reads it.
-use Rattle.std.proofs.Common.{◌≡◌, ◌∙◌, [], ◌∷◌, List, true, ap, refl, sym, inl, inr, subst, codes, Option, Some, None, Result, IfOk}
+use Rattle.std.proofs.Common.{◌≡◌, ◌∙◌, [], ◌∷◌, List, Bool, true, false, not, ◌&&◌, is_some, ap, ap₂, refl, sym, inl, inr, subst, map, fold, codes, Option, Some, None, Result, IfOk}
+use Rattle.std.proofs.lemmas.Bool.{and_parts, not-true}
 use Rattle.std.proofs.lemmas.Result.{IfOk-weaker}
 use Rattle.std.specs.Option.{IsSomeAnd}
 use Rattle.clap.specs.Simple.{app_of_fields}
+use Rattle.clap.specs.Walk.{is_empty, is_simple_arg}
 use Rattle.clap.specs.declared.builder.arg.Arg.{Arg}
 use Rattle.clap.specs.declared.builder.range.ValueRange.{ValueRange}
 use Rattle.clap.specs.declared.builder.command.Command.{Command}
@@ -12,8 +14,7 @@ use Rattle.clap.specs.declared.error.kind.ErrorKind.TheVariants as kind
 use Rattle.clap.specs.declared.parser.matches.ArgMatches.{ArgMatches}
 use Rattle.clap.specs.Words.{AddsArg, AddsInTurn, App, HasKind, HasMatchesOf, Kinds, Text, app_of, fault_of, found_of, is_simple, is_simple_and_free, kind_of, matches_of, new_app, rows_of, rule_of, Rule, with_rule}
 use Rattle.clap.proofs.OnLiterals.{clap_on_literals}
-use Rattle.run_words.specs.Arguments.{AreBy, rules}
-use Rattle.run_words.specs.Lines.{bare_command, program}
+use Rattle.run_words.specs.Lines.{bare_command, program, rules}
 
 is_simple_program : is_simple program ≡ true
 unfolding program clap_on_literals
@@ -65,23 +66,34 @@ pub no_fault : (a : App) (words : List Text) → a ≡ program → (is_simple_an
     → fault_of program words ≡ []
 no_fault a words e h = sym (ap (λ b. fault_of b words) e) ∙ h (ap is_simple_and_free e ∙ is_free_program)
 
--- arguments that are added in turn add their rules
-abbrev with_rules : App → List Rule → App
-with_rules app [] = app
-with_rules app (r ∷ rs) = with_rules (with_rule app r) rs
+second : (x y : Bool) → (x && y) ≡ true → y ≡ true
+second x y e = (and_parts x y e).1
 
-added_in_turn : (old new : Command) (rs : List Rule) (args : List Arg) → AreBy rs args
-    → AddsInTurn AddsArg old args new → app_of new ≡ with_rules (app_of old) rs
-added_in_turn old new [] [] by is = ap app_of (sym is)
-added_in_turn old new [] (a ∷ args) by added = absurd by
-added_in_turn old new (r ∷ rs) [] by added = absurd by
-added_in_turn old new (r ∷ rs) (a ∷ args) by added =
-    added_in_turn added.0 new rs args by.2 added.2
-    ∙ ap (λ app. with_rules app rs) (added.1.shape by.1 ∙ ap (with_rule (app_of old)) by.0)
+-- a simple argument is none for subcommands too
+is_local : (a : Arg) → is_simple_arg a ≡ true → a.global ≡ false
+is_local a simple =
+    not-true _ (second (not a.last) _ (second (not a.require_equals) _ (second (not a.allow_negative_numbers) _
+    (second (not a.allow_hyphen_values) _ (second (not (is_some a.terminator)) _ (second (not (is_some a.val_delim)) _
+    (second (is_empty a.groups.items) _ (second (is_empty a.default_vals_ifs.items) _
+    (second (is_empty a.overrides.items) _ simple)))))))))
+
+-- each of the rules is simple
+abbrev are_simple : List Rule → Bool
+are_simple [] = true
+are_simple (r ∷ rs) = r.is_simple && are_simple rs
+
+-- simple arguments that are added in turn add their rules
+added_in_turn : (old new : Command) (args : List Arg) → are_simple (map rule_of args) ≡ true
+    → AddsInTurn AddsArg old args new → app_of new ≡ fold with_rule (app_of old) (map rule_of args)
+added_in_turn old new [] simple is = ap app_of (sym is)
+added_in_turn old new (a ∷ args) simple added =
+    let both = and_parts (is_simple_arg a) (are_simple (map rule_of args)) simple in
+    added_in_turn added.0 new args both.1 added.2
+    ∙ ap (λ app. fold with_rule app (map rule_of args)) (added.1.shape (is_local a both.0))
 
 -- the arguments make the bare command that of the program, if memory was given
 pub program_of : {E : Type 0} (r : Result Command E) (old : Command) (args : List Arg) → app_of old ≡ bare_command
-    → AreBy rules args → IfOk r (λ new. AddsInTurn AddsArg old args new) → IfOk r (λ new. app_of new ≡ program)
+    → map rule_of args ≡ rules → IfOk r (λ new. AddsInTurn AddsArg old args new) → IfOk r (λ new. app_of new ≡ program)
 unfolding program
 program_of r old args is by added =
-    IfOk-weaker r _ _ (λ new h. added_in_turn old new rules args by h ∙ ap (λ app. with_rules app rules) is) added
+    IfOk-weaker r _ _ (λ new h. added_in_turn old new args (ap are_simple by) h ∙ ap₂ (fold with_rule) is by) added

@@ -3,4 +3,3 @@ pub mod Commands
 pub mod Jobs
 pub mod Told
 pub mod Generator
-pub mod Arguments

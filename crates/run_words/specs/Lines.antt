@@ -1,5 +1,5 @@
 -- The program's command line, as one simple command of `clap`.
-use Rattle.std.specs.Prelude.{List, [], Option, Some, None, true, codes}
+use Rattle.std.specs.Prelude.{List, [], ◌∷◌, Option, Some, None, true, codes, fold}
 use Rattle.clap.specs.Lexer.{usize_max}
 use Rattle.clap.specs.Simple.{on_top}
 use Rattle.clap.specs.Words.{App, Row, Rule, Text, all_of, first_of, new_app, new_rule, with_rule}
@@ -26,11 +26,14 @@ abbrev pub bare_command : App
 bare_command = on_top (λ s. record s { disable_help_flag = true; disable_version_flag = true })
     (new_app (codes "altarica"))
 
--- the program's command: the command's word, the files, and the five options
+-- the rules of the arguments: the command's word, the files, and the five options
+abbrev pub rules : List Rule
+rules = command ∷ files ∷ option (codes "main") ∷ option (codes "observer") ∷ option (codes "value")
+    ∷ option (codes "nodes") ∷ option (codes "drop") ∷ []
+
+-- the program's command: one with these arguments, in their order
 unfoldable pub program : App
-program = with_rule (with_rule (with_rule (with_rule (with_rule (with_rule (with_rule bare_command command) files)
-    (option (codes "main"))) (option (codes "observer"))) (option (codes "value"))) (option (codes "nodes")))
-    (option (codes "drop"))
+program = fold with_rule bare_command rules
 
 -- the words of `file`, none where it was not used
 abbrev pub or_none : Option (List Text) → List Text

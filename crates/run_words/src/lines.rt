@@ -1,11 +1,10 @@
 //! The command line, as `clap` takes it apart.
 
-ghost use Rattle.std.specs.Prelude.{◌≡◌, ◌≢◌, false, [], ◌∷◌, List, ℕ, map, codes, IfOk, option_map};
+ghost use Rattle.std.specs.Prelude.{◌≡◌, ◌≢◌, [], ◌∷◌, List, ℕ, map, codes, IfOk, option_map};
 ghost use Rattle.clap.specs.Words.{app_of, fault_of, found_of, matches_of, rows_of, first_of, all_of, rule_of};
-ghost use Rattle.run_words.specs.declared.jobs.JobFault.TheVariants.{Usage};
+ghost use Rattle.run_words.specs.declared.jobs.JobFault.TheVariants.{Memory, Usage};
 ghost use Rattle.run_words.specs.Lines.{program, command as command_rule, files as files_rule};
-ghost use Rattle.run_words.specs.Lines.{command_words_of, option};
-ghost use Rattle.run_words.specs.Arguments.{AreBy, rules};
+ghost use Rattle.run_words.specs.Lines.{command_words_of, option, rules};
 ghost use Rattle.run_words.specs.Told.{told};
 
 use crate::jobs::JobFault;
@@ -15,31 +14,28 @@ use std::alloc::{AllocError, Global};
 
 // An option that takes one value.
 fn option<'a>(alloc: Global, name: &'a str) -> Arg<'a>
-    ensures rule { rule_of result ≡ option name.entry.now }
-    ensures local { result.global ≡ false }
+    ensures { rule_of result ≡ option name.entry.now }
 {
     Arg::new(alloc, name).long(name).action(ArgAction::Set)
 }
 
 // The command's word, which must be there.
 fn command_word<'a>(alloc: Global) -> Arg<'a>
-    ensures rule { rule_of result ≡ command_rule }
-    ensures local { result.global ≡ false }
+    ensures { rule_of result ≡ command_rule }
 {
     Arg::new(alloc, "command").required(true)
 }
 
 // Any number of further words.
 fn further_words<'a>(alloc: Global) -> Arg<'a>
-    ensures rule { rule_of result ≡ files_rule }
-    ensures local { result.global ≡ false }
+    ensures { rule_of result ≡ files_rule }
 {
     Arg::new(alloc, "file").num_args(0..)
 }
 
 // The arguments of the program, in their order.
 fn arguments<'a>(alloc: Global) -> Result<Vec<Arg<'a>>, AllocError>
-    ensures { IfOk result (λ args. AreBy rules args.items) }
+    ensures { IfOk result (λ args. map rule_of args.items ≡ rules) }
 {
     let args = vec![in alloc;
         command_word(alloc),
@@ -80,7 +76,8 @@ pub(crate) fn matches<'a>(alloc: Global, words: &'a [&'a str]) -> Result<ArgMatc
 
 // What an error of `clap` says of the words.
 fn fault(kind: ErrorKind) -> JobFault
-    ensures { result ≡ Usage → kind ≢ ErrorKind.OutOfMemory }
+    ensures memory { kind ≡ ErrorKind.OutOfMemory → result ≡ Memory }
+    ensures usage { kind ≢ ErrorKind.OutOfMemory → result ≡ Usage }
 {
     match kind {
         ErrorKind::OutOfMemory => JobFault::Memory,

@@ -24,7 +24,7 @@ Evaluates facts most (Err stop) e = Stopped most (λ n. IsWide facts n e) stop
 abbrev pub IsTruth : Bool → Bool → Value → Type 0
 IsTruth can_be_false can_be_true v = (IsTrue can_be_false × (v ≡ Truth false)) ⊎ (IsTrue can_be_true × (v ≡ Truth true))
 
--- a value of each list, so related
+-- a value of each list, so related or not so related, as is wanted
 pub record SomeRelated (r : Relation) (xs ys : List Value) (wanted : Bool) : Type 0 where
   pub left : Value
   pub right : Value
@@ -64,12 +64,12 @@ pub record SomeWide {V : Type 0} (facts : V → Value → Type 0) (es : List (Ex
   pub in_list : Contains es expr
   pub wide : IsWide facts most (out-Expr V expr)
 
--- whether the expression yields the one truth value, and whether it yields the other
+-- `other`: whether the expression yields the opposite of b; `this`: whether it yields b
 pub record Told {V : Type 0} (facts : V → Value → Type 0) (b other this : Bool) (e : Level V) : Type 0 where
   pub opposite : IsTrue other ↔ Yields facts e (Truth (not b))
   pub same : IsTrue this ↔ Yields facts e (Truth b)
 
--- the answer says what is told, and no value on the way is too wide; or it stopped where one is
+-- the answer says what is told, and nothing in the expression is too wide; or something in it is, or memory was refused
 abbrev pub Tells : {V : Type 0} → (V → Value → Type 0) → Option ℕ → Bool → Result (Bool × Bool) Stop → Level V → Type 0
 Tells facts most b (Ok r) e = Told facts b r.0 r.1 e × (AtLimit most (λ n. IsWide facts n e) → ⊥)
 Tells facts most b (Err stop) e = Stopped most (λ n. IsWide facts n e) stop
@@ -80,6 +80,7 @@ pub record Tallied {V : Type 0} (facts : V → Value → Type 0) (b one_other ea
   pub one : IsTrue one_other ↔ Some_yields facts es (Truth (not b))
   pub all : IsTrue each ↔ All_yield facts es (Truth b)
 
+-- the answer says what is tallied, and none of the operands is too wide; or one of them is, or memory was refused
 abbrev pub Tallies : {V : Type 0} → (V → Value → Type 0) → Option ℕ → Bool → Result (Bool × Bool) Stop → List (Expr V)
     → Type 0
 Tallies facts most b (Ok r) es = Tallied facts b r.0 r.1 es × (AtLimit most (SomeWide facts es) → ⊥)
@@ -113,6 +114,8 @@ pub record PartWide {V : Type 0} (facts : V → Value → Type 0) (ps : List (Bo
   pub in_list : Contains ps part
   pub wide : IsWide facts most (out-Expr V part.1)
 
+-- the set of what the sum of the parts comes to, with nothing too wide in them, at no step too; or something in
+-- them or a step is, or memory was refused
 abbrev pub Sums : {V : Type 0} → (V → Value → Type 0) → Option ℕ → Result (List Value) Stop → List (Bool × Expr V)
     → Type 0
 Sums facts most (Ok set) ps = HasExactly set
@@ -143,15 +146,19 @@ pub record Chosen {V : Type 0} (facts : V → Value → Type 0) (set : List Valu
   pub exact : HasExactly set (Took facts cs)
   pub all : IsTrue passes ↔ PassesAll facts cs
 
+-- the answer says what is chosen, and nothing in the cases is too wide; or something in them or what they yield
+-- is, or memory was refused
 abbrev pub Chooses : {V : Type 0} → (V → Value → Type 0) → Option ℕ → Result (List Value × Bool) Stop
     → List (Expr V × Expr V) → Type 0
 Chooses facts most (Ok r) cs = Chosen facts r.0 r.1 cs × KeepsLimit most r.0 × (AtLimit most (CaseWide facts cs) → ⊥)
 Chooses facts most (Err stop) cs = Stopped most (λ n. CaseWide facts cs n ⊎ HasMoreThan n (Took facts cs)) stop
 
--- the set with what the branch yields, where it is taken, with nothing too wide in the branch
+-- v is in the set, or the branch is taken and yields it
 abbrev pub BranchYields : {V : Type 0} → (V → Value → Type 0) → Bool → List Value → Level V → Value → Type 0
 BranchYields facts takes set e v = Contains set v ⊎ (IsTrue takes × Yields facts e v)
 
+-- the set with what the branch yields, where it is taken, with nothing too wide in the branch; or something in it
+-- or what would be in the set is, or memory was refused
 abbrev pub Joins : {V : Type 0} → (V → Value → Type 0) → Option ℕ → Result (List Value) Stop → Bool → List Value
     → Level V → Type 0
 Joins facts most (Ok new) takes set e =

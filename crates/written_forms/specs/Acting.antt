@@ -71,7 +71,7 @@ mutual
         → All_act leaves is acts
         → All_act leaves (i ∷ is) (a ∷ acts)
 
--- a conditional of what this test becomes, and of these branches
+-- the instruction is a conditional of what this test becomes, and of these branches
 pub record IsConditional (leaves : Path → Leaf) (test : RawExpr) (first second a : Act) : Type 0 where
   pub bound : Expr VarId
   pub becomes : BecomesBy leaves test bound

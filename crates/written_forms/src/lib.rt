@@ -10,7 +10,6 @@ mod misnaming;
 mod mistyping;
 mod naming;
 mod parts;
-mod places;
 mod rules;
 mod translating;
 
@@ -22,7 +21,6 @@ pub use misnaming::first_misnamed;
 pub use mistyping::{differ, first_mistyped};
 pub use naming::{Leaf, Leaves, Naming};
 pub use parts::{Rule, first_breach};
-pub use places::earlier;
 pub use rules::{
     Targets, misnamed_itself, misplaced_in_action, misplaced_in_assertion, mistyped_itself,
 };

@@ -8,9 +8,9 @@ ghost use Rattle.written_forms.specs.Operands.{level_of, Demand, each_wanting, t
 ghost use Rattle.written_forms.specs.Wrong.{IsMisnamed, IsNamedPath, Among, MisnamedOperand};
 
 use crate::naming::Naming;
-use crate::places::earlier;
 use ar_base::Place;
 use ar_syntax::{Path, RawExpr, RawForm};
+use class_table::earliest::earliest;
 
 /// The earliest place of a path in the expression that names nothing that it may name. Takes no
 /// memory.
@@ -28,14 +28,14 @@ pub fn first_misnamed<N: Naming>(expr: &RawExpr, naming: &N) -> Option<Place>
         RawForm::Minus(a) => first_misnamed(a, naming),
         RawForm::All(es) => misnamed_in(es, naming),
         RawForm::Any(es) => misnamed_in(es, naming),
-        RawForm::Compare(_, a, b) => earlier(first_misnamed(a, naming), first_misnamed(b, naming)),
+        RawForm::Compare(_, a, b) => earliest(first_misnamed(a, naming), first_misnamed(b, naming)),
         RawForm::Sum(parts) => misnamed_terms(parts, naming),
         RawForm::Product(es) => misnamed_in(es, naming),
         RawForm::Least(es) => misnamed_in(es, naming),
         RawForm::Greatest(es) => misnamed_in(es, naming),
         RawForm::Count(es) => misnamed_in(es, naming),
         RawForm::Choose(cases, other) => {
-            earlier(misnamed_cases(cases, naming), first_misnamed(other, naming))
+            earliest(misnamed_cases(cases, naming), first_misnamed(other, naming))
         }
     }
 }
@@ -61,7 +61,7 @@ fn misnamed_in<N: Naming>(es: &[RawExpr], naming: &N) -> Option<Place>
 {
     let mut found = None;
     for e in es {
-        found = earlier(found, first_misnamed(e, naming));
+        found = earliest(found, first_misnamed(e, naming));
     }
     found
 }
@@ -75,7 +75,7 @@ fn misnamed_terms<N: Naming>(parts: &[(bool, RawExpr)], naming: &N) -> Option<Pl
 {
     let mut found = None;
     for (_, e) in parts {
-        found = earlier(found, first_misnamed(e, naming));
+        found = earliest(found, first_misnamed(e, naming));
     }
     found
 }
@@ -90,8 +90,8 @@ fn misnamed_cases<N: Naming>(cases: &[(RawExpr, RawExpr)], naming: &N) -> Option
 {
     let mut found = None;
     for (test, value) in cases {
-        let here = earlier(first_misnamed(test, naming), first_misnamed(value, naming));
-        found = earlier(found, here);
+        let here = earliest(first_misnamed(test, naming), first_misnamed(value, naming));
+        found = earliest(found, here);
     }
     found
 }

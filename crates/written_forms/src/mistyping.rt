@@ -10,9 +10,9 @@ ghost use Rattle.written_forms.specs.Wrong.{IsMistyped, NamesKind, Among, Mistyp
 
 use crate::kinds::form_kind;
 use crate::naming::Naming;
-use crate::places::earlier;
 use ar_base::Place;
 use ar_syntax::{RawExpr, RawForm, RawRelation};
+use class_table::earliest::earliest;
 use typed_expr::ValueKind;
 
 /// The earliest place in the expression where something has a wrong kind, where this kind is wanted
@@ -36,24 +36,24 @@ pub fn first_mistyped<N: Naming>(
         RawForm::Whole(_) => itself,
         RawForm::Real => itself,
         RawForm::Path(_) => itself,
-        RawForm::Not(a) => earlier(itself, first_mistyped(a, Some(ValueKind::Truth), naming)),
-        RawForm::Minus(a) => earlier(itself, first_mistyped(a, Some(ValueKind::Whole), naming)),
+        RawForm::Not(a) => earliest(itself, first_mistyped(a, Some(ValueKind::Truth), naming)),
+        RawForm::Minus(a) => earliest(itself, first_mistyped(a, Some(ValueKind::Whole), naming)),
         RawForm::Compare(relation, a, b) => {
             let (left, right) = wanted_sides(*relation, a, naming);
             let first = first_mistyped(a, left, naming);
-            earlier(itself, earlier(first, first_mistyped(b, right, naming)))
+            earliest(itself, earliest(first, first_mistyped(b, right, naming)))
         }
-        RawForm::Sum(parts) => earlier(itself, wrong_terms(parts, naming)),
-        RawForm::All(es) => earlier(itself, wrong_in(es, ValueKind::Truth, naming)),
-        RawForm::Any(es) => earlier(itself, wrong_in(es, ValueKind::Truth, naming)),
-        RawForm::Product(es) => earlier(itself, wrong_in(es, ValueKind::Whole, naming)),
-        RawForm::Least(es) => earlier(itself, wrong_in(es, ValueKind::Whole, naming)),
-        RawForm::Greatest(es) => earlier(itself, wrong_in(es, ValueKind::Whole, naming)),
-        RawForm::Count(es) => earlier(itself, wrong_in(es, ValueKind::Truth, naming)),
+        RawForm::Sum(parts) => earliest(itself, wrong_terms(parts, naming)),
+        RawForm::All(es) => earliest(itself, wrong_in(es, ValueKind::Truth, naming)),
+        RawForm::Any(es) => earliest(itself, wrong_in(es, ValueKind::Truth, naming)),
+        RawForm::Product(es) => earliest(itself, wrong_in(es, ValueKind::Whole, naming)),
+        RawForm::Least(es) => earliest(itself, wrong_in(es, ValueKind::Whole, naming)),
+        RawForm::Greatest(es) => earliest(itself, wrong_in(es, ValueKind::Whole, naming)),
+        RawForm::Count(es) => earliest(itself, wrong_in(es, ValueKind::Truth, naming)),
         RawForm::Choose(cases, other) => {
             let kind = form_kind(expr, naming);
             let first = wrong_cases(cases, kind, naming);
-            earlier(itself, earlier(first, first_mistyped(other, kind, naming)))
+            earliest(itself, earliest(first, first_mistyped(other, kind, naming)))
         }
     }
 }
@@ -87,7 +87,7 @@ fn wrong_in<N: Naming>(es: &[RawExpr], kind: ValueKind, naming: &N) -> Option<Pl
 {
     let mut found = None;
     for e in es {
-        found = earlier(found, first_mistyped(e, Some(kind), naming));
+        found = earliest(found, first_mistyped(e, Some(kind), naming));
     }
     found
 }
@@ -101,7 +101,7 @@ fn wrong_terms<N: Naming>(parts: &[(bool, RawExpr)], naming: &N) -> Option<Place
 {
     let mut found = None;
     for (_, e) in parts {
-        found = earlier(found, first_mistyped(e, Some(ValueKind::Whole), naming));
+        found = earliest(found, first_mistyped(e, Some(ValueKind::Whole), naming));
     }
     found
 }
@@ -122,11 +122,11 @@ fn wrong_cases<N: Naming>(
     let mut found = None;
     for (test, value) in cases {
         let truth = Some(ValueKind::Truth);
-        let here = earlier(
+        let here = earliest(
             first_mistyped(test, truth, naming),
             first_mistyped(value, kind, naming),
         );
-        found = earlier(found, here);
+        found = earliest(found, here);
     }
     found
 }

@@ -5,9 +5,9 @@ ghost use Rattle.ar_syntax.specs.declared.instructions.Instr.{out-Instr};
 ghost use Rattle.class_table.specs.Earliest.{IsEarliest};
 ghost use Rattle.written_forms.specs.Parts.{InstrForm, BreaksInside, BreaksInOne};
 
-use crate::earlier;
 use ar_base::Place;
 use ar_syntax::Instr;
+use class_table::earliest::earliest;
 
 /// A rule that an instruction can break by itself, apart from the instructions in it.
 pub trait Rule {
@@ -36,13 +36,13 @@ pub fn first_breach<R: Rule>(instr: &Instr, rule: &R) -> Option<Place>
         Instr::Assign(_, _) => itself,
         Instr::Tie(_, _) => itself,
         Instr::If(_, first, second) => match second {
-            None => earlier(itself, first_breach(first, rule)),
+            None => earliest(itself, first_breach(first, rule)),
             Some(other) => {
-                let branches = earlier(first_breach(first, rule), first_breach(other, rule));
-                earlier(itself, branches)
+                let branches = earliest(first_breach(first, rule), first_breach(other, rule));
+                earliest(itself, branches)
             }
         },
-        Instr::All(instrs) => earlier(itself, first_in(instrs, rule)),
+        Instr::All(instrs) => earliest(itself, first_in(instrs, rule)),
     }
 }
 
@@ -54,7 +54,7 @@ fn first_in<R: Rule>(instrs: &[Instr], rule: &R) -> Option<Place>
 {
     let mut found = None;
     for instr in instrs {
-        found = earlier(found, first_breach(instr, rule));
+        found = earliest(found, first_breach(instr, rule));
     }
     found
 }

@@ -7,9 +7,10 @@ ghost use Rattle.class_table.specs.Earliest.{IsEarliest};
 ghost use Rattle.written_forms.specs.Wrong.{IsNamedPath, NamesKind};
 ghost use Rattle.written_forms.specs.Breaches.{IsSort, IsTarget, IsNoTargetAt, AreOtherKinds, IsSortAt, MisnamesItself, MistypesItself, MisplacedInAction, MisplacedInAssertion};
 
-use crate::{Naming, differ, earlier, first_misnamed, first_mistyped};
+use crate::{Naming, differ, first_misnamed, first_mistyped};
 use ar_base::Place;
 use ar_syntax::{Instr, Path};
+use class_table::earliest::earliest;
 use typed_expr::ValueKind;
 
 /// What paths name where an instruction stands.
@@ -35,9 +36,12 @@ pub fn misnamed_itself<T: Targets>(instr: &Instr, targets: &T) -> Option<Place>
     match instr {
         Instr::Skip => None,
         Instr::Assign(path, value) => {
-            earlier(no_variable(path, targets), first_misnamed(value, targets))
+            earliest(no_variable(path, targets), first_misnamed(value, targets))
         }
-        Instr::Tie(left, right) => earlier(no_variable(left, targets), no_variable(right, targets)),
+        Instr::Tie(left, right) => earliest(
+            no_variable(left, targets),
+            no_variable(right, targets),
+        ),
         Instr::If(test, _, _) => first_misnamed(test, targets),
         Instr::All(_) => None,
     }

@@ -12,9 +12,9 @@ pub returns-in-Sync : goal.returns-in-Sync
 unfolding out-Member denote.Hole.Carrier.out
 returns-in-Sync c = λ m units u is at.
     sync_misnamed m u (out-Member c.args.member.now) c.in-Sync.name c.in-Sync.at c.in-Sync.parts c.no_own_event.result
-    c.no_event_in.result c.earlier.result (ap out-Member c.in-Sync.is)
+    c.no_event_in.result c.earliest.result (ap out-Member c.in-Sync.is)
     (c.no_own_event.ensures m units u is at) (rw c.deref.ensures.value at (c.no_event_in.ensures m units u is at))
-    c.earlier.ensures
+    c.earliest.ensures
 
 pub returns-in-Local : goal.returns-in-Local
 unfolding out-Member denote.Hole.Carrier.out

@@ -11,7 +11,7 @@ pub loop-part-preserved : goal.loop-part-preserved
 loop-part-preserved c = λ m units u is at.
     let s = item_stands c.args.parts.now c.loop-part.part-index c.part-item.result (omega arith) c.part-item.is in
     loop_next _ _ _ _ _ _ _ s (c.loop-part.invariant m units u is at) (c.no_event.ensures m units u is at)
-    c.earlier-found.ensures
+    c.earliest-found.ensures
 
 pub returns : goal.returns
 returns c = λ m units u is at. loop_end _ _ _ _ _ (omega arith) (part_to m u _) (part_back m u _)

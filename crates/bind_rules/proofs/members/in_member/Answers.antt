@@ -10,18 +10,18 @@ unfolding out-Member denote.Hole.Carrier.out
 returns-in-Local c = λ m units u are at.
     local_member m c.args.rule u (out-Member c.args.member.now) c.in-Local.field-0 c.in-Local.field-1 c.in-Local.guard
     c.in-Local.action c.in_event-event.result c.in_expression-test.result c.in_action.result
-    c.earlier.result c.earlier-in-Local.result (ap out-Member c.in-Local.is)
+    c.earliest.result c.earliest-in-Local.result (ap out-Member c.in-Local.is)
     (c.in_event-event.ensures m units u are.is_tree at)
     (c.in_expression-test.ensures m units u s.Everything are at everything) (c.in_action.ensures m units u are at)
-    c.earlier.ensures c.earlier-in-Local.ensures
+    c.earliest.ensures c.earliest-in-Local.ensures
 
 pub returns-in-Assert : goal.returns-in-Assert
 unfolding out-Member denote.Hole.Carrier.out
 returns-in-Assert c = λ m units u are at.
     assert_member m c.args.rule u (out-Member c.args.member.now) c.in-Assert.instr c.in_event-event.result
-    c.in_assertion.result c.earlier-in-Assert.result (ap out-Member c.in-Assert.is)
+    c.in_assertion.result c.earliest-in-Assert.result (ap out-Member c.in-Assert.is)
     (c.in_event-event.ensures m units u are.is_tree at) (c.in_assertion.ensures m units u are at)
-    c.earlier-in-Assert.ensures
+    c.earliest-in-Assert.ensures
 
 pub returns-in_default : goal.returns-in_default
 returns-in_default c = λ m units u are at. other_member m c.args.rule u c.args.member.now c.in_event-event.result

@@ -14,7 +14,7 @@ loop-site-preserved c = λ m units u are at.
     let none : BodyId × ℕ = (record { n = 0; of = record {} }, 0) in
     let s = stands_get c.args.sites.now c.loop-site.site-index none l in
     loop_next _ _ _ _ _ _ _ s (c.loop-site.invariant m units u are at) (c.in_site.ensures m units u are at)
-    c.earlier-found.ensures
+    c.earliest-found.ensures
 
 pub returns : goal.returns
 returns c = λ m units u are at. loop_end _ _ _ _ _ (omega arith) (site_to m c.args.rule u _)

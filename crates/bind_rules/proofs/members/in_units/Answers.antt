@@ -19,7 +19,7 @@ loop-place-preserved c = λ m units are.
     let at = subst (λ (n : ℕ). Stands units n a.0) (sym c.new.ensures) a.1 in
     loop_next _ _ _ _ _ _ _ s (c.loop-place.invariant m units are)
     (unit_now m units c.args.rule c.loop-place.place a.0 c.in_unit-here.result a.1
-    (c.in_unit-here.ensures m units a.0 are at a.2)) c.earlier-found.ensures
+    (c.in_unit-here.ensures m units a.0 are at a.2)) c.earliest-found.ensures
 
 pub returns : goal.returns
 returns c = λ m units are.

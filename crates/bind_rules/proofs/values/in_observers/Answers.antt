@@ -26,7 +26,7 @@ loop-node-preserved c = λ m units are.
     loop_next _ _ _ _ _ _ _ s (c.loop-node.invariant m units are)
     (thing_now (observers m units) (BreaksObserver m c.args.rule) c.loop-node.node-index a.0 c.in_observer.result
     a.1 (c.in_observer.ensures m units a.0 are a.2
-    (observer_has m units are.is_tree.table.kept c.loop-node.node-index a.0 a.1))) c.earlier-found.ensures
+    (observer_has m units are.is_tree.table.kept c.loop-node.node-index a.0 a.1))) c.earliest-found.ensures
 
 pub returns : goal.returns
 returns c = λ m units are.

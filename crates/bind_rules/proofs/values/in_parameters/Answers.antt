@@ -18,7 +18,7 @@ loop-place-preserved c = λ m units are.
     c.loop-place.place c.node-item.result s in
     loop_next _ _ _ _ _ _ _ s (c.loop-place.invariant m units are)
     (thing_now (parameters m units) (BreaksParameter m c.args.rule) c.loop-place.place a.0 c.in_parameter.result a.1
-    (c.in_parameter.ensures m units a.0 are a.1 a.2)) c.earlier-found.ensures
+    (c.in_parameter.ensures m units a.0 are a.1 a.2)) c.earliest-found.ensures
 
 pub returns : goal.returns
 returns c = λ m units are.

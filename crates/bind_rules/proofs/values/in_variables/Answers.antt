@@ -29,7 +29,7 @@ loop-node-preserved c =
           c.in_variable-test.result.2 a.1
           (test.place m units a.0 are (variable_scope m units a.0 c.node-item.result a.2 scope.Constants) h
           (variable_of_kind m units a.0 c.node-item.result a.2 c.in_variable-test.result.1
-          c.in_variable-test.ensures.kind))) c.earlier-found.ensures;
+          c.in_variable-test.ensures.kind))) c.earliest-found.ensures;
       last = test;
     }
 

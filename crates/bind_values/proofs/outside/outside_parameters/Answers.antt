@@ -21,7 +21,7 @@ loop-place-preserved c = λ m units are rows.
     let one = one_here (parameters m units) c.loop-place.place a.0 a.1 in
     loop_next _ _ _ _ _ _ _ s (c.loop-place.invariant m units are rows)
     (thing_now m units (parameters m units) c.loop-place.place a.0 c.outside_parameter.result a.1
-    (c.outside_parameter.ensures m units a.0 are one a.2 v)) c.earlier-found.ensures
+    (c.outside_parameter.ensures m units a.0 are one a.2 v)) c.earliest-found.ensures
 
 pub returns : goal.returns
 returns c = λ m units are rows.

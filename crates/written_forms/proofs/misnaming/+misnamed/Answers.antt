@@ -119,8 +119,8 @@ first_misnamed-returns-in-Compare g t c =
     c.deref-in-Compare.ensures c.first_misnamed-in-Compare.ensures in
     let k = subst (λ (e : RawExpr). IsEarliest (IsMisnamed may (level_of e)) c.first_misnamed-in-Compare-2.result)
     c.deref-in-Compare-2.ensures c.first_misnamed-in-Compare-2.ensures in
-    misnamed.misnamed_sides may c.args.expr.now _ c.in-Compare.a c.in-Compare.b _ _ c.earlier.result
-    (opened.form-compare _ _ _ _ c.in-Compare.is) h k c.earlier.ensures
+    misnamed.misnamed_sides may c.args.expr.now _ c.in-Compare.a c.in-Compare.b _ _ c.earliest.result
+    (opened.form-compare _ _ _ _ c.in-Compare.is) h k c.earliest.ensures
 
 pub first_misnamed-returns-in-Choose : goal.first_misnamed-returns-in-Choose
 first_misnamed-returns-in-Choose g t c =
@@ -132,10 +132,10 @@ first_misnamed-returns-in-Choose g t c =
     let k = subst (λ (e : RawExpr). IsEarliest (IsMisnamed may (level_of e)) c.first_misnamed-in-Choose.result)
     c.deref-in-Choose-2.ensures c.first_misnamed-in-Choose.ensures in
     misnamed.misnamed_inside may c.args.expr.now (raw.Choose c.in-Choose.cases c.in-Choose.other)
-    c.earlier-in-Choose.result (opened.form-choice _ _ _ c.in-Choose.is) (λ p e. cc)
+    c.earliest-in-Choose.result (opened.form-choice _ _ _ c.in-Choose.is) (λ p e. cc)
     (both_among (MisnamedOperand may) (tests c.in-Choose.cases.items ++ branches first c.in-Choose.cases.items)
-    (wanting (Like first) c.in-Choose.other.value ∷ []) _ _ c.earlier-in-Choose.result h
-    (one_among (MisnamedOperand may) (wanting (Like first) c.in-Choose.other.value) _ k) c.earlier-in-Choose.ensures)
+    (wanting (Like first) c.in-Choose.other.value ∷ []) _ _ c.earliest-in-Choose.result h
+    (one_among (MisnamedOperand may) (wanting (Like first) c.in-Choose.other.value) _ k) c.earliest-in-Choose.ensures)
 
 pub misnamed_in-loop-e-init : goal.misnamed_in-loop-e-init
 misnamed_in-loop-e-init g t c = loop_start _ _
@@ -143,7 +143,7 @@ misnamed_in-loop-e-init g t c = loop_start _ _
 pub misnamed_in-loop-e-preserved : goal.misnamed_in-loop-e-preserved
 misnamed_in-loop-e-preserved g t c =
     let s = item_stands c.args.es.now c.loop-e.e-index c.e-item.result (omega arith) c.e-item.is in
-    loop_next _ _ _ _ _ _ _ s c.loop-e.invariant c.first_misnamed.ensures c.earlier-found.ensures
+    loop_next _ _ _ _ _ _ _ s c.loop-e.invariant c.first_misnamed.ensures c.earliest-found.ensures
 
 pub misnamed_in-returns : goal.misnamed_in-returns
 misnamed_in-returns g t c = λ d.
@@ -157,7 +157,7 @@ misnamed_terms-loop-e-init g t c = loop_start _ _
 pub misnamed_terms-loop-e-preserved : goal.misnamed_terms-loop-e-preserved
 misnamed_terms-loop-e-preserved g t c =
     let s = item_stands c.args.parts.now c.loop-e.e-index c.loop-e-item.result (omega arith) c.loop-e-item.is in
-    loop_next _ _ _ _ _ _ _ s c.loop-e.invariant c.first_misnamed.ensures c.earlier-found.ensures
+    loop_next _ _ _ _ _ _ _ s c.loop-e.invariant c.first_misnamed.ensures c.earliest-found.ensures
 
 pub misnamed_terms-returns : goal.misnamed_terms-returns
 misnamed_terms-returns g t c =
@@ -174,8 +174,8 @@ misnamed_cases-loop-test-preserved g t c =
     let s = item_stands c.args.cases.now c.loop-test.test-index c.loop-test-item.result (omega arith)
     c.loop-test-item.is in
     loop_next _ _ _ _ _ _ _ s c.loop-test.invariant
-    (earliest_both _ _ _ c.first_misnamed.ensures c.first_misnamed-in-loop-test.ensures c.earlier-here.ensures)
-    c.earlier-found.ensures
+    (earliest_both _ _ _ c.first_misnamed.ensures c.first_misnamed-in-loop-test.ensures c.earliest-here.ensures)
+    c.earliest-found.ensures
 
 pub misnamed_cases-returns : goal.misnamed_cases-returns
 misnamed_cases-returns g t c = λ first.

@@ -48,7 +48,7 @@ first_mistyped-returns-in-Not g t c =
     c.deref.ensures c.first_mistyped.ensures in
     wrong_both kinds (demanding c.args.want) c.args.expr.now (raw.Not c.in-Not.a) _ _ _
     (opened.form-not _ _ c.in-Not.is) c.wrong_itself-itself.ensures
-    (one_among (MistypedOperand (NamesKind kinds)) (wanting (OfKind Truth) c.in-Not.a.value) _ h) c.earlier.ensures
+    (one_among (MistypedOperand (NamesKind kinds)) (wanting (OfKind Truth) c.in-Not.a.value) _ h) c.earliest.ensures
 
 pub first_mistyped-returns-in-Minus : goal.first_mistyped-returns-in-Minus
 first_mistyped-returns-in-Minus g t c =
@@ -58,7 +58,7 @@ first_mistyped-returns-in-Minus g t c =
     wrong_both kinds (demanding c.args.want) c.args.expr.now (raw.Minus c.in-Minus.a) _ _ _
     (opened.form-minus _ _ c.in-Minus.is) c.wrong_itself-itself.ensures
     (one_among (MistypedOperand (NamesKind kinds)) (wanting (OfKind Whole) c.in-Minus.a.value) _ h)
-    c.earlier-in-Minus.ensures
+    c.earliest-in-Minus.ensures
 
 pub first_mistyped-returns-in-Sum : goal.first_mistyped-returns-in-Sum
 first_mistyped-returns-in-Sum g t c =
@@ -66,7 +66,7 @@ first_mistyped-returns-in-Sum g t c =
     let h = subst (λ (ps : List (Bool × RawExpr)). IsEarliest (Among (MistypedOperand (NamesKind kinds)) (terms ps))
     c.wrong_terms.result) c.deref-in-Sum.ensures.value c.wrong_terms.ensures in
     wrong_both kinds (demanding c.args.want) c.args.expr.now (raw.Sum c.in-Sum.parts) _ _ _
-    (opened.form-sum _ _ c.in-Sum.is) c.wrong_itself-itself.ensures h c.earlier-in-Sum.ensures
+    (opened.form-sum _ _ c.in-Sum.is) c.wrong_itself-itself.ensures h c.earliest-in-Sum.ensures
 
 pub first_mistyped-returns-in-All : goal.first_mistyped-returns-in-All
 first_mistyped-returns-in-All g t c =
@@ -75,7 +75,7 @@ first_mistyped-returns-in-All g t c =
     (Among (MistypedOperand (NamesKind kinds)) (each_wanting (OfKind Truth) es)) c.wrong_in.result)
     c.deref-in-All.ensures.value c.wrong_in.ensures in
     wrong_both kinds (demanding c.args.want) c.args.expr.now (raw.All c.in-All.es) _ _ _
-    (opened.form-all _ _ c.in-All.is) c.wrong_itself-itself.ensures h c.earlier-in-All.ensures
+    (opened.form-all _ _ c.in-All.is) c.wrong_itself-itself.ensures h c.earliest-in-All.ensures
 
 pub first_mistyped-returns-in-Any : goal.first_mistyped-returns-in-Any
 first_mistyped-returns-in-Any g t c =
@@ -84,7 +84,7 @@ first_mistyped-returns-in-Any g t c =
     (Among (MistypedOperand (NamesKind kinds)) (each_wanting (OfKind Truth) es)) c.wrong_in-in-Any.result)
     c.deref-in-Any.ensures.value c.wrong_in-in-Any.ensures in
     wrong_both kinds (demanding c.args.want) c.args.expr.now (raw.Any c.in-Any.es) _ _ _
-    (opened.form-any _ _ c.in-Any.is) c.wrong_itself-itself.ensures h c.earlier-in-Any.ensures
+    (opened.form-any _ _ c.in-Any.is) c.wrong_itself-itself.ensures h c.earliest-in-Any.ensures
 
 pub first_mistyped-returns-in-Product : goal.first_mistyped-returns-in-Product
 first_mistyped-returns-in-Product g t c =
@@ -93,7 +93,7 @@ first_mistyped-returns-in-Product g t c =
     (Among (MistypedOperand (NamesKind kinds)) (each_wanting (OfKind Whole) es)) c.wrong_in-in-Product.result)
     c.deref-in-Product.ensures.value c.wrong_in-in-Product.ensures in
     wrong_both kinds (demanding c.args.want) c.args.expr.now (raw.Product c.in-Product.es) _ _ _
-    (opened.form-product _ _ c.in-Product.is) c.wrong_itself-itself.ensures h c.earlier-in-Product.ensures
+    (opened.form-product _ _ c.in-Product.is) c.wrong_itself-itself.ensures h c.earliest-in-Product.ensures
 
 pub first_mistyped-returns-in-Least : goal.first_mistyped-returns-in-Least
 first_mistyped-returns-in-Least g t c =
@@ -102,7 +102,7 @@ first_mistyped-returns-in-Least g t c =
     (Among (MistypedOperand (NamesKind kinds)) (each_wanting (OfKind Whole) es)) c.wrong_in-in-Least.result)
     c.deref-in-Least.ensures.value c.wrong_in-in-Least.ensures in
     wrong_both kinds (demanding c.args.want) c.args.expr.now (raw.Least c.in-Least.es) _ _ _
-    (opened.form-least _ _ c.in-Least.is) c.wrong_itself-itself.ensures h c.earlier-in-Least.ensures
+    (opened.form-least _ _ c.in-Least.is) c.wrong_itself-itself.ensures h c.earliest-in-Least.ensures
 
 pub first_mistyped-returns-in-Greatest : goal.first_mistyped-returns-in-Greatest
 first_mistyped-returns-in-Greatest g t c =
@@ -111,7 +111,7 @@ first_mistyped-returns-in-Greatest g t c =
     (Among (MistypedOperand (NamesKind kinds)) (each_wanting (OfKind Whole) es)) c.wrong_in-in-Greatest.result)
     c.deref-in-Greatest.ensures.value c.wrong_in-in-Greatest.ensures in
     wrong_both kinds (demanding c.args.want) c.args.expr.now (raw.Greatest c.in-Greatest.es) _ _ _
-    (opened.form-greatest _ _ c.in-Greatest.is) c.wrong_itself-itself.ensures h c.earlier-in-Greatest.ensures
+    (opened.form-greatest _ _ c.in-Greatest.is) c.wrong_itself-itself.ensures h c.earliest-in-Greatest.ensures
 
 pub first_mistyped-returns-in-Count : goal.first_mistyped-returns-in-Count
 first_mistyped-returns-in-Count g t c =
@@ -120,7 +120,7 @@ first_mistyped-returns-in-Count g t c =
     (Among (MistypedOperand (NamesKind kinds)) (each_wanting (OfKind Truth) es)) c.wrong_in-in-Count.result)
     c.deref-in-Count.ensures.value c.wrong_in-in-Count.ensures in
     wrong_both kinds (demanding c.args.want) c.args.expr.now (raw.Count c.in-Count.es) _ _ _
-    (opened.form-count _ _ c.in-Count.is) c.wrong_itself-itself.ensures h c.earlier-in-Count.ensures
+    (opened.form-count _ _ c.in-Count.is) c.wrong_itself-itself.ensures h c.earliest-in-Count.ensures
 
 pub first_mistyped-returns-in-Compare : goal.first_mistyped-returns-in-Compare
 first_mistyped-returns-in-Compare g t c =
@@ -136,7 +136,7 @@ first_mistyped-returns-in-Compare g t c =
     (raw.Compare c.in-Compare.relation c.in-Compare.a c.in-Compare.b) _ _ _
     (opened.form-compare _ _ _ _ c.in-Compare.is) c.wrong_itself-itself.ensures
     (wrong_sides kinds (is_equality c.in-Compare.relation) c.in-Compare.a.value c.in-Compare.b.value want _ _ _ w h k
-    c.earlier-in-Compare.ensures) c.earlier-in-Compare-2.ensures
+    c.earliest-in-Compare.ensures) c.earliest-in-Compare-2.ensures
 
 pub first_mistyped-returns-in-Choose : goal.first_mistyped-returns-in-Choose
 first_mistyped-returns-in-Choose g t c =
@@ -151,7 +151,7 @@ first_mistyped-returns-in-Choose g t c =
     wrong_both kinds (demanding c.args.want) c.args.expr.now (raw.Choose c.in-Choose.cases c.in-Choose.other) _ _ _ i
     c.wrong_itself-itself.ensures
     (wrong_choices kinds c.args.expr.now c.in-Choose.cases c.in-Choose.other c.form_kind-kind.result _ _ _ i
-    c.form_kind-kind.ensures h m c.earlier-in-Choose.ensures) c.earlier-in-Choose-2.ensures
+    c.form_kind-kind.ensures h m c.earliest-in-Choose.ensures) c.earliest-in-Choose-2.ensures
 
 pub wrong_in-loop-e-init : goal.wrong_in-loop-e-init
 wrong_in-loop-e-init g t c = loop_start _ _
@@ -159,7 +159,7 @@ wrong_in-loop-e-init g t c = loop_start _ _
 pub wrong_in-loop-e-preserved : goal.wrong_in-loop-e-preserved
 wrong_in-loop-e-preserved g t c =
     let s = item_stands c.args.es.now c.loop-e.e-index c.e-item.result (omega arith) c.e-item.is in
-    loop_next _ _ _ _ _ _ _ s c.loop-e.invariant c.first_mistyped.ensures c.earlier-found.ensures
+    loop_next _ _ _ _ _ _ _ s c.loop-e.invariant c.first_mistyped.ensures c.earliest-found.ensures
 
 pub wrong_in-returns : goal.wrong_in-returns
 wrong_in-returns g t c =
@@ -174,7 +174,7 @@ wrong_terms-loop-e-init g t c = loop_start _ _
 pub wrong_terms-loop-e-preserved : goal.wrong_terms-loop-e-preserved
 wrong_terms-loop-e-preserved g t c =
     let s = item_stands c.args.parts.now c.loop-e.e-index c.loop-e-item.result (omega arith) c.loop-e-item.is in
-    loop_next _ _ _ _ _ _ _ s c.loop-e.invariant c.first_mistyped.ensures c.earlier-found.ensures
+    loop_next _ _ _ _ _ _ _ s c.loop-e.invariant c.first_mistyped.ensures c.earliest-found.ensures
 
 pub wrong_terms-returns : goal.wrong_terms-returns
 wrong_terms-returns g t c =
@@ -194,7 +194,7 @@ wrong_cases-loop-test-preserved g t c = λ first h.
     let value = wrong_like kinds first c.loop-test-item.result.1 c.args.kind _ h
     c.first_mistyped-in-loop-test.ensures in
     loop_next _ _ _ _ _ _ _ s (c.loop-test.invariant first h)
-    (earliest_both _ _ _ c.first_mistyped.ensures value c.earlier-here.ensures) c.earlier-found.ensures
+    (earliest_both _ _ _ c.first_mistyped.ensures value c.earliest-here.ensures) c.earliest-found.ensures
 
 pub wrong_cases-returns : goal.wrong_cases-returns
 wrong_cases-returns g t c = λ first k.

@@ -30,7 +30,7 @@ first_breach-returns-in-All g t c =
     let h = subst (λ (is : List Instr). IsEarliest (BreaksInOne breaks is) c.first_in.result)
     c.deref-in-All.ensures.value c.first_in.ensures in
     form.all_inside breaks c.args.instr.now c.in-All.instrs _ _ _ (opened.instr-group _ _ c.in-All.is)
-    c.broken-itself.ensures h c.earlier-in-All.ensures
+    c.broken-itself.ensures h c.earliest-in-All.ensures
 
 pub first_in-loop-instr-init : goal.first_in-loop-instr-init
 first_in-loop-instr-init g t c = loop_start _ _
@@ -38,7 +38,7 @@ first_in-loop-instr-init g t c = loop_start _ _
 pub first_in-loop-instr-preserved : goal.first_in-loop-instr-preserved
 first_in-loop-instr-preserved g t c =
     let s = item_stands c.args.instrs.now c.loop-instr.instr-index c.instr-item.result (omega arith) c.instr-item.is in
-    loop_next _ _ _ _ _ _ _ s c.loop-instr.invariant c.first_breach.ensures c.earlier-found.ensures
+    loop_next _ _ _ _ _ _ _ s c.loop-instr.invariant c.first_breach.ensures c.earliest-found.ensures
 
 pub first_in-returns : goal.first_in-returns
 first_in-returns g t c =
@@ -54,7 +54,7 @@ first_breach-returns-in-None g t c =
     form.one_inside breaks c.args.instr.now c.in-If.field-0 c.in-If.first _ _ _
     (opened.instr-if _ _ _ _ c.in-If.is
     ∙ ap (λ (z : Option (Box Instr Global)). instr.If c.in-If.field-0 c.in-If.first z) c.in-None.is)
-    c.broken-itself.ensures h c.earlier.ensures
+    c.broken-itself.ensures h c.earliest.ensures
 
 pub first_breach-returns-in-Some : goal.first_breach-returns-in-Some
 first_breach-returns-in-Some g t c =
@@ -66,4 +66,4 @@ first_breach-returns-in-Some g t c =
     form.two_inside breaks c.args.instr.now c.in-If.field-0 c.in-If.first c.in-Some.other _ _ _ _ _
     (opened.instr-if _ _ _ _ c.in-If.is
     ∙ ap (λ (z : Option (Box Instr Global)). instr.If c.in-If.field-0 c.in-If.first z) c.in-Some.is)
-    c.broken-itself.ensures h k c.earlier-branches.ensures c.earlier-in-Some.ensures
+    c.broken-itself.ensures h k c.earliest-branches.ensures c.earliest-in-Some.ensures

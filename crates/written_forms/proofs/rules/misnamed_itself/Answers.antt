@@ -17,13 +17,13 @@ returns-in-All g c = form.never (MisnamesItself (IsNamedPath (g.T.Naming.kind_at
 pub returns-in-Assign : goal.returns-in-Assign
 returns-in-Assign g c = form.assign_misnamed (IsNamedPath (g.T.Naming.kind_at c.args.targets.now))
     (g.T.Targets.target_at c.args.targets.now) c.args.instr.now c.in-Assign.path c.in-Assign.value _ _ _
-    (opened.instr-assign _ _ _ c.in-Assign.is) c.no_variable.ensures c.first_misnamed.ensures c.earlier.ensures
+    (opened.instr-assign _ _ _ c.in-Assign.is) c.no_variable.ensures c.first_misnamed.ensures c.earliest.ensures
 
 pub returns-in-Tie : goal.returns-in-Tie
 returns-in-Tie g c = form.tie_misnamed (IsNamedPath (g.T.Naming.kind_at c.args.targets.now))
     (g.T.Targets.target_at c.args.targets.now) c.args.instr.now c.in-Tie.left c.in-Tie.right _ _ _
     (opened.instr-tie _ _ _ c.in-Tie.is) c.no_variable-in-Tie.ensures c.no_variable-in-Tie-2.ensures
-    c.earlier-in-Tie.ensures
+    c.earliest-in-Tie.ensures
 
 pub returns-in-If : goal.returns-in-If
 returns-in-If g c = form.if_misnamed (IsNamedPath (g.T.Naming.kind_at c.args.targets.now))

@@ -3,17 +3,14 @@
 use crate::run_job;
 use std::{fs, io};
 
-/// Runs the jobs of the file `texts`: a line has the words of a job, in which `model` names the text of the next line.
+/// Runs the jobs of the file `texts`: each line has the words of a job, in which `model` names a text, and behind `: ` that
+/// text.
 pub(crate) fn run_texts(rt: &HostRuntime) -> io::Result<()> {
     let texts = fs::read_to_string(rt, "texts")?;
-    let mut job = "";
     for line in texts.lines() {
-        if job.is_empty() {
-            job = line;
-        } else {
-            println!(rt; "{line}")?;
-            run_job(rt, job, [line, ""], job)?;
-            job = "";
+        if let Some((job, text)) = line.split_once(": ") {
+            println!(rt; "{text}")?;
+            run_job(rt, job, [text, ""], job)?;
         }
     }
     Ok(())

@@ -1,6 +1,6 @@
 //! Walks along paths. What each name in a unit leads to is found once; what leads to nothing is found anew where it is
-//! asked for again. A long path is walked once from each unit where it begins, also where it leads to nothing: all
-//! instances of a class whose path begins at the main block share one walk.
+//! asked for again. A long path is walked once from each unit where it begins, and from the main block also where it
+//! leads to nothing: all instances of a class whose path begins at the main block share one walk.
 
 ghost use Rattle.std.specs.Prelude.{◌≡◌, ◌≤◌, ◌++◌, ℕ, List, [], ◌∷◌, true, length, IfOk, OnOk, Some};
 ghost use Rattle.ar_base.specs.Lists.{Stands};
@@ -65,7 +65,8 @@ fn copy<'a>(table: &mut Table, top: &Frame) -> Result<Step<'a>, Memory>
     answer(table, top, Known::ToUnit(unit))
 }
 
-// Keeps how far the path of an answered statement leads, if that is to be kept.
+// Keeps how far the path of an answered statement leads, if that is to be kept. Where it leads to nothing, that is kept
+// of a path from the main block alone: one that begins at another unit would be kept for each instance of it.
 fn keep_end(table: &mut Table, top: &Frame) -> Result<(), Memory>
     ensures kept { (m : RootedModel) (below : List Walk) (u v : UnitPath)
         → IsFrame m (paths_of table.old) top.now u v → IsAnswered m below top.now table.old
@@ -75,6 +76,9 @@ fn keep_end(table: &mut Table, top: &Frame) -> Result<(), Memory>
     let Some(start) = top.start else {
         return Ok(());
     };
+    if start != 0 && !top.rest.is_empty() {
+        return Ok(());
+    }
     let Some(here) = table.unit(top.unit) else {
         return Ok(());
     };

@@ -10,22 +10,19 @@ ghost use Rattle.altarica_run.specs.declared.status.Status.TheVariants as status
 
 use crate::laws::one_job;
 
-/// A check of a list of cuts that ends well says `yes` exactly where the sets of the lines are the
-/// cuts of the observer's value, each once, and each line is an order that ends with the value. Its
-/// lines `missing` have an order of each cut that the list lacks, once, and nothing else. All these
-/// orders replay in the whole model, dropped events included.
-pub fn checks_are_whole()
-    ensures { (c : Call) (job : Job) → Gave c status.Done → IsJob c.words job
+/// What a check of a list and an explanation find holds in the source.
+///
+/// - `checks_are_whole`: A check of a list of cuts that ends well says `yes` exactly where the sets of the
+///   lines are the cuts of the observer's value, each once, and each line is an order that ends with the value.
+///   Its lines `missing` have an order of each cut that the list lacks, once, and nothing else. All these
+///   orders replay in the whole model, dropped events included.
+/// - `explanations_hold`: In an explanation that ends well the reason of each flow suffices: from the facts of
+///   the variables that it rests on the assignment that it names is reached and yields the flow's value. The
+///   flows among these variables have smaller rounds.
+pub fn findings_hold()
+    ensures checks_are_whole { (c : Call) (job : Job) → Gave c status.Done → IsJob c.words job
         → job.command ≡ CheckCuts → IsCheckOf c job }
-{
-    one_job();
-}
-
-/// In an explanation that ends well the reason of each flow suffices: from the facts of the variables
-/// that it rests on the assignment that it names is reached and yields the flow's value. The flows
-/// among these variables have smaller rounds.
-pub fn explanations_hold()
-    ensures { (c : Call) (job : Job) → Gave c status.Done → IsJob c.words job
+    ensures explanations_hold { (c : Call) (job : Job) → Gave c status.Done → IsJob c.words job
         → job.command ≡ Explain → IsExplanation c job }
 {
     one_job();

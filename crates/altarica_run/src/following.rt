@@ -9,26 +9,22 @@ ghost use Rattle.altarica_run.specs.Statuses.{IsTold, IsRefused, Meaning_of};
 ghost use Rattle.altarica_run.specs.declared.status.Status.{Status};
 ghost use Rattle.altarica_run.specs.declared.status.Status.TheVariants as status;
 
-/// What each status means, and what the sink holds after every answer. Where the words are no job,
-/// the answer says so, unless the outside fails.
+/// What a call answers, in words.
+///
+/// - `meaning`, `prefix`, `usage`: What each status means, and what the sink holds after every answer. Where
+///   the words are no job, the answer says so, unless the outside fails.
+/// - `nothing_gives_up`, `nothing_gives_up_on_jobs`: Where nothing of the outside fails, the call says what its words say,
+///   unless memory is refused: a job is told to its end, or a stage of it refuses.
+/// - `no_fault_passes_unseen`: No fault of the sink passes unseen: but where the call answers that the output
+///   was not written, the sink's count of faults is as it was.
 pub fn answers_in_words()
     ensures meaning { (c : Call) (s : Status) → Gave c s → Meaning_of c s }
     ensures prefix { (c : Call) (s : Status) → Gave c s → IsPrefix c }
     ensures usage { (c : Call) (s : Status) → Gave c s → IsNoJob c.words → (SinkRose c → ⊥)
         → (s ≡ status.Usage) ⊎ (s ≡ status.Memory) }
-{}
-
-/// Where nothing of the outside fails, the call says what its words say, unless memory is refused:
-/// a job is told to its end, or a stage of it refuses.
-pub fn nothing_gives_up()
-    ensures says { (c : Call) (s : Status) → Gave c s → IsQuiet c
+    ensures nothing_gives_up { (c : Call) (s : Status) → Gave c s → IsQuiet c
         → IsSaid c s ⊎ (s ≡ status.Memory) }
-    ensures job { (c : Call) (s : Status) (job : Job) → Gave c s → IsQuiet c
+    ensures nothing_gives_up_on_jobs { (c : Call) (s : Status) (job : Job) → Gave c s → IsQuiet c
         → IsJob c.words job → IsTold c s ⊎ (IsRefused c s ⊎ (s ≡ status.Memory)) }
-{}
-
-/// No fault of the sink passes unseen: but where the call answers that the output was not written, the
-/// sink's count of faults is as it was.
-pub fn no_fault_passes_unseen()
-    ensures { (c : Call) (s : Status) → Gave c s → s ≢ status.Write → c.sink_new ≡ c.sink_old }
+    ensures no_fault_passes_unseen { (c : Call) (s : Status) → Gave c s → s ≢ status.Write → c.sink_new ≡ c.sink_old }
 {}

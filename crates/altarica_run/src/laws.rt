@@ -35,30 +35,28 @@ pub fn one_loading()
         → Loaded told files x → Loaded told files y → x ≡ y }
 {}
 
-/// A model file that is longer than its limit is refused for that alone, whatever it says.
-pub fn long_models_are_refused()
-    ensures stages { (files : List ℕ → Told) (job : Job) (text : List ℕ) (x : Result Ready Refusal)
+/// Files that are too long are refused.
+///
+/// - `long_model_refused`, `long_models_are_refused`: A model file that is longer than its limit is refused for
+///   that alone, whatever it says.
+/// - `long_script_refused`, `long_scripts_are_refused`: A script or a list that is longer than its limit, of a
+///   model that is not, is refused for that alone, whatever the two say.
+pub fn long_files_are_refused()
+    ensures long_model_refused { (files : List ℕ → Told) (job : Job) (text : List ℕ) (x : Result Ready Refusal)
         → makes_model job.command ≡ false
         → files job.model ≡ Bytes text → limit_of ModelBytes < length text
         → Passes files job x → x ≡ Err (Size ModelBytes) }
-    ensures call { (c : Call) (s : Status) (job : Job) (text : List ℕ) → Gave c s → IsQuiet c
+    ensures long_models_are_refused { (c : Call) (s : Status) (job : Job) (text : List ℕ) → Gave c s → IsQuiet c
         → IsJob c.words job → makes_model job.command ≡ false
         → c.files job.model ≡ Bytes text
         → limit_of ModelBytes < length text
         → ((s ≡ status.Size) × Wrote c (line_of (Size ModelBytes))) ⊎ (s ≡ status.Memory) }
-{
-    one_job();
-}
-
-/// A script or a list that is longer than its limit, of a model that is not, is refused for that
-/// alone, whatever the two say.
-pub fn long_scripts_are_refused()
-    ensures stages { (files : List ℕ → Told) (job : Job) (name model script : List ℕ)
+    ensures long_script_refused { (files : List ℕ → Told) (job : Job) (name model script : List ℕ)
         (x : Result Ready Refusal) → makes_model job.command ≡ false → job.script ≡ Some name
         → files job.model ≡ Bytes model → length model ≤ limit_of ModelBytes
         → files name ≡ Bytes script → limit_of ScriptBytes < length script
         → Passes files job x → x ≡ Err (Size ScriptBytes) }
-    ensures call { (c : Call) (s : Status) (job : Job) (name model script : List ℕ)
+    ensures long_scripts_are_refused { (c : Call) (s : Status) (job : Job) (name model script : List ℕ)
         → Gave c s → IsQuiet c → IsJob c.words job
         → makes_model job.command ≡ false → job.script ≡ Some name
         → c.files job.model ≡ Bytes model → length model ≤ limit_of ModelBytes
@@ -68,33 +66,26 @@ pub fn long_scripts_are_refused()
     one_job();
 }
 
-/// Where the shelf tells that there is no model file, the call says that it was not read, and its
-/// own count of faults rose, unless the sink fails or memory is refused.
-pub fn absent_models_are_not_read()
-    ensures { (c : Call) (s : Status) (job : Job) → Gave c s → IsJob c.words job
+/// Files that are not there are not read, and models that are made need none.
+///
+/// - `absent_models_are_not_read`: Where the shelf tells that there is no model file, the call says that it was
+///   not read, and its own count of faults rose, unless the sink fails or memory is refused.
+/// - `absent_scripts_are_not_read`: Where the shelf tells that there is no script or list behind a model that
+///   is there, the call says that a file was not read, and that file's own count of faults rose, unless the
+///   sink fails or memory is refused. The file is the script, unless the model's count rose.
+/// - `made_models_are_not_loaded`: A command that makes its model loads nothing: it never says that a file was
+///   not read.
+pub fn absent_files_are_not_read()
+    ensures absent_models_are_not_read { (c : Call) (s : Status) (job : Job) → Gave c s → IsJob c.words job
         → makes_model job.command ≡ false → c.files job.model ≡ Absent
         → ((s ≡ status.Read) × RoseAt c job.model × Wrote c (line_of (NotRead Model)))
         ⊎ (SinkRose c ⊎ (s ≡ status.Memory)) }
-{
-    one_job();
-}
-
-/// Where the shelf tells that there is no script or list behind a model that is there, the call says
-/// that a file was not read, and that file's own count of faults rose, unless the sink fails or
-/// memory is refused. The file is the script, unless the model's count rose.
-pub fn absent_scripts_are_not_read()
-    ensures { (c : Call) (s : Status) (job : Job) (name model : List ℕ) → Gave c s
+    ensures absent_scripts_are_not_read { (c : Call) (s : Status) (job : Job) (name model : List ℕ) → Gave c s
         → IsJob c.words job → makes_model job.command ≡ false → job.script ≡ Some name
         → c.files job.model ≡ Bytes model → length model ≤ limit_of ModelBytes
         → c.files name ≡ Absent
         → ((s ≡ status.Read) × LacksScript c job name) ⊎ (SinkRose c ⊎ (s ≡ status.Memory)) }
-{
-    one_job();
-}
-
-/// A command that makes its model loads nothing: it never says that a file was not read.
-pub fn made_models_are_not_loaded()
-    ensures { (c : Call) (s : Status) (job : Job) → Gave c s → IsJob c.words job
+    ensures made_models_are_not_loaded { (c : Call) (s : Status) (job : Job) → Gave c s → IsJob c.words job
         → makes_model job.command ≡ true → s ≢ status.Read }
 {
     one_job();

@@ -12,8 +12,15 @@ ghost use Rattle.ar_firing.specs.Cuts.{Reaches, Conflicts, Makes, MeetsConflict,
 ghost use Rattle.ar_firing.specs.Forest.{ModeTree, IsModeTree, IsForest, IsLine};
 ghost use Rattle.ar_firing.specs.Rules.{Rule, Spot, KeepsStaticRule, BreaksStaticRule, IsFirstBroken, KeepsAll};
 
-/// A system and a flat system of it have the same firing orders, conflicts, cuts and conflict sets.
-pub fn flat_cuts<V>()
+/// Laws of a flat system and the system that it is of.
+///
+/// - `reaches`, `conflicts`, `makes`, `cuts`, `meets`, `conflict_sets`: A system and a flat system of it have
+///   the same firing orders, conflicts, cuts and conflict sets.
+/// - `firable`, `lines`, `trees`, `forests`: A system and a flat system of it have the same firable sets,
+///   lines, trees and forest.
+/// - `keeps`, `breaks`, `first_broken`, `all`: A system and a flat system of it keep and break the same rules
+///   of the static fragment, by the same numbers.
+pub fn flat_systems<V>()
     ensures reaches { (things : List V) (sys : System V) (flat : System ℕ)
         → IsFlatOf things sys flat → (dropped : List ℕ) (ls : List Label) (t : List Value)
         → (Reaches sys dropped ls t ↔ Reaches flat dropped ls t) }
@@ -34,10 +41,6 @@ pub fn flat_cuts<V>()
     ensures conflict_sets { (things : List V) (sys : System V) (flat : System ℕ)
         → IsFlatOf things sys flat → (dropped : List ℕ) (set : List ℕ)
         → (ConflictSet sys dropped set ↔ ConflictSet flat dropped set) }
-{}
-
-/// A system and a flat system of it have the same firable sets, lines, trees and forest.
-pub fn flat_forests<V>()
     ensures firable { (things : List V) (sys : System V) (flat : System ℕ)
         → IsFlatOf things sys flat → (dropped set : List ℕ) (t : List Value)
         → (IsFirable sys dropped set t ↔ IsFirable flat dropped set t) }
@@ -50,11 +53,6 @@ pub fn flat_forests<V>()
     ensures forests { (things : List V) (sys : System V) (flat : System ℕ)
         → IsFlatOf things sys flat → (dropped : List ℕ) (trees : List ModeTree)
         → (IsForest sys dropped trees ↔ IsForest flat dropped trees) }
-{}
-
-/// A system and a flat system of it keep and break the same rules of the static fragment, by the
-/// same numbers.
-pub fn flat_rules<V>()
     ensures keeps { (things : List V) (sys : System V) (flat : System ℕ) → IsFlatOf things sys flat
         → (dropped : List ℕ) (rule : Rule) → (KeepsStaticRule sys dropped rule ↔ KeepsStaticRule flat dropped rule) }
     ensures breaks { (things : List V) (sys : System V) (flat : System ℕ) → IsFlatOf things sys flat

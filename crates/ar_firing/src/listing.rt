@@ -16,73 +16,65 @@ ghost use Rattle.ar_firing.specs.Listed.{AreListed};
 ghost use Rattle.ar_firing.specs.Forest.{Row, ModeTree, IsModeTree, IsForest, IsLine};
 ghost use Rattle.ar_firing.specs.Trees.{AreTrees};
 
-/// A static system has one forest.
-pub fn one_forest<V>()
-    ensures forests { (sys : System V) (dropped : List ℕ) → IsKeyedStatic sys dropped
+/// Laws of the forest of a static system.
+///
+/// - `one_forest`: A static system has one forest.
+/// - `tree_edges`: The edges of a mode variable's tree are its live edges.
+/// - `forest_trees`: In each tree of a static system's forest an edge leaves the first mode or one that an
+///   earlier edge enters, none enters the first mode, and no two enter one mode or have one event; no event has
+///   edges in two trees.
+/// - `initial_mode`, `entered_mode`, `no_other_mode`: In the state of a firable set a variable has its init
+///   value exactly where no edge that leaves this has its event in the set, and a mode that an edge enters
+///   exactly where this edge's event is in the set and that of none that leaves the mode.
+pub fn forests<V>()
+    ensures one_forest { (sys : System V) (dropped : List ℕ) → IsKeyedStatic sys dropped
         → (ts us : List ModeTree) → IsForest sys dropped ts → IsForest sys dropped us → ts ≡ us }
-{}
-
-/// The edges of a mode variable's tree are its live edges.
-pub fn tree_edges<V>()
-    ensures live { (sys : System V) (dropped : List ℕ) → IsKeyedStatic sys dropped
+    ensures tree_edges { (sys : System V) (dropped : List ℕ) → IsKeyedStatic sys dropped
         → (tree : ModeTree) → IsModeTree sys dropped tree → (r : Row)
         → (IsOneOf tree.edges r ↔ IsLive sys dropped r.label tree.variable r.from r.to) }
-{}
-
-/// In each tree of a static system's forest an edge leaves the first mode or one that an earlier
-/// edge enters, none enters the first mode, and no two enter one mode or have one event; no event
-/// has edges in two trees.
-pub fn forest_trees<V>()
-    ensures trees { (sys : System V) (dropped : List ℕ) → IsKeyedStatic sys dropped
+    ensures forest_trees { (sys : System V) (dropped : List ℕ) → IsKeyedStatic sys dropped
         → (trees : List ModeTree) → IsForest sys dropped trees → AreTrees trees }
-{}
-
-/// In the state of a firable set a variable has its init value exactly where no edge that leaves
-/// this has its event in the set, and a mode that an edge enters exactly where this edge's event is
-/// in the set and that of none that leaves the mode.
-pub fn modes_of_sets<V>()
-    ensures initial { (sys : System V) (dropped : List ℕ) → IsKeyedStatic sys dropped
+    ensures initial_mode { (sys : System V) (dropped : List ℕ) → IsKeyedStatic sys dropped
         → (set : List ℕ) (t : List Value) → IsFirable sys dropped set t → (n : ℕ) (x : Variable V)
         → Stands sys.net.variables n x → x.is_state ≡ true
         → (Stands t n x.value ↔ NoneLeaves sys dropped set n x.value) }
-    ensures entered { (sys : System V) (dropped : List ℕ) → IsKeyedStatic sys dropped
+    ensures entered_mode { (sys : System V) (dropped : List ℕ) → IsKeyedStatic sys dropped
         → (set : List ℕ) (t : List Value) → IsFirable sys dropped set t → (n : ℕ) (x : Variable V)
         → Stands sys.net.variables n x → x.is_state ≡ true → (l : Label) (from m : Value)
         → IsLive sys dropped l n from m
         → (Stands t n m ↔ (IsOneOf set l.event × NoneLeaves sys dropped set n m)) }
-    ensures no_other { (sys : System V) (dropped : List ℕ) → IsKeyedStatic sys dropped
+    ensures no_other_mode { (sys : System V) (dropped : List ℕ) → IsKeyedStatic sys dropped
         → (set : List ℕ) (t : List Value) → IsFirable sys dropped set t → (n : ℕ) (x : Variable V)
         → Stands sys.net.variables n x → x.is_state ≡ true → (m : Value) → Stands t n m
         → (m ≡ x.value)
         ⊎ ((l : Label) × (from : Value) × IsLive sys dropped l n from m × IsOneOf set l.event) }
 {}
 
-/// A firable set has one line, and fires in this order where any order of it does.
-pub fn lines<V>()
-    ensures exists { (sys : System V) (dropped set : List ℕ) (t : List Value)
+/// Laws of the order in which the labels of a set, and the sets, are listed.
+///
+/// - `some_line`, `legal_line`, `one_line`: A firable set has one line, and fires in this order where any order
+///   of it does.
+/// - `one_listing_of_cuts`, `one_listing_of_conflict_sets`: The cuts of a value are listed in one way, and so
+///   are the conflict sets.
+/// - `not_before_itself`, `not_both_before`, `before_later`: Sets of events are in a strict order: none is
+///   before one with the same members, of two at most one is before the other, and what is before a set is
+///   before those after it.
+pub fn listings<V>()
+    ensures some_line { (sys : System V) (dropped set : List ℕ) (t : List Value)
         → IsFirable sys dropped set t → (ls : List Label) × IsLine sys dropped set ls }
-    ensures legal { (sys : System V) (dropped : List ℕ) → IsKeyedStatic sys dropped
+    ensures legal_line { (sys : System V) (dropped : List ℕ) → IsKeyedStatic sys dropped
         → (set : List ℕ) (ls : List Label) → IsLine sys dropped set ls
         → IsLegalOrder sys dropped set (reverse ls) }
-    ensures one { (sys : System V) (dropped : List ℕ) → IsKeyedStatic sys dropped
+    ensures one_line { (sys : System V) (dropped : List ℕ) → IsKeyedStatic sys dropped
         → (set other : List ℕ) (ls ks : List Label) → Within set other → Within other set
         → IsLine sys dropped set ls → IsLine sys dropped other ks → ls ≡ ks }
-{}
-
-/// The cuts of a value are listed in one way, and so are the conflict sets.
-pub fn one_listing<V>()
-    ensures cuts { (sys : System V) (dropped : List ℕ) (observer : Expr V) (wanted : Value)
+    ensures one_listing_of_cuts { (sys : System V) (dropped : List ℕ) (observer : Expr V) (wanted : Value)
         (xs ys : List (List ℕ)) → AreListed (Cut sys dropped observer wanted) xs
         → AreListed (Cut sys dropped observer wanted) ys → xs ≡ ys }
-    ensures conflict_sets { (sys : System V) (dropped : List ℕ) (xs ys : List (List ℕ))
+    ensures one_listing_of_conflict_sets { (sys : System V) (dropped : List ℕ) (xs ys : List (List ℕ))
         → AreListed (ConflictSet sys dropped) xs → AreListed (ConflictSet sys dropped) ys
         → xs ≡ ys }
-{}
-
-/// Sets of events are in a strict order: none is before one with the same members, of two at most
-/// one is before the other, and what is before a set is before those after it.
-pub fn order_of_sets()
-    ensures not_itself { (s t : List ℕ) → IsBefore s t → Within s t → ⊥ }
-    ensures not_both { (s t : List ℕ) → IsBefore s t → IsBefore t s → ⊥ }
-    ensures then { (s t u : List ℕ) → IsBefore s t → IsBefore t u → IsBefore s u }
+    ensures not_before_itself { (s t : List ℕ) → IsBefore s t → Within s t → ⊥ }
+    ensures not_both_before { (s t : List ℕ) → IsBefore s t → IsBefore t s → ⊥ }
+    ensures before_later { (s t u : List ℕ) → IsBefore s t → IsBefore t u → IsBefore s u }
 {}

@@ -17,11 +17,21 @@ ghost use Rattle.ar_base.specs.Sets.{Within};
 ghost use Rattle.ar_firing.specs.Operands.{HasFlows, HasFault};
 ghost use Rattle.ar_firing.specs.Replays.{AreOpen, AllFire, FailsLast};
 
-/// What fires without fault up to its last label, and fires there or meets a flow fault there, is a
-/// firable set in its state, in any order of its events. At a firable set just the edges that leave
-/// the modes of its state can fire.
-pub fn firing_orders<V>()
-    ensures fires { (sys : System V) (dropped : List ℕ) → IsKeyedStatic sys dropped
+/// Laws of firing orders, and of the sets that have them.
+///
+/// - `static_fires`, `meets`, `can_fire`, `no_other_can`, `steps`, `one_end`: What fires without fault up to
+///   its last label, and fires there or meets a flow fault there, is a firable set in its state, in any order
+///   of its events. At a firable set just the edges that leave the modes of its state can fire.
+/// - `goes_on`, `legal_orders_fire`: In a legal order of a firable set the next label can fire as long as no
+///   flow fault was met, and none is met where the firable sets of the events so far have flows.
+/// - `firable`, `order`, `told`, `numbers`: Where no set meets a conflict the sets with an order are exactly
+///   the firable sets: where the flows of each firable set are known to be there or a fault, where it can be
+///   told whether two keys are one, and so of numbers.
+/// - `replays`, `reaches`, `conflict_replays`, `undropped`: Labels fire without fault exactly where the script
+///   that fires them, and nothing else, has no fault, and what meets a conflict meets its flow fault in the run
+///   of its script. What fires with events dropped fires without dropping any.
+pub fn order_laws<V>()
+    ensures static_fires { (sys : System V) (dropped : List ℕ) → IsKeyedStatic sys dropped
         → (ls : List Label) (t : List Value) → Reaches sys dropped ls t
         → IsFirable sys dropped (map (λ l. l.event) ls) t }
     ensures meets { (sys : System V) (dropped : List ℕ) → IsKeyedStatic sys dropped
@@ -43,27 +53,16 @@ pub fn firing_orders<V>()
         → (ls ks : List Label) (t u : List Value) → Reaches sys dropped ls t
         → Reaches sys dropped ks u → Within (map (λ l. l.event) ls) (map (λ l. l.event) ks)
         → Within (map (λ l. l.event) ks) (map (λ l. l.event) ls) → t ≡ u }
-{}
-
-/// In a legal order of a firable set the next label can fire as long as no flow fault was met, and
-/// none is met where the firable sets of the events so far have flows.
-pub fn legal_orders<V>()
     ensures goes_on { (sys : System V) (dropped : List ℕ) → IsKeyedStatic sys dropped
         → (set : List ℕ) (t : List Value) (later : List Label) (l : Label) (before : List Label)
         → IsLegalOrder sys dropped set (later ++ (l ∷ before)) → Reaches sys dropped before t
         → (n : ℕ) × (from : Value) × (to : Value) × (e : Edge sys dropped l n from to)
         × Can (HasValue sys.net t) e.way }
-    ensures fires { (sys : System V) (dropped : List ℕ) → IsKeyedStatic sys dropped
+    ensures legal_orders_fire { (sys : System V) (dropped : List ℕ) → IsKeyedStatic sys dropped
         → (set : List ℕ) (ls : List Label) → IsLegalOrder sys dropped set ls
         → ((part : List ℕ) (t : List Value) → IsFirable sys dropped part t → Within part set
         → HasFlows sys.net t)
         → (t : List Value) × Reaches sys dropped ls t }
-{}
-
-/// Where no set meets a conflict the sets with an order are exactly the firable sets: where the
-/// flows of each firable set are known to be there or a fault, where it can be told whether two
-/// keys are one, and so of numbers.
-pub fn sets_with_orders<V>()
     ensures firable { (sys : System V) (dropped : List ℕ) → IsKeyedStatic sys dropped
         → (set : List ℕ) (t : List Value) → HasOrder sys dropped set t
         → IsFirable sys dropped set t }
@@ -79,12 +78,6 @@ pub fn sets_with_orders<V>()
     ensures numbers { (sys : System ℕ) (dropped : List ℕ) → IsKeyedStatic sys dropped
         → IsConflictFree sys dropped → (set : List ℕ) (t : List Value) → IsFirable sys dropped set t
         → (u : List Value) × HasOrder sys dropped set u }
-{}
-
-/// Labels fire without fault exactly where the script that fires them, and nothing else, has no
-/// fault, and what meets a conflict meets its flow fault in the run of its script. What fires with
-/// events dropped fires without dropping any.
-pub fn orders_replay<V>()
     ensures replays { (sys : System V) (dropped : List ℕ) (ls : List Label) (u : List Value)
         → Reaches sys dropped (reverse ls) u → AreOpen sys dropped ls
         × ((t : List Value) × (ms : List Moment) × Runs sys (map Fire ls) (Starts t ∷ ms)

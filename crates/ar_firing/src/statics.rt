@@ -6,9 +6,16 @@ ghost use Rattle.ar_meaning.specs.Found.{AreTold};
 ghost use Rattle.ar_firing.specs.Static.{IsStatic};
 ghost use Rattle.ar_firing.specs.Rules.{Rule, Spot, HasTargets, KeepsStaticRule, BreaksStaticRule, IsFirstBroken, KeepsAll};
 
-/// A rule that is kept is broken nowhere, and at most one rule is the first that is broken, with
-/// one thing that it is shown with.
-pub fn kept_or_broken<V>()
+/// Laws of systems that keep the rules of the static fragment, and of those that break one.
+///
+/// - `one_rule`, `all_rules`, `first`: A rule that is kept is broken nowhere, and at most one rule is the first
+///   that is broken, with one thing that it is shown with.
+/// - `rules_make_static`: A system that keeps the rules is static as the laws of firing orders ask it.
+/// - `unbroken_rules_make_static`, `not_neither`: Where it can be told whether two keys are one, as with
+///   numbers, a system of which no rule is broken is static; and where each assignment of an assertion has a
+///   variable as its target, it is refuted that a system neither keeps every rule nor has a first one that it
+///   breaks.
+pub fn static_rules<V>()
     ensures one_rule { (sys : System V) (dropped : List ℕ) (rule : Rule) (spot : Spot)
         → KeepsStaticRule sys dropped rule → BreaksStaticRule sys dropped rule spot → ⊥ }
     ensures all_rules { (sys : System V) (dropped : List ℕ) → KeepsAll sys dropped
@@ -16,19 +23,9 @@ pub fn kept_or_broken<V>()
     ensures first { (sys : System V) (dropped : List ℕ) (rule other : Rule) (spot there : Spot)
         → IsFirstBroken sys dropped rule spot → IsFirstBroken sys dropped other there
         → (rule ≡ other) × (spot ≡ there) }
-{}
-
-/// A system that keeps the rules is static as the laws of firing orders ask it.
-pub fn rules_make_static<V>()
-    ensures is_static { (sys : System V) (dropped : List ℕ) → KeepsAll sys dropped
+    ensures rules_make_static { (sys : System V) (dropped : List ℕ) → KeepsAll sys dropped
         → IsStatic sys dropped }
-{}
-
-/// Where it can be told whether two keys are one, as with numbers, a system of which no rule is
-/// broken is static; and where each assignment of an assertion has a variable as its target, it is
-/// refuted that a system neither keeps every rule nor has a first one that it breaks.
-pub fn unbroken_rules<V>()
-    ensures is_static { AreTold V → (sys : System V) (dropped : List ℕ)
+    ensures unbroken_rules_make_static { AreTold V → (sys : System V) (dropped : List ℕ)
         → ((rule : Rule) (spot : Spot) → BreaksStaticRule sys dropped rule spot → ⊥) → IsStatic sys dropped }
     ensures not_neither { AreTold V → (sys : System V) (dropped : List ℕ) → HasTargets sys
         → (KeepsAll sys dropped → ⊥)

@@ -16,15 +16,22 @@ ghost use Rattle.ar_meaning.specs.Image.{Way_renames, Event_renames, IsImage};
 ghost use Rattle.ar_meaning.specs.FlatOf.{IsNumber, IsFlatOf, AreFlatOf, NameAlike};
 ghost use Rattle.ar_meaning.specs.Numbered.{Body, Means_way, body_changed, changed};
 
-/// A flat system has the facts, flows, ways that can fire, effects, steps, runs and texts of its
-/// system, and no others.
-pub fn flat_answers<V>()
+/// Laws of a flat system and the system that it is of.
+///
+/// - `facts`, `flows`, `flat_ways`, `effects`, `steps`, `runs`, `texts`, `flat_keys`, `numbers`: A flat system
+///   has the facts, flows, ways that can fire, effects, steps, runs and texts of its system, and no others.
+/// - `declared_ways`, `declared_ways_back`, `declared_events`, `declared_events_back`, `declared_leads_back`,
+///   `declared_keys`: Flat declared events have the ways, events of a system and ways back to themselves of
+///   their declared events, and no others.
+/// - `copied_systems`, `copied_declarations`: A copy of a flat system, item by item, is a flat system of the
+///   same system; so are copied declared events.
+pub fn flat_systems<V, E>()
     ensures facts { (things : List V) (sys : System V) (flat : System ℕ) → IsFlatOf things sys flat
         → (t : List Value) (x : V) (n : ℕ) (v : Value) → Stands things n x
         → (FactOf sys.net t x v ↔ FactOf flat.net t n v) }
     ensures flows { (things : List V) (sys : System V) (flat : System ℕ) → IsFlatOf things sys flat
         → (t : List Value) (o : Outcome) → (Flows sys.net t o ↔ Flows flat.net t o) }
-    ensures ways { (things : List V) (sys : System V) (flat : System ℕ) → IsFlatOf things sys flat
+    ensures flat_ways { (things : List V) (sys : System V) (flat : System ℕ) → IsFlatOf things sys flat
         → (t : List Value) (v : Way V) (w : Way ℕ) → Way_renames (IsNumber things) v w
         → (Can (HasValue sys.net t) v ↔ Can (HasValue flat.net t) w) }
     ensures effects { (things : List V) (sys : System V) (flat : System ℕ)
@@ -39,72 +46,61 @@ pub fn flat_answers<V>()
     ensures texts { (things : List V) (sys : System V) (flat : System ℕ) → IsFlatOf things sys flat
         → (names numbers : Naming) → NameAlike names numbers → (ms : List Moment) (text : List ℕ)
         → (TraceText names sys ms text ↔ TraceText numbers flat ms text) }
-    ensures keys { (things : List V) (sys : System V) (flat : System ℕ) → IsFlatOf things sys flat
+    ensures flat_keys { (things : List V) (sys : System V) (flat : System ℕ) → IsFlatOf things sys flat
         → (AreKeyed sys.net ↔ AreKeyed flat.net) }
     ensures numbers { (things : List V) (sys : System V) (flat : System ℕ)
         → IsFlatOf things sys flat
         → ((n : ℕ) (x : Variable V) → Stands sys.net.variables n x → Stands things n x.key)
         ↔ AreNumbered flat.net }
-{}
-
-/// Flat declared events have the ways, events of a system and ways back to themselves of their
-/// declared events, and no others.
-pub fn flat_declarations<V, E>()
-    ensures ways { (things : List V) (keys : List E) (ds : List (EventDeclaration (Transition V) E))
+    ensures declared_ways { (things : List V) (keys : List E) (ds : List (EventDeclaration (Transition V) E))
         (es : List (EventDeclaration (Transition ℕ) ℕ)) → AreFlatOf things keys ds es → (e : E) (n : ℕ)
         → Stands keys n e → (vs : List (Way V)) → Ways ds e vs
         → (ws : List (Way ℕ)) × Ways es n ws × Along (Way_renames (IsNumber things)) vs ws }
-    ensures ways_back { (things : List V) (keys : List E) (ds : List (EventDeclaration (Transition V) E))
+    ensures declared_ways_back { (things : List V) (keys : List E) (ds : List (EventDeclaration (Transition V) E))
         (es : List (EventDeclaration (Transition ℕ) ℕ)) → AreFlatOf things keys ds es → (e : E) (n : ℕ)
         → Stands keys n e → (ws : List (Way ℕ)) → Ways es n ws
         → (vs : List (Way V)) × Ways ds e vs × Along (Way_renames (IsNumber things)) vs ws }
-    ensures events { (things : List V) (keys : List E) (ds : List (EventDeclaration (Transition V) E))
+    ensures declared_events { (things : List V) (keys : List E) (ds : List (EventDeclaration (Transition V) E))
         (es : List (EventDeclaration (Transition ℕ) ℕ)) → AreFlatOf things keys ds es
         → (vs : List (Event V)) → Along (IsExpanded ds) ds vs → (ws : List (Event ℕ))
         × Along (IsExpanded es) es ws × Along (Event_renames (IsNumber things)) vs ws }
-    ensures events_back { (things : List V) (keys : List E) (ds : List (EventDeclaration (Transition V) E))
+    ensures declared_events_back { (things : List V) (keys : List E) (ds : List (EventDeclaration (Transition V) E))
         (es : List (EventDeclaration (Transition ℕ) ℕ)) → AreFlatOf things keys ds es
         → (ws : List (Event ℕ)) → Along (IsExpanded es) es ws → (vs : List (Event V))
         × Along (IsExpanded ds) ds vs × Along (Event_renames (IsNumber things)) vs ws }
-    ensures leads_back { (things : List V) (keys : List E) (ds : List (EventDeclaration (Transition V) E))
+    ensures declared_leads_back { (things : List V) (keys : List E) (ds : List (EventDeclaration (Transition V) E))
         (es : List (EventDeclaration (Transition ℕ) ℕ)) → AreFlatOf things keys ds es → (e : E) (n k : ℕ)
         → Stands keys n e → (LeadsBack ds e k ↔ LeadsBack es n k) }
-    ensures keys { (things : List V) (keys : List E) (ds : List (EventDeclaration (Transition V) E))
+    ensures declared_keys { (things : List V) (keys : List E) (ds : List (EventDeclaration (Transition V) E))
         (es : List (EventDeclaration (Transition ℕ) ℕ)) → AreFlatOf things keys ds es
         → (HaveKeys ds ↔ HaveKeys es) }
-{}
-
-/// A copy of a flat system, item by item, is a flat system of the same system; so are copied
-/// declared events.
-pub fn copied<V, E>()
-    ensures systems { (things : List V) (sys : System V) (flat other : System ℕ)
+    ensures copied_systems { (things : List V) (sys : System V) (flat other : System ℕ)
         → IsFlatOf things sys flat → IsImage (λ m n. m ≡ n) flat other → IsFlatOf things sys other }
-    ensures declared { (things : List V) (keys : List E) (ds : List (EventDeclaration (Transition V) E))
+    ensures copied_declarations { (things : List V) (keys : List E) (ds : List (EventDeclaration (Transition V) E))
         (es fs : List (EventDeclaration (Transition ℕ) ℕ)) → AreFlatOf things keys ds es
         → Along (Declared_renames (λ m n. m ≡ n) (λ m n. m ≡ n)) es fs
         → AreFlatOf things keys ds fs }
 {}
 
-/// Declared events whose transitions are mapped, with each key's number in its place, have the
-/// mapped ways, and no others.
-pub fn mapped_declarations<L, M, E>()
-    ensures ways { (f : L → M) (keys : List E) (ds : List (EventDeclaration L E)) (es : List (EventDeclaration M ℕ))
+/// Laws of ways whose transitions, or leaves, are changed.
+///
+/// - `mapped_ways`, `mapped_ways_back`, `mapped_leads_back`: Declared events whose transitions are mapped, with
+///   each key's number in its place, have the mapped ways, and no others.
+/// - `changed_leaves`: Numbers stand for the same ways, whatever stands in the ways' leaves.
+pub fn mapped_ways<L, M, E>()
+    ensures mapped_ways { (f : L → M) (keys : List E) (ds : List (EventDeclaration L E)) (es : List (EventDeclaration M ℕ))
         → AreDifferent keys → Along (Declared_along (λ l m. f l ≡ m) (IsNumber keys)) ds es
         → (e : E) (n : ℕ) → Stands keys n e → (ts : List (Tree L)) → Ways ds e ts
         → Ways es n (map (changed f) ts) }
-    ensures ways_back { (f : L → M) (keys : List E) (ds : List (EventDeclaration L E))
+    ensures mapped_ways_back { (f : L → M) (keys : List E) (ds : List (EventDeclaration L E))
         (es : List (EventDeclaration M ℕ))
         → AreDifferent keys → Along (Declared_along (λ l m. f l ≡ m) (IsNumber keys)) ds es
         → (e : E) (n : ℕ) → Stands keys n e → (us : List (Tree M)) → Ways es n us
         → (ts : List (Tree L)) × Ways ds e ts × (us ≡ map (changed f) ts) }
-    ensures leads_back { (f : L → M) (keys : List E) (ds : List (EventDeclaration L E))
+    ensures mapped_leads_back { (f : L → M) (keys : List E) (ds : List (EventDeclaration L E))
         (es : List (EventDeclaration M ℕ))
         → AreDifferent keys → Along (Declared_along (λ l m. f l ≡ m) (IsNumber keys)) ds es
         → (e : E) (n k : ℕ) → Stands keys n e → (LeadsBack ds e k ↔ LeadsBack es n k) }
-{}
-
-/// Numbers stand for the same ways, whatever stands in the ways' leaves.
-pub fn changed_leaves<L, M>()
-    ensures ways { (f : L → M) (bodies : List (Body L)) (n : ℕ) (t : Tree L) → Means_way bodies n t
+    ensures changed_leaves { (f : L → M) (bodies : List (Body L)) (n : ℕ) (t : Tree L) → Means_way bodies n t
         → Means_way (map (body_changed f) bodies) n (changed f t) }
 {}

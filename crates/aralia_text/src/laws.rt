@@ -6,16 +6,16 @@ ghost use Rattle.eq_core.specs.Ordered.{IsOrderedTable};
 ghost use Rattle.aralia_text.specs.Texts.{equations_text};
 ghost use Rattle.aralia_text.specs.Readings.{ArePaths, NamesEvents, IsTextOf, IsFirstWrong};
 
-/// Where the texts of the events are of letters, digits, `_` and `.`, what is written for a table is a text of that table: so
-/// `read` gives that table for it.
-pub fn printed_is_read()
-    ensures { (events : List (List ℕ)) (table : Table) → ArePaths events → IsOrderedTable table
+/// Laws of the reading of a gate table.
+///
+/// - `printed_is_read`: Where the texts of the events are of letters, digits, `_` and `.`, what is written for
+///   a table is a text of that table: so `read` gives that table for it.
+/// - `first_wrong_is_one`: A text goes wrong first at one place: so the place that `read` tells is the only
+///   one.
+pub fn reading_laws()
+    ensures printed_is_read { (events : List (List ℕ)) (table : Table) → ArePaths events → IsOrderedTable table
         → NamesEvents events table
         → IsTextOf events (equations_text events table) table }
-{}
-
-/// A text goes wrong first at one place: so the place that `read` tells is the only one.
-pub fn first_wrong_is_one()
-    ensures { (events : List (List ℕ)) (text : List ℕ) (k m : ℕ) → IsFirstWrong events text k
+    ensures first_wrong_is_one { (events : List (List ℕ)) (text : List ℕ) (k m : ℕ) → IsFirstWrong events text k
         → IsFirstWrong events text m → k ≡ m }
 {}

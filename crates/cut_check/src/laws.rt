@@ -9,42 +9,38 @@ ghost use Rattle.ar_meaning.specs.Image.{Expr_renames};
 ghost use Rattle.ar_meaning.specs.FlatOf.{IsNumber, IsFlatOf};
 ghost use Rattle.cut_check.specs.Verdicts.{IsTrueLine, Said, IsSaid, IsMissing, IsRight, AreTheCuts};
 
-/// A flat system's lines are true, and its cuts missing, exactly as those of its system; and the same
-/// is said of each line.
-pub fn flat_checks<V>()
-    ensures lines { (things : List V) (sys : System V) (flat : System ℕ) → IsFlatOf things sys flat
+/// Laws of the verdicts on a list of cuts.
+///
+/// - `flat_lines`, `flat_verdicts`, `flat_missing`: A flat system's lines are true, and its cuts missing,
+///   exactly as those of its system; and the same is said of each line.
+/// - `one_verdict`: One thing is said of a line.
+/// - `right_lists`: Each line is good and no cut is missing exactly where the sets of the lines are the cuts,
+///   each once, and each line is an order of its events that ends with the wanted value. This rests on a set
+///   that makes the value having a cut within it.
+pub fn verdict_laws<V>()
+    ensures flat_lines { (things : List V) (sys : System V) (flat : System ℕ) → IsFlatOf things sys flat
         → (dropped : List ℕ) (observer : Expr V) (other : Expr ℕ)
         → Expr_renames (IsNumber things) observer other → (wanted : Value) (ls : List Label)
         → (IsTrueLine sys dropped observer wanted ls ↔ IsTrueLine flat dropped other wanted ls) }
-    ensures said { (things : List V) (sys : System V) (flat : System ℕ) → IsFlatOf things sys flat
+    ensures flat_verdicts { (things : List V) (sys : System V) (flat : System ℕ) → IsFlatOf things sys flat
         → (dropped : List ℕ) (observer : Expr V) (other : Expr ℕ)
         → Expr_renames (IsNumber things) observer other → (wanted : Value)
         (lines : List (List Label)) (n : ℕ) (said : Said)
         → (IsSaid sys dropped observer wanted lines n said
         ↔ IsSaid flat dropped other wanted lines n said) }
-    ensures missing { (things : List V) (sys : System V) (flat : System ℕ)
+    ensures flat_missing { (things : List V) (sys : System V) (flat : System ℕ)
         → IsFlatOf things sys flat
         → (dropped : List ℕ) (observer : Expr V) (other : Expr ℕ)
         → Expr_renames (IsNumber things) observer other → (wanted : Value)
         (lines : List (List Label)) (set : List ℕ)
         → (IsMissing sys dropped observer wanted lines set
         ↔ IsMissing flat dropped other wanted lines set) }
-{}
-
-/// One thing is said of a line.
-pub fn one_verdict<V>()
-    ensures { (sys : System V) (dropped : List ℕ) (observer : Expr V) (wanted : Value)
+    ensures one_verdict { (sys : System V) (dropped : List ℕ) (observer : Expr V) (wanted : Value)
         (lines : List (List Label)) (n : ℕ) (a b : Said)
         → IsSaid sys dropped observer wanted lines n a
         → IsSaid sys dropped observer wanted lines n b
         → a ≡ b }
-{}
-
-/// Each line is good and no cut is missing exactly where the sets of the lines are the cuts, each
-/// once, and each line is an order of its events that ends with the wanted value. This rests on a set
-/// that makes the value having a cut within it.
-pub fn right_lists<V>()
-    ensures { (sys : System V) (dropped : List ℕ) (observer : Expr V) (wanted : Value)
+    ensures right_lists { (sys : System V) (dropped : List ℕ) (observer : Expr V) (wanted : Value)
         (lines : List (List Label))
         → (IsRight sys dropped observer wanted lines
         ↔ AreTheCuts sys dropped observer wanted lines) }

@@ -22,47 +22,39 @@ ghost use Rattle.firable_families.specs.Firable.{IsPathSet, IsFirableOf, IsOfMem
 ghost use Rattle.firable_families.specs.Entries.{AreEntries, HasEntries};
 ghost use Rattle.firable_families.specs.Walk.{left, after, could, AreTreeFamilies, AreEventsBelow};
 
-/// The walk through the events lists the firable sets, and what it has left after some of them is a section of their
-/// family.
-pub fn walk()
-    ensures lists { (trees : List ModeTree) (fs : List Family) → AreTreeFamilies trees fs → (n : ℕ)
+/// Laws of the families of firable sets.
+///
+/// - `lists_of_walk`, `sections_of_walk`: The walk through the events lists the firable sets, and what it has
+///   left after some of them is a section of their family.
+/// - `tree_families`: The family of a tree's modes, each with the events of a path to it, lists the tree's
+///   paths.
+/// - `least_sets`: The minimal sets of the firable ones at which a test is true are the least such sets.
+/// - `firable_in_forests`, `least_in_forests`: In the trees of its forest the sets are firable that are so in a
+///   static system, and the least of them at which a test is true are the system's.
+/// - `firable_by_ways`, `trees_by_ways`: How the ways of a forest are numbered changes nothing in what is
+///   firable in its trees, nor in that they are trees.
+pub fn firable_laws<V>()
+    ensures lists_of_walk { (trees : List ModeTree) (fs : List Family) → AreTreeFamilies trees fs → (n : ℕ)
         → AreApart trees
         → AreEventsBelow n fs → AreListed (IsFirableOf trees) (left n 0 fs) }
-    ensures sections { (m k : ℕ) (p : List ℕ) (fs : List Family) → Ascends p
+    ensures sections_of_walk { (m k : ℕ) (p : List ℕ) (fs : List Family) → Ascends p
         → AllByRecursion (λ x. x < m) p
         → section m p (left (m + k) 0 fs) ≡ cond (could m 0 p fs) (left k m (after m 0 p fs)) [] }
-{}
-
-/// The family of a tree's modes, each with the events of a path to it, lists the tree's paths.
-pub fn tree_families()
-    ensures { (tree : ModeTree) → IsTree tree → (entries : List (Value × List ℕ))
+    ensures tree_families { (tree : ModeTree) → IsTree tree → (entries : List (Value × List ℕ))
         → AreEntries tree entries
         → (f : Family) → IsFamily f → HasEntries entries f → AreListed (IsPathSet tree) f }
-{}
-
-/// The minimal sets of the firable ones at which a test is true are the least such sets.
-pub fn least_sets()
-    ensures { (trees : List ModeTree) (test : List ℕ → Bool) → IsOfMembers test → (all : Family)
+    ensures least_sets { (trees : List ModeTree) (test : List ℕ → Bool) → IsOfMembers test → (all : Family)
         → AreListed (IsFirableOf trees) all → ListsLeast trees test (minimal (filter test all)) }
-{}
-
-/// In the trees of its forest the sets are firable that are so in a static system, and the least of them at which a
-/// test is true are the system's.
-pub fn in_forests<V>()
-    ensures firable { (sys : System V) (dropped : List ℕ) → IsKeyedStatic sys dropped
+    ensures firable_in_forests { (sys : System V) (dropped : List ℕ) → IsKeyedStatic sys dropped
         → (trees : List ModeTree) → IsForest sys dropped trees
         → (set : List ℕ) → (IsFirableOf trees set
         ↔ ((t : List Value) × IsFirable sys dropped set t)) }
-    ensures least { (sys : System V) (dropped : List ℕ) → IsKeyedStatic sys dropped
+    ensures least_in_forests { (sys : System V) (dropped : List ℕ) → IsKeyedStatic sys dropped
         → (trees : List ModeTree) → IsForest sys dropped trees
         → (test : List ℕ → Bool) (sets : List (List ℕ))
         → ListsLeast trees test sets → AreListed (IsLeast (IsFirableWith sys dropped test)) sets }
-{}
-
-/// How the ways of a forest are numbered changes nothing in what is firable in its trees, nor in that they are trees.
-pub fn ways_of_forests()
-    ensures firable { (number other : ℕ → ℕ) (forest : Forest) (set : List ℕ)
+    ensures firable_by_ways { (number other : ℕ → ℕ) (forest : Forest) (set : List ℕ)
         → (IsFirableOf (trees_of number forest) set ↔ IsFirableOf (trees_of other forest) set) }
-    ensures trees { (number other : ℕ → ℕ) (forest : Forest)
+    ensures trees_by_ways { (number other : ℕ → ℕ) (forest : Forest)
         → (AreTrees (trees_of number forest) ↔ AreTrees (trees_of other forest)) }
 {}

@@ -14,4 +14,4 @@ mod search;
 mod slots;
 
 pub use graph::{Block, Graph, blocks};
-pub use laws::{one_class_each, one_list};
+pub use laws::block_laws;

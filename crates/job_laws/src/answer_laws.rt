@@ -63,18 +63,52 @@ pub fn fitting_fronts_are_viable()
         → Viable front }
 {}
 
-/// A text that has no tokens, no reading, or a production inside too many others is refused for that,
-/// with its line and status, by the stages of each job whose text it is, and by each call of such words
-/// over files of which something is told, unless something of the outside fails or memory is refused.
-pub fn unread_texts_are_refused()
-    ensures stages { (files : List ℕ → Told) → ((name : List ℕ) → IsKnown (files name))
+/// A text without a tree, and a rule that a text or its units break, are told.
+///
+/// - `unread_text_refused`, `unread_texts_are_refused`: A text that has no tokens, no reading, or a production
+///   inside too many others is refused for that, with its line and status, by the stages of each job whose text
+///   it is, and by each call of such words over files of which something is told, unless something of the
+///   outside fails or memory is refused.
+/// - `broken_rule_refused`, `broken_rules_are_told`: A text that is read and breaks a rule of L1 to L5 is
+///   refused with the least such rule at its earliest place, by the stages of each job whose text it is, and by
+///   each call of such words over files of which something is told, unless something of the outside fails or
+///   memory is refused.
+/// - `broken_unit_rule_refused`, `broken_unit_rules_are_told`: A text that is read, keeps the rules L1 to L5
+///   and passes a limit of its units, or breaks a rule of L6 to L9, is refused for that limit, or with the
+///   least such rule at its earliest place, by the stages of each job whose text it is, and by each call of
+///   such words over files of which something is told, unless something of the outside fails or memory is
+///   refused.
+pub fn first_causes_are_told()
+    ensures unread_text_refused { (files : List ℕ → Told) → ((name : List ℕ) → IsKnown (files name))
         → (job : Job) (texts : List (List ℕ)) (text : List ℕ) (r : Refusal)
         → Loaded files (files_of job) (Ok texts) → IsText job texts text → Parses text (Err r)
         → (x : Result Ready Refusal) → Passes files job x → x ≡ Err r }
-    ensures call { (c : Call) (s : Status) (job : Job) (texts : List (List ℕ)) (text : List ℕ)
+    ensures unread_texts_are_refused { (c : Call) (s : Status) (job : Job) (texts : List (List ℕ)) (text : List ℕ)
         (r : Refusal) → Gave c s → IsQuiet c → ((name : List ℕ) → IsKnown (c.files name))
         → IsJob c.words job → Loaded c.files (files_of job) (Ok texts) → IsText job texts text
         → Parses text (Err r)
+        → ((s ≡ status_of r) × Wrote c (line_of r)) ⊎ (s ≡ status.Memory) }
+    ensures broken_rule_refused { (files : List ℕ → Told) → ((name : List ℕ) → IsKnown (files name))
+        → (job : Job) (texts : List (List ℕ)) (text : List ℕ) (m : Model) (d : Declared) (r : ℕ)
+        (p : Place) → Loaded files (files_of job) (Ok texts) → IsText job texts text → Reads text m
+        → IsDeclared m d → IsBroken text_rules (BreaksTextRule m job.main d) r p
+        → (x : Result Ready Refusal) → Passes files job x → x ≡ Err (Rule r p) }
+    ensures broken_rules_are_told { (c : Call) (s : Status) (job : Job) (texts : List (List ℕ)) (text : List ℕ)
+        (m : Model) (d : Declared) (r : ℕ) (p : Place) → Gave c s → IsQuiet c
+        → ((name : List ℕ) → IsKnown (c.files name)) → IsJob c.words job
+        → Loaded c.files (files_of job) (Ok texts) → IsText job texts text → Reads text m
+        → IsDeclared m d → IsBroken text_rules (BreaksTextRule m job.main d) r p
+        → ((s ≡ status.Rule) × Wrote c (line_of (Rule r p))) ⊎ (s ≡ status.Memory) }
+    ensures broken_unit_rule_refused { (files : List ℕ → Told) → ((name : List ℕ) → IsKnown (files name))
+        → (job : Job) (texts : List (List ℕ)) (text : List ℕ) (m : Model) (n : RootedModel)
+        (r : Refusal) → Loaded files (files_of job) (Ok texts) → IsText job texts text
+        → Reads text m → Tables job.main m (Ok n) → Ruled Instantiates n (Err r)
+        → (x : Result Ready Refusal) → Passes files job x → x ≡ Err r }
+    ensures broken_unit_rules_are_told { (c : Call) (s : Status) (job : Job) (texts : List (List ℕ)) (text : List ℕ)
+        (m : Model) (n : RootedModel) (r : Refusal) → Gave c s → IsQuiet c
+        → ((name : List ℕ) → IsKnown (c.files name)) → IsJob c.words job
+        → Loaded c.files (files_of job) (Ok texts) → IsText job texts text → Reads text m
+        → Tables job.main m (Ok n) → Ruled Instantiates n (Err r)
         → ((s ≡ status_of r) × Wrote c (line_of r)) ⊎ (s ≡ status.Memory) }
 {
     one_passing();
@@ -105,26 +139,6 @@ pub fn one_table_or_refusal()
     texts_break_the_same_rules();
 }
 
-/// A text that is read and breaks a rule of L1 to L5 is refused with the least such rule at its earliest
-/// place, by the stages of each job whose text it is, and by each call of such words over files of which
-/// something is told, unless something of the outside fails or memory is refused.
-pub fn broken_rules_are_told()
-    ensures stages { (files : List ℕ → Told) → ((name : List ℕ) → IsKnown (files name))
-        → (job : Job) (texts : List (List ℕ)) (text : List ℕ) (m : Model) (d : Declared) (r : ℕ)
-        (p : Place) → Loaded files (files_of job) (Ok texts) → IsText job texts text → Reads text m
-        → IsDeclared m d → IsBroken text_rules (BreaksTextRule m job.main d) r p
-        → (x : Result Ready Refusal) → Passes files job x → x ≡ Err (Rule r p) }
-    ensures call { (c : Call) (s : Status) (job : Job) (texts : List (List ℕ)) (text : List ℕ)
-        (m : Model) (d : Declared) (r : ℕ) (p : Place) → Gave c s → IsQuiet c
-        → ((name : List ℕ) → IsKnown (c.files name)) → IsJob c.words job
-        → Loaded c.files (files_of job) (Ok texts) → IsText job texts text → Reads text m
-        → IsDeclared m d → IsBroken text_rules (BreaksTextRule m job.main d) r p
-        → ((s ≡ status.Rule) × Wrote c (line_of (Rule r p))) ⊎ (s ≡ status.Memory) }
-{
-    one_passing();
-    causes_are_told();
-}
-
 /// However a text is read, the stages of the rules L1 to L5 and of its units have at most one answer: the
 /// text has the same units in models that agree, or it is refused for one limit, or with one rule at one place.
 pub fn one_unfolding_or_refusal()
@@ -136,27 +150,6 @@ pub fn one_unfolding_or_refusal()
     texts_are_seen_alike();
     texts_break_the_same_rules();
     one_tree_of_a_text();
-}
-
-/// A text that is read, keeps the rules L1 to L5 and passes a limit of its units, or breaks a rule of L6 to
-/// L9, is refused for that limit, or with the least such rule at its earliest place, by the stages of each
-/// job whose text it is, and by each call of such words over files of which something is told, unless
-/// something of the outside fails or memory is refused.
-pub fn broken_unit_rules_are_told()
-    ensures stages { (files : List ℕ → Told) → ((name : List ℕ) → IsKnown (files name))
-        → (job : Job) (texts : List (List ℕ)) (text : List ℕ) (m : Model) (n : RootedModel)
-        (r : Refusal) → Loaded files (files_of job) (Ok texts) → IsText job texts text
-        → Reads text m → Tables job.main m (Ok n) → Ruled Instantiates n (Err r)
-        → (x : Result Ready Refusal) → Passes files job x → x ≡ Err r }
-    ensures call { (c : Call) (s : Status) (job : Job) (texts : List (List ℕ)) (text : List ℕ)
-        (m : Model) (n : RootedModel) (r : Refusal) → Gave c s → IsQuiet c
-        → ((name : List ℕ) → IsKnown (c.files name)) → IsJob c.words job
-        → Loaded c.files (files_of job) (Ok texts) → IsText job texts text → Reads text m
-        → Tables job.main m (Ok n) → Ruled Instantiates n (Err r)
-        → ((s ≡ status_of r) × Wrote c (line_of r)) ⊎ (s ≡ status.Memory) }
-{
-    one_passing();
-    causes_are_told();
 }
 
 /// What the words, the script and the list of cuts of a job ask of a source is at most one thing, or

@@ -57,60 +57,47 @@ ghost use Rattle.job_laws.specs.Told.{IsToldAs};
 
 use crate::told::refusals_are_told;
 
-/// A text that is read, and whose model is refused on its way to a system, is answered with the
-/// rule and its place, or with the limit, or the call is stopped.
-pub fn refused_models_are_told()
-    ensures rule { (c : Call) (s : Status) (job : Job) (texts : List (List ℕ)) (text : List ℕ)
+/// Causes in the model: each rule of units, names and ways that it breaks is told.
+///
+/// - `refused_rule`, `refused_limit`: A text that is read, and whose model is refused on its way to a system,
+///   is answered with the rule and its place, or with the limit, or the call is stopped.
+/// - `broken_rules_of_units_are_told`: A text that is read, that keeps the rules L1 to L5, whose main block
+///   unfolds into units, variables, events and nodes within their limits, and that breaks a rule of L6 to L9,
+///   is answered with the least such rule at its earliest place, or the call is stopped.
+/// - `broken_rules_of_names_are_told`: A text that is read, that keeps the rules L1 to L9 within the limits of
+///   its units, and that breaks a rule of L10 to L13, is answered with the least such rule at its earliest
+///   place, or the call is stopped.
+/// - `broken_rules_of_ways_are_told`: A text that is read, that keeps the rules L1 to L13 within the limits of
+///   its units, and that has a synchronisation of an event from which that event is reached again, is answered
+///   with L14 at the earliest such one, or the call is stopped.
+pub fn broken_rules_of_models_are_told()
+    ensures refused_rule { (c : Call) (s : Status) (job : Job) (texts : List (List ℕ)) (text : List ℕ)
         (m : Model) (r : ℕ) (p : Place) → Gave c s
         → ((name : List ℕ) → IsKnown (c.files name)) → IsJob c.words job
         → Loaded c.files (files_of job) (Ok texts) → IsText job texts text → Reads text m
         → Systems job.main m (Err (fault.Rule r p))
         → IsToldAs c s (Rule r p) }
-    ensures limit { (c : Call) (s : Status) (job : Job) (texts : List (List ℕ)) (text : List ℕ)
+    ensures refused_limit { (c : Call) (s : Status) (job : Job) (texts : List (List ℕ)) (text : List ℕ)
         (m : Model) (count : Count) → Gave c s
         → ((name : List ℕ) → IsKnown (c.files name)) → IsJob c.words job
         → Loaded c.files (files_of job) (Ok texts) → IsText job texts text → Reads text m
         → Systems job.main m (Err (fault.Limit count))
         → IsToldAs c s (Size count) }
-{
-    refusals_are_told();
-}
-
-/// A text that is read, that keeps the rules L1 to L5, whose main block unfolds into units,
-/// variables, events and nodes within their limits, and that breaks a rule of L6 to L9, is answered
-/// with the least such rule at its earliest place, or the call is stopped.
-pub fn broken_rules_of_units_are_told()
-    ensures { (c : Call) (s : Status) (job : Job) (texts : List (List ℕ)) (text : List ℕ)
+    ensures broken_rules_of_units_are_told { (c : Call) (s : Status) (job : Job) (texts : List (List ℕ)) (text : List ℕ)
         (m : Model) (root : RootedModel) (t : Unfolded) (r : ℕ) (p : Place) → Gave c s
         → ((name : List ℕ) → IsKnown (c.files name)) → IsJob c.words job
         → Loaded c.files (files_of job) (Ok texts) → IsText job texts text → Reads text m
         → Tables job.main m (Ok root) → Unfolds root (Ok t) → FitsLimits t (Ok t)
         → IsBroken unit_rules (unit_breaks t) r p
         → IsToldAs c s (Rule r p) }
-{
-    refusals_are_told();
-}
-
-/// A text that is read, that keeps the rules L1 to L9 within the limits of its units, and that
-/// breaks a rule of L10 to L13, is answered with the least such rule at its earliest place, or the
-/// call is stopped.
-pub fn broken_rules_of_names_are_told()
-    ensures { (c : Call) (s : Status) (job : Job) (texts : List (List ℕ)) (text : List ℕ)
+    ensures broken_rules_of_names_are_told { (c : Call) (s : Status) (job : Job) (texts : List (List ℕ)) (text : List ℕ)
         (m : Model) (root : RootedModel) (t : Unfolded) (r : ℕ) (p : Place) → Gave c s
         → ((name : List ℕ) → IsKnown (c.files name)) → IsJob c.words job
         → Loaded c.files (files_of job) (Ok texts) → IsText job texts text → Reads text m
         → Tables job.main m (Ok root) → Instantiates root (Ok t)
         → IsBroken name_rules (name_breaks t) r p
         → IsToldAs c s (Rule r p) }
-{
-    refusals_are_told();
-}
-
-/// A text that is read, that keeps the rules L1 to L13 within the limits of its units, and that has
-/// a synchronisation of an event from which that event is reached again, is answered with L14 at
-/// the earliest such one, or the call is stopped.
-pub fn broken_rules_of_ways_are_told()
-    ensures { (c : Call) (s : Status) (job : Job) (texts : List (List ℕ)) (text : List ℕ)
+    ensures broken_rules_of_ways_are_told { (c : Call) (s : Status) (job : Job) (texts : List (List ℕ)) (text : List ℕ)
         (m : Model) (root : RootedModel) (t : Unfolded) (d : Declarations) (p : Place) → Gave c s
         → ((name : List ℕ) → IsKnown (c.files name)) → IsJob c.words job
         → Loaded c.files (files_of job) (Ok texts) → IsText job texts text → Reads text m
@@ -121,32 +108,41 @@ pub fn broken_rules_of_ways_are_told()
     refusals_are_told();
 }
 
-/// A text that is read, that keeps the rules L1 to L5, and whose main block has a unit that is too
-/// deep, or more units than there may be, is answered with the limit that its units, in their
-/// order, pass first, or the call is stopped.
-pub fn passed_limits_of_units_are_told()
-    ensures { (c : Call) (s : Status) (job : Job) (texts : List (List ℕ)) (text : List ℕ)
+/// Causes in the size: each limit that is passed is told.
+///
+/// - `passed_limits_of_units_are_told`: A text that is read, that keeps the rules L1 to L5, and whose main
+///   block has a unit that is too deep, or more units than there may be, is answered with the limit that its
+///   units, in their order, pass first, or the call is stopped.
+/// - `passed_limit_of_variables`, `passed_limit_of_events`, `passed_limit_of_tree_nodes`: A text that is read,
+///   that keeps the rules L1 to L5, whose main block unfolds into units within their limits, and that has more
+///   variables, events or nodes than there may be, is answered with the first of these limits, in this order,
+///   that it passes, or the call is stopped.
+/// - `passed_limits_of_ways_are_told`: A text that is read, that keeps the rules L1 to L14 within the limits of
+///   its units, and whose system has an event with more ways than there may be, is answered with that limit, or
+///   the call is stopped.
+/// - `passed_limit_of_parts`, `passed_limit_of_expression_nodes`: A text that is read, that keeps the rules L1
+///   to L14 within the limits of its units, whose system has no event with too many ways, but more parts of
+///   ways, or more nodes of expressions, than there may be, is answered with the first of these limits, in this
+///   order, that it passes, or the call is stopped.
+/// - `passed_limits_of_gates_are_told`: A command about the gate table, over a text that means a system which
+///   has what the words ask for and which keeps the rules S1 to S8, S1 and S7 with the dropped events and the
+///   others without them, but whose table has more gates than there may be, is answered with that limit, or the
+///   call is stopped.
+pub fn passed_limits_are_told()
+    ensures passed_limits_of_units_are_told { (c : Call) (s : Status) (job : Job) (texts : List (List ℕ)) (text : List ℕ)
         (m : Model) (root : RootedModel) (units : List UnitPath) (count : Count) → Gave c s
         → ((name : List ℕ) → IsKnown (c.files name)) → IsJob c.words job
         → Loaded c.files (files_of job) (Ok texts) → IsText job texts text → Reads text m
         → Tables job.main m (Ok root) → AreFirstUnits root units → IsFirstOver count units
         → IsToldAs c s (Size count) }
-{
-    refusals_are_told();
-}
-
-/// A text that is read, that keeps the rules L1 to L5, whose main block unfolds into units within
-/// their limits, and that has more variables, events or nodes than there may be, is answered with
-/// the first of these limits, in this order, that it passes, or the call is stopped.
-pub fn passed_limits_of_things_are_told()
-    ensures variables { (c : Call) (s : Status) (job : Job) (texts : List (List ℕ)) (text : List ℕ)
+    ensures passed_limit_of_variables { (c : Call) (s : Status) (job : Job) (texts : List (List ℕ)) (text : List ℕ)
         (m : Model) (root : RootedModel) (t : Unfolded) → Gave c s
         → ((name : List ℕ) → IsKnown (c.files name)) → IsJob c.words job
         → Loaded c.files (files_of job) (Ok texts) → IsText job texts text → Reads text m
         → Tables job.main m (Ok root) → Unfolds root (Ok t)
         → limit_of count.Variables < variables_counted t
         → IsToldAs c s (Size count.Variables) }
-    ensures events { (c : Call) (s : Status) (job : Job) (texts : List (List ℕ)) (text : List ℕ)
+    ensures passed_limit_of_events { (c : Call) (s : Status) (job : Job) (texts : List (List ℕ)) (text : List ℕ)
         (m : Model) (root : RootedModel) (t : Unfolded) → Gave c s
         → ((name : List ℕ) → IsKnown (c.files name)) → IsJob c.words job
         → Loaded c.files (files_of job) (Ok texts) → IsText job texts text → Reads text m
@@ -154,7 +150,7 @@ pub fn passed_limits_of_things_are_told()
         → variables_counted t ≤ limit_of count.Variables
         → limit_of count.Events < events_counted t
         → IsToldAs c s (Size count.Events) }
-    ensures nodes { (c : Call) (s : Status) (job : Job) (texts : List (List ℕ)) (text : List ℕ)
+    ensures passed_limit_of_tree_nodes { (c : Call) (s : Status) (job : Job) (texts : List (List ℕ)) (text : List ℕ)
         (m : Model) (root : RootedModel) (t : Unfolded) → Gave c s
         → ((name : List ℕ) → IsKnown (c.files name)) → IsJob c.words job
         → Loaded c.files (files_of job) (Ok texts) → IsText job texts text → Reads text m
@@ -163,15 +159,7 @@ pub fn passed_limits_of_things_are_told()
         → events_counted t ≤ limit_of count.Events
         → limit_of count.TreeNodes < unfolded_nodes t
         → IsToldAs c s (Size count.TreeNodes) }
-{
-    refusals_are_told();
-}
-
-/// A text that is read, that keeps the rules L1 to L14 within the limits of its units, and whose
-/// system has an event with more ways than there may be, is answered with that limit, or the call
-/// is stopped.
-pub fn passed_limits_of_ways_are_told()
-    ensures { (c : Call) (s : Status) (job : Job) (texts : List (List ℕ)) (text : List ℕ)
+    ensures passed_limits_of_ways_are_told { (c : Call) (s : Status) (job : Job) (texts : List (List ℕ)) (text : List ℕ)
         (m : Model) (root : RootedModel) (t : Unfolded) (d : Declarations) (x : Elaborated)
         → Gave c s → ((name : List ℕ) → IsKnown (c.files name)) → IsJob c.words job
         → Loaded c.files (files_of job) (Ok texts) → IsText job texts text → Reads text m
@@ -179,16 +167,7 @@ pub fn passed_limits_of_ways_are_told()
         → AreKept way_rules (BreaksWayRule d) → HasSystem d (Ok x)
         → limit_of count.Ways < most_ways_counted x
         → IsToldAs c s (Size count.Ways) }
-{
-    refusals_are_told();
-}
-
-/// A text that is read, that keeps the rules L1 to L14 within the limits of its units, whose system
-/// has no event with too many ways, but more parts of ways, or more nodes of expressions, than
-/// there may be, is answered with the first of these limits, in this order, that it passes, or the
-/// call is stopped.
-pub fn passed_limits_of_systems_are_told()
-    ensures parts { (c : Call) (s : Status) (job : Job) (texts : List (List ℕ)) (text : List ℕ)
+    ensures passed_limit_of_parts { (c : Call) (s : Status) (job : Job) (texts : List (List ℕ)) (text : List ℕ)
         (m : Model) (root : RootedModel) (t : Unfolded) (d : Declarations) (x : Elaborated)
         → Gave c s → ((name : List ℕ) → IsKnown (c.files name)) → IsJob c.words job
         → Loaded c.files (files_of job) (Ok texts) → IsText job texts text → Reads text m
@@ -197,7 +176,7 @@ pub fn passed_limits_of_systems_are_told()
         → most_ways_counted x ≤ limit_of count.Ways
         → limit_of count.WayParts < way_parts_counted x
         → IsToldAs c s (Size count.WayParts) }
-    ensures nodes { (c : Call) (s : Status) (job : Job) (texts : List (List ℕ)) (text : List ℕ)
+    ensures passed_limit_of_expression_nodes { (c : Call) (s : Status) (job : Job) (texts : List (List ℕ)) (text : List ℕ)
         (m : Model) (root : RootedModel) (t : Unfolded) (d : Declarations) (x : Elaborated)
         → Gave c s → ((name : List ℕ) → IsKnown (c.files name)) → IsJob c.words job
         → Loaded c.files (files_of job) (Ok texts) → IsText job texts text → Reads text m
@@ -207,63 +186,69 @@ pub fn passed_limits_of_systems_are_told()
         → way_parts_counted x ≤ limit_of count.WayParts
         → limit_of count.ExpressionNodes < nodes_counted x
         → IsToldAs c s (Size count.ExpressionNodes) }
+    ensures passed_limits_of_gates_are_told { (c : Call) (s : Status) (job : Job) (texts : List (List ℕ)) (text : List ℕ)
+        (x : Elaborated) (w : Ready) (wanted : Wanted) (table : Table) → Gave c s
+        → ((name : List ℕ) → IsKnown (c.files name)) → IsJob c.words job
+        → Loaded c.files (files_of job) (Ok texts) → IsText job texts text
+        → Elaborates job.main text (Ok x) → Asks job texts x (Ok w)
+        → has_table job.command ≡ true → KeepsAll x.system w.dropped → w.wanted ≡ Some wanted
+        → IsTableOf x w.dropped wanted table → limit_of count.Gates < length table.gates
+        → IsToldAs c s (Size count.Gates) }
 {
     refusals_are_told();
 }
 
-/// Words over a text that means a system, which ask it, by themselves, by their script or by their
-/// list, for what it has not, are answered with that refusal, or the call is stopped.
-pub fn refused_requests_are_told()
-    ensures { (c : Call) (s : Status) (job : Job) (texts : List (List ℕ)) (text : List ℕ)
+/// Causes in what is asked for: each wrong line, name and value, and a system outside the static fragment, is told.
+///
+/// - `refused_requests_are_told`: Words over a text that means a system, which ask it, by themselves, by their
+///   script or by their list, for what it has not, are answered with that refusal, or the call is stopped.
+/// - `bad_lines_of_scripts_are_told`: Words with a script over a text that means a system, where a line of the
+///   script is no command, needs a way or names no event, are answered with the number of the first such line,
+///   counted from 1, and with what is wrong with it, or the call is stopped.
+/// - `bad_line_of_cuts`, `too_many_lines_of_cuts`: Words with a list of cuts over a text that means a system,
+///   where a line of the list is no cut, needs a way or names no event, are answered with the number of the
+///   first such line, counted from 1, and with what is wrong with it. Where no line is bad, but there are more
+///   cuts than there may be, they are answered with that limit. Both hold unless the call is stopped.
+/// - `unknown_dropped_events_are_told`: Words over a text that means a system, and over a list of cuts, if they
+///   have one, that is passed, where a part of the list of dropped events names no event, are answered with
+///   that, or the call is stopped.
+/// - `unknown_observer_asked`, `unknown_observer_shown`: Words over a text that means a system, where the path
+///   of the observer names none, are answered with that, or the call is stopped: where they ask for a value,
+///   and the list of cuts and the dropped events are passed, and where they explain, and the script is passed.
+/// - `unknown_values_are_told`: Words over a text that means a system, which ask for a value of an observer,
+///   where the list of cuts and the dropped events are passed and the path names an observer, but the word
+///   writes no value of its type, or is missing where the type is not Boolean, are answered with that, or the
+///   call is stopped.
+/// - `systems_outside_are_told`: A command for the static fragment, over a text that means a system which has
+///   what the words ask for, but which breaks a rule of S1 to S8, S1 and S7 with the dropped events and the
+///   others without them, is answered with the least such rule and the path of the first thing that shows it,
+///   or the call is stopped.
+pub fn wrong_requests_are_told()
+    ensures refused_requests_are_told { (c : Call) (s : Status) (job : Job) (texts : List (List ℕ)) (text : List ℕ)
         (x : Elaborated) (r : Refusal) → Gave c s
         → ((name : List ℕ) → IsKnown (c.files name)) → IsJob c.words job
         → Loaded c.files (files_of job) (Ok texts) → IsText job texts text
         → Elaborates job.main text (Ok x) → Asks job texts x (Err r)
         → IsToldAs c s r }
-{
-    refusals_are_told();
-}
-
-/// Words with a script over a text that means a system, where a line of the script is no command,
-/// needs a way or names no event, are answered with the number of the first such line, counted from
-/// 1, and with what is wrong with it, or the call is stopped.
-pub fn bad_lines_of_scripts_are_told()
-    ensures { (c : Call) (s : Status) (job : Job) (text script : List ℕ) (x : Elaborated) (n : ℕ)
+    ensures bad_lines_of_scripts_are_told { (c : Call) (s : Status) (job : Job) (text script : List ℕ) (x : Elaborated) (n : ℕ)
         (why : Why) → Gave c s → ((name : List ℕ) → IsKnown (c.files name))
         → IsJob c.words job → Loaded c.files (files_of job) (Ok (text ∷ script ∷ []))
         → is_script (shape_of job.command).files ≡ true → Elaborates job.main text (Ok x)
         → IsFirstBad x (lines_of script) n why
         → IsToldAs c s (line_refused why (n + 1)) }
-{
-    refusals_are_told();
-}
-
-/// Words with a list of cuts over a text that means a system, where a line of the list is no cut,
-/// needs a way or names no event, are answered with the number of the first such line, counted from
-/// 1, and with what is wrong with it. Where no line is bad, but there are more cuts than there may
-/// be, they are answered with that limit. Both hold unless the call is stopped.
-pub fn bad_lists_of_cuts_are_told()
-    ensures line { (c : Call) (s : Status) (job : Job) (text list : List ℕ) (x : Elaborated) (n : ℕ)
+    ensures bad_line_of_cuts { (c : Call) (s : Status) (job : Job) (text list : List ℕ) (x : Elaborated) (n : ℕ)
         (why : Why) → Gave c s → ((name : List ℕ) → IsKnown (c.files name))
         → IsJob c.words job → Loaded c.files (files_of job) (Ok (text ∷ list ∷ []))
         → is_list (shape_of job.command).files ≡ true → Elaborates job.main text (Ok x)
         → IsFirstBadCut x (lines_of list) n why
         → IsToldAs c s (cut_refused why (n + 1)) }
-    ensures many { (c : Call) (s : Status) (job : Job) (text list : List ℕ) (x : Elaborated)
+    ensures too_many_lines_of_cuts { (c : Call) (s : Status) (job : Job) (text list : List ℕ) (x : Elaborated)
         (cuts : List CutLine) → Gave c s → ((name : List ℕ) → IsKnown (c.files name))
         → IsJob c.words job → Loaded c.files (files_of job) (Ok (text ∷ list ∷ []))
         → is_list (shape_of job.command).files ≡ true → Elaborates job.main text (Ok x)
         → ListsCutLines x 1 (lines_of list) cuts → limit_of count.CutLines < length cuts
         → IsToldAs c s (Size count.CutLines) }
-{
-    refusals_are_told();
-}
-
-/// Words over a text that means a system, and over a list of cuts, if they have one, that is
-/// passed, where a part of the list of dropped events names no event, are answered with that, or
-/// the call is stopped.
-pub fn unknown_dropped_events_are_told()
-    ensures { (c : Call) (s : Status) (job : Job) (texts : List (List ℕ)) (text dropped : List ℕ)
+    ensures unknown_dropped_events_are_told { (c : Call) (s : Status) (job : Job) (texts : List (List ℕ)) (text dropped : List ℕ)
         (x : Elaborated) (w : Ready) → Gave c s
         → ((name : List ℕ) → IsKnown (c.files name)) → IsJob c.words job
         → Loaded c.files (files_of job) (Ok texts) → IsText job texts text
@@ -271,15 +256,7 @@ pub fn unknown_dropped_events_are_told()
         → Where (is_list (shape_of job.command).files) (ListsCuts texts) (bare x) (Ok w)
         → job.dropped ≡ Some dropped → HasUnknown x dropped
         → IsToldAs c s NoDropped }
-{
-    refusals_are_told();
-}
-
-/// Words over a text that means a system, where the path of the observer names none, are answered
-/// with that, or the call is stopped: where they ask for a value, and the list of cuts and the
-/// dropped events are passed, and where they explain, and the script is passed.
-pub fn unknown_observers_are_told()
-    ensures asked { (c : Call) (s : Status) (job : Job) (texts : List (List ℕ)) (text path : List ℕ)
+    ensures unknown_observer_asked { (c : Call) (s : Status) (job : Job) (texts : List (List ℕ)) (text path : List ℕ)
         (x : Elaborated) (w v : Ready) → Gave c s
         → ((name : List ℕ) → IsKnown (c.files name)) → IsJob c.words job
         → Loaded c.files (files_of job) (Ok texts) → IsText job texts text
@@ -288,7 +265,7 @@ pub fn unknown_observers_are_told()
         → Drops job.dropped w (Ok v) → has_table job.command ≡ true
         → observer_asked job ≡ Some path → NamesNone x path
         → IsToldAs c s NoObserver }
-    ensures shown { (c : Call) (s : Status) (job : Job) (text script path : List ℕ)
+    ensures unknown_observer_shown { (c : Call) (s : Status) (job : Job) (text script path : List ℕ)
         (x : Elaborated) (commands : List Command) → Gave c s
         → ((name : List ℕ) → IsKnown (c.files name)) → IsJob c.words job
         → Loaded c.files (files_of job) (Ok (text ∷ script ∷ []))
@@ -296,16 +273,7 @@ pub fn unknown_observers_are_told()
         → GivesCommands x (lines_of script) commands → job.observer ≡ Some path
         → NamesNone x path
         → IsToldAs c s NoObserver }
-{
-    refusals_are_told();
-}
-
-/// Words over a text that means a system, which ask for a value of an observer, where the list of
-/// cuts and the dropped events are passed and the path names an observer, but the word writes no
-/// value of its type, or is missing where the type is not Boolean, are answered with that, or the
-/// call is stopped.
-pub fn unknown_values_are_told()
-    ensures { (c : Call) (s : Status) (job : Job) (texts : List (List ℕ)) (text path : List ℕ)
+    ensures unknown_values_are_told { (c : Call) (s : Status) (job : Job) (texts : List (List ℕ)) (text path : List ℕ)
         (x : Elaborated) (w v : Ready) → Gave c s
         → ((name : List ℕ) → IsKnown (c.files name)) → IsJob c.words job
         → Loaded c.files (files_of job) (Ok texts) → IsText job texts text
@@ -314,39 +282,13 @@ pub fn unknown_values_are_told()
         → Drops job.dropped w (Ok v) → has_table job.command ≡ true
         → observer_asked job ≡ Some path → WantsNone x path job.value
         → IsToldAs c s NoValue }
-{
-    refusals_are_told();
-}
-
-/// A command for the static fragment, over a text that means a system which has what the words ask
-/// for, but which breaks a rule of S1 to S8, S1 and S7 with the dropped events and the others
-/// without them, is answered with the least such rule and the path of the first thing that shows
-/// it, or the call is stopped.
-pub fn systems_outside_are_told()
-    ensures { (c : Call) (s : Status) (job : Job) (texts : List (List ℕ)) (text : List ℕ)
+    ensures systems_outside_are_told { (c : Call) (s : Status) (job : Job) (texts : List (List ℕ)) (text : List ℕ)
         (x : Elaborated) (w : Ready) (rule : StaticRule) (spot : Spot) → Gave c s
         → ((name : List ℕ) → IsKnown (c.files name)) → IsJob c.words job
         → Loaded c.files (files_of job) (Ok texts) → IsText job texts text
         → Elaborates job.main text (Ok x) → Asks job texts x (Ok w)
         → is_static job.command ≡ true → IsFirstBroken x.system w.dropped rule spot
         → IsToldAs c s (Outside (rule_number rule) (spot_path x spot)) }
-{
-    refusals_are_told();
-}
-
-/// A command about the gate table, over a text that means a system which has what the words ask for
-/// and which keeps the rules S1 to S8, S1 and S7 with the dropped events and the others without
-/// them, but whose table has more gates than there may be, is answered with that limit, or the call
-/// is stopped.
-pub fn passed_limits_of_gates_are_told()
-    ensures { (c : Call) (s : Status) (job : Job) (texts : List (List ℕ)) (text : List ℕ)
-        (x : Elaborated) (w : Ready) (wanted : Wanted) (table : Table) → Gave c s
-        → ((name : List ℕ) → IsKnown (c.files name)) → IsJob c.words job
-        → Loaded c.files (files_of job) (Ok texts) → IsText job texts text
-        → Elaborates job.main text (Ok x) → Asks job texts x (Ok w)
-        → has_table job.command ≡ true → KeepsAll x.system w.dropped → w.wanted ≡ Some wanted
-        → IsTableOf x w.dropped wanted table → limit_of count.Gates < length table.gates
-        → IsToldAs c s (Size count.Gates) }
 {
     refusals_are_told();
 }

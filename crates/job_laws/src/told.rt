@@ -66,10 +66,19 @@ pub fn jobs_are_told()
     texts_have_one_answer();
 }
 
-/// So each command that neither runs a script nor tells of cuts is answered with its text, or is
-/// stopped: `check` with how much is declared, `flat` with the flat system, `fragment` with the
-/// trees of modes, and `equations` with the gate table.
-pub fn commands_are_told()
+/// What the commands write for a source is told.
+///
+/// - `check`, `flat`, `fragment`, `equations`: So each command that neither runs a script nor tells of cuts is
+///   answered with its text, or is stopped: `check` with how much is declared, `flat` with the flat system,
+///   `fragment` with the trees of modes, and `equations` with the gate table.
+/// - `replay`, `explain`: And so each command that runs a script: `replay` is answered with the trace of the
+///   run, and ends as the run does, and `explain` with why the flows have their values where the run settles,
+///   or with the fault in which it ends, unless it is stopped.
+/// - `too_many_cuts_are_told`: A job that tells of cuts, over files of which something is told, which passes
+///   all stages, and in which an observer's value is asked for and no set of events meets a conflict: where the
+///   family of the cuts itself has more counted sections than the job's limit of nodes, it is answered with the
+///   line `nodes: N` and with Nodes, or is stopped.
+pub fn texts_are_told()
     ensures check { (c : Call) (s : Status) (job : Job) (w : Ready) → Gave c s
         → ((name : List ℕ) → IsKnown (c.files name)) → IsJob c.words job → job.command ≡ Check
         → Passes c.files job (Ok w)
@@ -90,14 +99,6 @@ pub fn commands_are_told()
         (variables w.source.declarations.model w.source.declarations.units)
         (naming_of w.source.declarations) w.source.system w.dropped wanted.observer wanted.value
         text) ⊎ IsStopped c s }
-{
-    jobs_are_told();
-}
-
-/// And so each command that runs a script: `replay` is answered with the trace of the run, and ends
-/// as the run does, and `explain` with why the flows have their values where the run settles, or
-/// with the fault in which it ends, unless it is stopped.
-pub fn runs_are_told()
     ensures replay { (c : Call) (s : Status) (job : Job) (w : Ready) → Gave c s
         → ((name : List ℕ) → IsKnown (c.files name)) → IsJob c.words job → job.command ≡ Replay
         → Passes c.files job (Ok w)
@@ -109,30 +110,33 @@ pub fn runs_are_told()
         → (IsToldWith c s status.Done (IsExplained w)
         ⊎ IsToldWith c s status.Fault (IsFaultLine (naming_of w.source.declarations)
         w.source.system w.commands)) ⊎ IsStopped c s }
+    ensures too_many_cuts_are_told { (c : Call) (s : Status) (job : Job) (w : Ready) → Gave c s
+        → ((name : List ℕ) → IsKnown (c.files name)) → IsJob c.words job
+        → lists_cuts job.command ≡ true → Passes c.files job (Ok w) → (has : HasCuts w)
+        (sets : List (List ℕ))
+        → AreListed (Cut w.source.system w.dropped has.observed has.wanted.value) sets
+        → IsMoreThan job.nodes (IsCounted sets)
+        → ((s ≡ status.Nodes) × Wrote c (nodes_line job.nodes)) ⊎ IsStopped c s }
 {
     jobs_are_told();
 }
 
-/// A job that tells of cuts, over files of which something is told, which passes all stages, and
-/// for which no more nodes than its limit may be needed: where some set of events meets a conflict,
-/// it is answered with the line of the conflict and with Fault, or is stopped.
-pub fn conflicts_are_told()
-    ensures { (c : Call) (s : Status) (job : Job) (w : Ready) → Gave c s
+/// What the commands write of conflicts and cuts is told.
+///
+/// - `conflicts_are_told`: A job that tells of cuts, over files of which something is told, which passes all
+///   stages, and for which no more nodes than its limit may be needed: where some set of events meets a
+///   conflict, it is answered with the line of the conflict and with Fault, or is stopped.
+/// - `cuts_are_told`: The same job, where no set of events meets a conflict, is answered with the whole text
+///   that its command writes of the cuts, and with Done, or is stopped: with the whole listing, with the cuts
+///   of the model that is made counted, with what is to be said of the list, or with the modules.
+pub fn cuts_are_told()
+    ensures conflicts_are_told { (c : Call) (s : Status) (job : Job) (w : Ready) → Gave c s
         → ((name : List ℕ) → IsKnown (c.files name)) → IsJob c.words job
         → lists_cuts job.command ≡ true → Passes c.files job (Ok w) → HasConflict w
         → (MayNeedMore w job.nodes → ⊥)
         → IsToldWith c s status.Fault (λ text. IsConflictText (naming_of w.source.declarations)
         w.source.system w.dropped text) ⊎ IsStopped c s }
-{
-    jobs_are_told();
-    enough_nodes_suffice();
-}
-
-/// The same job, where no set of events meets a conflict, is answered with the whole text that its
-/// command writes of the cuts, and with Done, or is stopped: with the whole listing, with the cuts
-/// of the model that is made counted, with what is to be said of the list, or with the modules.
-pub fn cuts_are_told()
-    ensures { (c : Call) (s : Status) (job : Job) (w : Ready) → Gave c s
+    ensures cuts_are_told { (c : Call) (s : Status) (job : Job) (w : Ready) → Gave c s
         → ((name : List ℕ) → IsKnown (c.files name)) → IsJob c.words job
         → lists_cuts job.command ≡ true → Passes c.files job (Ok w)
         → IsConflictFree w.source.system w.dropped → (MayNeedMore w job.nodes → ⊥)
@@ -154,20 +158,4 @@ pub fn nodes_are_told()
     one_job();
     one_passing();
     texts_agree();
-}
-
-/// A job that tells of cuts, over files of which something is told, which passes all stages, and in
-/// which an observer's value is asked for and no set of events meets a conflict: where the family
-/// of the cuts itself has more counted sections than the job's limit of nodes, it is answered with
-/// the line `nodes: N` and with Nodes, or is stopped.
-pub fn too_many_cuts_are_told()
-    ensures { (c : Call) (s : Status) (job : Job) (w : Ready) → Gave c s
-        → ((name : List ℕ) → IsKnown (c.files name)) → IsJob c.words job
-        → lists_cuts job.command ≡ true → Passes c.files job (Ok w) → (has : HasCuts w)
-        (sets : List (List ℕ))
-        → AreListed (Cut w.source.system w.dropped has.observed has.wanted.value) sets
-        → IsMoreThan job.nodes (IsCounted sets)
-        → ((s ≡ status.Nodes) × Wrote c (nodes_line job.nodes)) ⊎ IsStopped c s }
-{
-    jobs_are_told();
 }

@@ -68,35 +68,28 @@ pub fn one_system()
         → (cs : List Command) (ms : List Moment) → (Runs x cs ms ↔ Runs y cs ms) }
 {}
 
-/// Where each path in an expression became what it stands for and nothing in it has a wrong kind,
-/// what it became is what it means, with numbers for variables.
-pub fn bound_expressions()
-    ensures { (m : RootedModel) (units : List UnitPath) (u : UnitPath) (leaves : Path
+/// Laws of bound forms, which have numbers for variables.
+///
+/// - `bound_expressions`: Where each path in an expression became what it stands for and nothing in it has a
+///   wrong kind, what it became is what it means, with numbers for variables.
+/// - `bound_instructions`: Where each path in an instruction became what it stands for, its targets are
+///   variables, and nothing in it has a wrong kind, what it became has its assignments, with numbers for
+///   variables, in the same order and at the same places.
+/// - `bound_flows`: Bound forms have, at each state, the flows or the fault of the declarations that they are
+///   those of.
+/// - `sound_instructions`: Each assignment of a sound instruction sets a state variable, or a flow, as the
+///   instruction does.
+pub fn bound_forms()
+    ensures bound_expressions { (m : RootedModel) (units : List UnitPath) (u : UnitPath) (leaves : Path
         → Leaf) (e : RawExpr) (f : Expr VarId)
         → ((p : Path) → PathIn p (level_of e) → IsLeafFor m units u p (leaves p))
         → ((at : Place) → IsMistyped (HasKindAt m u) AnyKind e at → ⊥) → BecomesBy leaves e f
         → IsBoundExpression m units u e f }
-{}
-
-/// Where each path in an instruction became what it stands for, its targets are variables, and
-/// nothing in it has a wrong kind, what it became has its assignments, with numbers for variables,
-/// in the same order and at the same places.
-pub fn bound_instructions()
-    ensures { (m : RootedModel) (units : List UnitPath) (u : UnitPath) (leaves : Path → Leaf)
+    ensures bound_instructions { (m : RootedModel) (units : List UnitPath) (u : UnitPath) (leaves : Path → Leaf)
         (i : InstrForm) (a : Act) → AreLeaves m units u leaves i → ActsAs leaves i a
         → IsBoundInstruction m units u i a }
-{}
-
-/// Bound forms have, at each state, the flows or the fault of the declarations that they are those
-/// of.
-pub fn bound_flows()
-    ensures { (d : Declarations) (b : BoundForms) → IsBoundFrom d b → (t : List Value) (o : Outcome)
+    ensures bound_flows { (d : Declarations) (b : BoundForms) → IsBoundFrom d b → (t : List Value) (o : Outcome)
         → (Flows d.net t o ↔ Flows (net_of_bound b) t o) }
-{}
-
-/// Each assignment of a sound instruction sets a state variable, or a flow, as the instruction
-/// does.
-pub fn sound_instructions()
-    ensures { (p : GtsParts) (to_state : Bool) (a : Act) (q : Assign ℕ)
+    ensures sound_instructions { (p : GtsParts) (to_state : Bool) (a : Act) (q : Assign ℕ)
         → IsSoundAct p to_state (out-Act a) → IsOneOf (assigns_of_act a) q → SetsSort p to_state q }
 {}

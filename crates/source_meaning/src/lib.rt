@@ -8,11 +8,5 @@ mod laws;
 mod rows;
 
 pub use bound::Bound;
-pub use laws::{
-    bound_expressions, bound_flows, bound_instructions, numbers_are_values, one_meaning,
-    one_system, sound_instructions,
-};
-pub use rows::{
-    members_hide_symbols, one_refusal, ties_carry_both_ways, ties_in_actions_break_targets,
-    unknown_targets_break_naming,
-};
+pub use laws::{bound_forms, numbers_are_values, one_meaning, one_system};
+pub use rows::{one_refusal, worked_rows};

@@ -21,31 +21,26 @@ ghost use Rattle.source_meaning.specs.Tested.{InAction};
 ghost use Rattle.source_meaning.specs.Rules.{BreaksNameRule};
 ghost use Rattle.source_meaning.specs.Systems.{Declarations, Binds};
 
-/// An assertion `x := ..` in a unit that has no `x` breaks L10 at its target.
-pub fn unknown_targets_break_naming()
-    ensures { (m : RootedModel) (units : List UnitPath) (u : UnitPath) (whole : Instr) (p : Path)
+/// Worked rows of the rules of names and kinds.
+///
+/// - `unknown_targets_break_naming`: An assertion `x := ..` in a unit that has no `x` breaks L10 at its target.
+/// - `ties_in_actions_break_targets`: A `:=:` in an action breaks L13 at its left path, whatever its paths
+///   name.
+/// - `members_hide_symbols`: A member of a unit, of whatever kind, hides the symbol of its name.
+/// - `ties_carry_both_ways`: A `:=:` carries values both ways: it stands for two assignments, that to the left
+///   path first.
+pub fn worked_rows()
+    ensures unknown_targets_break_naming { (m : RootedModel) (units : List UnitPath) (u : UnitPath) (whole : Instr) (p : Path)
         (e : RawExpr) (x : ℕ)
         → IsOneOf units u → IsOneOf (forms_at m u) (Assert whole) → out-Instr whole ≡ Assign p e
         → p.start ≡ Here
         → numbers p.names.items ≡ x ∷ [] → kind_at m u x ≡ None → BreaksNameRule m units 10 p.at }
-{}
-
-/// A `:=:` in an action breaks L13 at its left path, whatever its paths name.
-pub fn ties_in_actions_break_targets()
-    ensures { (m : RootedModel) (units : List UnitPath) (u : UnitPath) (p q : Path)
+    ensures ties_in_actions_break_targets { (m : RootedModel) (units : List UnitPath) (u : UnitPath) (p q : Path)
         → IsOneOf units u
         → InAction m u (Tie p q) → BreaksNameRule m units 13 p.at }
-{}
-
-/// A member of a unit, of whatever kind, hides the symbol of its name.
-pub fn members_hide_symbols()
-    ensures { (m : RootedModel) (u : UnitPath) (p : Path) (x k : ℕ) (kind : MemberKind)
+    ensures members_hide_symbols { (m : RootedModel) (u : UnitPath) (p : Path) (x k : ℕ) (kind : MemberKind)
         → numbers p.names.items ≡ x ∷ [] → kind_at m u x ≡ Some kind → IsSymbol m u p k → ⊥ }
-{}
-
-/// A `:=:` carries values both ways: it stands for two assignments, that to the left path first.
-pub fn ties_carry_both_ways()
-    ensures { (m : RootedModel) (u : UnitPath) (when : Conditions) (p q : Path) (ps : List Placed)
+    ensures ties_carry_both_ways { (m : RootedModel) (u : UnitPath) (when : Conditions) (p q : Path) (ps : List Placed)
         → Sets m u when (Tie p q) ps → AreTied m u when p q ps }
 {}
 

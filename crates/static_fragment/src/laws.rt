@@ -19,66 +19,61 @@ ghost use Rattle.mode_search.specs.declared.searches.Wide.{Wide};
 ghost use Rattle.static_fragment.specs.Units.{AreUnits, IsMovingState};
 ghost use Rattle.static_fragment.specs.UnitShown.{IsFirstShown, spot_of};
 
-/// The events with a synchronised way are those of which one of the ways has parts, and where there is
-/// none the first rule is kept. The least of them is the first that it is shown with.
-pub fn joint_events()
-    ensures breaks { (p : GtsParts) (system : System ℕ) → Views p system → (n : ℕ)
+/// Laws of the events, units, modes and values of which a rule is broken.
+///
+/// - `joint_breaks`, `joint_keeps`, `joint_first`: The events with a synchronised way are those of which one of
+///   the ways has parts, and where there is none the first rule is kept. The least of them is the first that it
+///   is shown with.
+/// - `units_with_transitions`: The units with transitions are those of which an event that is not marked has a
+///   way.
+/// - `stateless_breaks`, `stateless_keeps`, `stateless_first`: The units with transitions and no state variable
+///   are those that move and have no first one, and where there is none the second rule is kept. The least of
+///   them is the first that it is shown with.
+/// - `mode_variables`, `first_modes`: The mode variables are the state variables of the units that move, and
+///   each begins with its value.
+/// - `wide_flows`, `wide_flows_back`, `wide_observers`, `wide_keeps`, `wide_first`: The flows and observers
+///   with too many possible values are those that break the seventh rule, and where there is none it is kept.
+///   What the search finds is the first that it is shown with.
+pub fn event_laws()
+    ensures joint_breaks { (p : GtsParts) (system : System ℕ) → Views p system → (n : ℕ)
         → (IsJointAt p n ↔ BreaksS1 system n) }
-    ensures keeps { (p : GtsParts) (system : System ℕ) → Views p system
+    ensures joint_keeps { (p : GtsParts) (system : System ℕ) → Views p system
         → ((n : ℕ) → IsJointAt p n → ⊥) → KeepsS1 system }
-    ensures first { (p : GtsParts) (system : System ℕ) (dropped : List ℕ) → Views p system → (n : ℕ)
+    ensures joint_first { (p : GtsParts) (system : System ℕ) (dropped : List ℕ) → Views p system → (n : ℕ)
         → IsLeast (IsJointAt p) (Some n) → IsFirstShown system dropped S1 (AtEvent n) }
-{}
-
-/// The units with transitions are those of which an event that is not marked has a way.
-pub fn units_with_transitions()
-    ensures { (p : GtsParts) (system : System ℕ) (dropped : List ℕ) (marks : List Bool)
+    ensures units_with_transitions { (p : GtsParts) (system : System ℕ) (dropped : List ℕ) (marks : List Bool)
         → Views p system → AreMarks (length p.events.items) dropped marks → (unit : ℕ)
         → (HasTransitions system dropped unit ↔ Moves p marks (length p.events.items) unit) }
-{}
-
-/// The units with transitions and no state variable are those that move and have no first one, and where
-/// there is none the second rule is kept. The least of them is the first that it is shown with.
-pub fn stateless_units()
-    ensures breaks { (p : GtsParts) (system : System ℕ) (dropped : List ℕ)
+    ensures stateless_breaks { (p : GtsParts) (system : System ℕ) (dropped : List ℕ)
         (marks moving : List Bool) (firsts : List (Option VarId)) → Views p system → IsSound p
         → AreUnits p dropped marks moving firsts → (unit : ℕ)
         → (IsStateless moving firsts unit ↔ BreaksS2 system dropped unit) }
-    ensures keeps { (p : GtsParts) (system : System ℕ) (dropped : List ℕ)
+    ensures stateless_keeps { (p : GtsParts) (system : System ℕ) (dropped : List ℕ)
         (marks moving : List Bool) (firsts : List (Option VarId)) → Views p system → IsSound p
         → AreUnits p dropped marks moving firsts
         → ((unit : ℕ) → IsStateless moving firsts unit → ⊥) → KeepsS2 system dropped }
-    ensures first { (p : GtsParts) (system : System ℕ) (dropped : List ℕ)
+    ensures stateless_first { (p : GtsParts) (system : System ℕ) (dropped : List ℕ)
         (marks moving : List Bool) (firsts : List (Option VarId)) → Views p system → IsSound p
         → AreUnits p dropped marks moving firsts → (unit : ℕ)
         → IsLeast (IsStateless moving firsts) (Some unit)
         → IsFirstShown system dropped S2 (AtUnit unit) }
-{}
-
-/// The mode variables are the state variables of the units that move, and each begins with its value.
-pub fn mode_variables()
-    ensures modes { (p : GtsParts) (system : System ℕ) (dropped : List ℕ)
+    ensures mode_variables { (p : GtsParts) (system : System ℕ) (dropped : List ℕ)
         (marks moving : List Bool) → Views p system → IsSound p
         → AreMarks (length p.events.items) dropped marks
         → AreMoving p marks (length p.events.items) moving → (n : ℕ)
         → (IsMovingState p moving n ↔ IsModeVariable system dropped n) }
-    ensures values { (p : GtsParts) (system : System ℕ) (dropped : List ℕ) → Views p system
+    ensures first_modes { (p : GtsParts) (system : System ℕ) (dropped : List ℕ) → Views p system
         → (n : ℕ) (m : IsModeVariable system dropped n) (x : Variable)
         → Stands p.variables.items n x → m.variable.value ≡ x.value }
-{}
-
-/// The flows and observers with too many possible values are those that break the seventh rule, and where
-/// there is none it is kept. What the search finds is the first that it is shown with.
-pub fn too_many_values()
-    ensures flows { (p : GtsParts) (system : System ℕ) → Views p system → IsSound p
+    ensures wide_flows { (p : GtsParts) (system : System ℕ) → Views p system → IsSound p
         → (count n : ℕ) → IsWideFlow p count n → BreaksS7 system n }
-    ensures flows_back { (p : GtsParts) (system : System ℕ) → Views p system → (n : ℕ)
+    ensures wide_flows_back { (p : GtsParts) (system : System ℕ) → Views p system → (n : ℕ)
         → BreaksS7 system n → (count : ℕ) × IsWideFlow p count n }
-    ensures observers { (p : GtsParts) (system : System ℕ) → Views p system → (n : ℕ)
+    ensures wide_observers { (p : GtsParts) (system : System ℕ) → Views p system → (n : ℕ)
         → (IsWideObserver p n ↔ ObserverBreaksS7 system n) }
-    ensures keeps { (p : GtsParts) (system : System ℕ) → Views p system → IsFirstWide p None
+    ensures wide_keeps { (p : GtsParts) (system : System ℕ) → Views p system → IsFirstWide p None
         → KeepsS7 system }
-    ensures first { (p : GtsParts) (system : System ℕ) (dropped : List ℕ) → Views p system
+    ensures wide_first { (p : GtsParts) (system : System ℕ) (dropped : List ℕ) → Views p system
         → IsSound p → (found : Wide) → IsFirstWide p (Some found)
         → IsFirstShown system dropped S7 (spot_of found) }
 {}

@@ -14,11 +14,9 @@ mod stages;
 mod trees;
 
 pub use faults::{FragmentFault, Spot};
-pub use kept::{guards_judged, kept_ways_found};
-pub use laws::{
-    joint_events, mode_variables, stateless_units, too_many_values, units_with_transitions,
-};
+pub use kept::kept_laws;
+pub use laws::event_laws;
 pub use mode_trees::{Edge, Forest, ModeTree};
-pub use reaching::{actions_judged, edges_live};
+pub use reaching::edge_laws;
 pub use recognising::recognise;
-pub use sharing::{entering_judged, events_counted, sharing_judged};
+pub use sharing::edge_sharing_laws;

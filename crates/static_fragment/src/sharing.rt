@@ -12,47 +12,45 @@ ghost use Rattle.mode_search.specs.declared.listing.Live.{Live};
 ghost use Rattle.mode_search.specs.declared.sharing.Sharing.{Sharing};
 ghost use Rattle.static_fragment.specs.Setting.{AreReached, AreLiveEdges};
 
-/// Where the first two rules are kept, the variable of the first live edge of an event that has two
-/// is one that the fifth rule is shown with, and each such is one of these.
-pub fn sharing_judged()
-    ensures breaks { (p : GtsParts) (system : System ℕ) (dropped : List ℕ) (kept : List KeptWay)
+/// Laws of events and modes that edges share.
+///
+/// - `sharing_breaks`, `sharing_broken`, `sharing_keeps`: Where the first two rules are kept, the variable of
+///   the first live edge of an event that has two is one that the fifth rule is shown with, and each such is
+///   one of these.
+/// - `entering_breaks`, `entering_broken`, `entering_keeps`: A variable of which an edge enters a mode again is
+///   one that the sixth rule is shown with; where the first two rules are kept, each such is one of these, also
+///   that of an edge that stays.
+/// - `counted_breaks`, `counted_keeps`: The eighth rule is broken where more than 2,048 events have a live
+///   edge, and kept where no more than these have one, the first two rules being kept.
+pub fn edge_sharing_laws()
+    ensures sharing_breaks { (p : GtsParts) (system : System ℕ) (dropped : List ℕ) (kept : List KeptWay)
         (reaches : List Reach) (live : List Live) → AreLiveEdges p system dropped kept reaches live
         → KeepsS1 system → KeepsS2 system dropped
         → (n : ℕ) → IsShared live (length live) n → BreaksS5 system dropped n }
-    ensures broken { (p : GtsParts) (system : System ℕ) (dropped : List ℕ) (kept : List KeptWay)
+    ensures sharing_broken { (p : GtsParts) (system : System ℕ) (dropped : List ℕ) (kept : List KeptWay)
         (reaches : List Reach) (live : List Live) → AreLiveEdges p system dropped kept reaches live
         → KeepsS1 system → KeepsS2 system dropped
         → (n : ℕ) → BreaksS5 system dropped n → IsShared live (length live) n }
-    ensures keeps { (p : GtsParts) (system : System ℕ) (dropped : List ℕ) (kept : List KeptWay)
+    ensures sharing_keeps { (p : GtsParts) (system : System ℕ) (dropped : List ℕ) (kept : List KeptWay)
         (reaches : List Reach) (live : List Live) → AreLiveEdges p system dropped kept reaches live
         → KeepsS1 system → KeepsS2 system dropped
         → ((n : ℕ) → IsShared live (length live) n → ⊥) → KeepsS5 system dropped }
-{}
-
-/// A variable of which an edge enters a mode again is one that the sixth rule is shown with; where
-/// the first two rules are kept, each such is one of these, also that of an edge that stays.
-pub fn entering_judged()
-    ensures breaks { (p : GtsParts) (system : System ℕ) (dropped : List ℕ) (kept : List KeptWay)
+    ensures entering_breaks { (p : GtsParts) (system : System ℕ) (dropped : List ℕ) (kept : List KeptWay)
         (reaches : List Reach) → AreReached p system dropped kept reaches
         → (n : ℕ) → IsAgainAt reaches n → BreaksS6 system dropped n }
-    ensures broken { (p : GtsParts) (system : System ℕ) (dropped : List ℕ) (kept : List KeptWay)
+    ensures entering_broken { (p : GtsParts) (system : System ℕ) (dropped : List ℕ) (kept : List KeptWay)
         (reaches : List Reach) → AreReached p system dropped kept reaches
         → KeepsS1 system → KeepsS2 system dropped
         → (n : ℕ) → BreaksS6 system dropped n → IsAgainAt reaches n }
-    ensures keeps { (p : GtsParts) (system : System ℕ) (dropped : List ℕ) (kept : List KeptWay)
+    ensures entering_keeps { (p : GtsParts) (system : System ℕ) (dropped : List ℕ) (kept : List KeptWay)
         (reaches : List Reach) → AreReached p system dropped kept reaches
         → KeepsS1 system → KeepsS2 system dropped
         → ((n : ℕ) → IsAgainAt reaches n → ⊥) → KeepsS6 system dropped }
-{}
-
-/// The eighth rule is broken where more than 2,048 events have a live edge, and kept where no more
-/// than these have one, the first two rules being kept.
-pub fn events_counted()
-    ensures breaks { (p : GtsParts) (system : System ℕ) (dropped : List ℕ) (kept : List KeptWay)
+    ensures counted_breaks { (p : GtsParts) (system : System ℕ) (dropped : List ℕ) (kept : List KeptWay)
         (reaches : List Reach) (live : List Live) → AreLiveEdges p system dropped kept reaches live
         → (count : ℕ) (s : Sharing) → IsSharing count live (length live) s
         → 2048 < length s.events.items → BreaksS8 system dropped }
-    ensures keeps { (p : GtsParts) (system : System ℕ) (dropped : List ℕ) (kept : List KeptWay)
+    ensures counted_keeps { (p : GtsParts) (system : System ℕ) (dropped : List ℕ) (kept : List KeptWay)
         (reaches : List Reach) (live : List Live) → AreLiveEdges p system dropped kept reaches live
         → KeepsS1 system → KeepsS2 system dropped
         → (count : ℕ) (s : Sharing) → IsSharing count live (length live) s

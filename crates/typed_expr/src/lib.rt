@@ -17,7 +17,7 @@ mod value_set;
 pub use env::Env;
 pub use expr::{Expr, Relation, ValueKind};
 pub use kinds::{kind_of, typed};
-pub use laws::{count_law, expression_laws, finite_laws, kind_law, renaming_laws};
+pub use laws::expression_laws;
 pub use possible::{eval_set, possible_values};
 pub use rows::{first_of, row_at};
 pub use total::eval_total;

@@ -14,17 +14,17 @@ ghost use Rattle.written_forms.specs.Wrong.{NamesKind, IsNamedPath, IsMisnamed, 
 ghost use Rattle.written_forms.specs.Translating.{leaf_level, BecomesBy};
 ghost use Rattle.written_forms.specs.declared.naming.Leaf.{Leaf};
 
-/// An expression has at most one kind by its form.
-pub fn one_kind()
-    ensures { (kinds : Path → Option ValueKind) (e : RawLevel) (j k : ValueKind)
+/// Laws of written expressions.
+///
+/// - `one_kind`: An expression has at most one kind by its form.
+/// - `right_expressions`: An expression in which each path names something and nothing has a wrong kind where
+///   this kind is wanted of the whole becomes an expression of that kind, where what stands for a path has its
+///   kind.
+pub fn form_laws()
+    ensures one_kind { (kinds : Path → Option ValueKind) (e : RawLevel) (j k : ValueKind)
         → HasForm (NamesKind kinds) e j
         → HasForm (NamesKind kinds) e k → j ≡ k }
-{}
-
-/// An expression in which each path names something and nothing has a wrong kind where this kind is
-/// wanted of the whole becomes an expression of that kind, where what stands for a path has its kind.
-pub fn right_expressions()
-    ensures { (kinds : Path → Option ValueKind) (leaves : Path → Leaf) (sorts : VarId → ValueKind)
+    ensures right_expressions { (kinds : Path → Option ValueKind) (leaves : Path → Leaf) (sorts : VarId → ValueKind)
         → ((p : Path) (k : ValueKind) → kinds p ≡ Some k → HasKind sorts (leaf_level (leaves p)) k)
         → (e : RawExpr) (f : Expr VarId) (k : ValueKind)
         → ((at : Place) → IsMisnamed (IsNamedPath kinds) (level_of e) at → ⊥)

@@ -16,7 +16,7 @@ mod translating;
 pub use acting::acted;
 pub use checks::{ActionRule, AssertionRule, KindRule, NameRule};
 pub use kinds::form_kind;
-pub use laws::{one_kind, right_expressions};
+pub use laws::form_laws;
 pub use misnaming::first_misnamed;
 pub use mistyping::{differ, first_mistyped};
 pub use naming::{Leaf, Leaves, Naming};

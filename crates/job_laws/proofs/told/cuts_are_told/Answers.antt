@@ -1,9 +1,15 @@
-use Rattle.altarica_run.specs.declared.status.Status.TheVariants as status
 use Rattle.job_laws.proofs.Enough.{told_with}
+use Rattle.altarica_run.specs.declared.status.Status.TheVariants as status
 use Rattle.job_laws.proofs.told.cuts_are_told.Goals as goal
 
-pub returns : goal.returns
-returns c = λ k s job w gave known is lists p free enough.
+pub returns-clause-conflicts_are_told : goal.returns-clause-conflicts_are_told
+returns-clause-conflicts_are_told c = λ k s job w gave known is lists p met enough.
+    told_with k job w s status.Fault _
+    (λ text t. c.enough_nodes_suffice.ensures.conflict job w text s t lists enough met)
+    (c.jobs_are_told.ensures.told k s job w gave known is p)
+
+pub returns-clause-cuts_are_told : goal.returns-clause-cuts_are_told
+returns-clause-cuts_are_told c = λ k s job w gave known is lists p free enough.
     told_with k job w s status.Done _
     (λ text t. c.enough_nodes_suffice.ensures.listing job w text s t lists enough free)
     (c.jobs_are_told.ensures.told k s job w gave known is p)

@@ -1,0 +1,38 @@
+use Rattle.std.proofs.Common.{ap}
+use Rattle.altarica_run.specs.Stages.{lists_cuts}
+use Rattle.altarica_run.specs.Tells.{check_text, check}
+use Rattle.job_laws.proofs.Commanded.{well_or_stopped, table_or_stopped, run_or_stopped, reason_or_stopped}
+use Rattle.job_laws.proofs.ManyCuts.{nodes_or_stopped}
+use Rattle.run_words.specs.declared.verbs.Verb.TheVariants as verb
+use Rattle.altarica_run.specs.declared.status.Status.TheVariants as status
+use Rattle.job_laws.proofs.told.texts_are_told.Goals as goal
+
+pub returns-clause-check : goal.returns-clause-check
+returns-clause-check c = λ k s job w gave known is asked p.
+    c.jobs_are_told.ensures.exact k s job w (check_text w.source.declarations) status.Done gave known is
+    (ap lists_cuts asked) p (check asked)
+
+pub returns-clause-flat : goal.returns-clause-flat
+returns-clause-flat c = λ k s job w gave known is asked p.
+    well_or_stopped k job w s (c.jobs_are_told.ensures.told k s job w gave known is p) verb.Flat asked _ (λ text h. h)
+
+pub returns-clause-fragment : goal.returns-clause-fragment
+returns-clause-fragment c = λ k s job w gave known is asked p.
+    well_or_stopped k job w s (c.jobs_are_told.ensures.told k s job w gave known is p) verb.Fragment asked _
+    (λ text h. h)
+
+pub returns-clause-equations : goal.returns-clause-equations
+returns-clause-equations c = λ k s job w wanted gave known is asked p are.
+    table_or_stopped k job w s (c.jobs_are_told.ensures.told k s job w gave known is p) asked wanted are
+
+pub returns-clause-replay : goal.returns-clause-replay
+returns-clause-replay c = λ k s job w gave known is asked p.
+    run_or_stopped k job w s asked (c.jobs_are_told.ensures.told k s job w gave known is p)
+
+pub returns-clause-explain : goal.returns-clause-explain
+returns-clause-explain c = λ k s job w gave known is asked p.
+    reason_or_stopped k job w s asked (c.jobs_are_told.ensures.told k s job w gave known is p)
+
+pub returns-clause-too_many_cuts_are_told : goal.returns-clause-too_many_cuts_are_told
+returns-clause-too_many_cuts_are_told c = λ k s job w gave known is lists p has sets are many.
+    nodes_or_stopped job w lists has sets are many k s (c.jobs_are_told.ensures.told k s job w gave known is p)

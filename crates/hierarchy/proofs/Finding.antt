@@ -1,6 +1,6 @@
 -- What is found in lists that are in order.
-use Rattle.std.proofs.Common.{◌≡◌, ℕ, zero, suc, ◌+◌, ◌<◌, ◌≤◌, ◌⊎◌, inl, inr, Bool, true, false, ◌==◌, nat_lt, List, [], ◌∷◌, length, Some, None, slice_index_or, refl, sym, ap, ◌∙◌, subst, arith, ltb, leb}
-use Rattle.std.proofs.lemmas.Bool.{ltb-true, ltb-false, leb-true, leb-false}
+use Rattle.std.proofs.Common.{◌≡◌, ℕ, zero, suc, ◌+◌, ◌<◌, ◌≤◌, ◌⊎◌, inl, inr, Bool, true, false, ◌==◌, nat_lt, List, [], ◌∷◌, length, Some, None, slice_index_or, refl, sym, ap, ◌∙◌, subst, arith, ltb}
+use Rattle.std.proofs.lemmas.Bool.{ltb-true, ltb-false}
 use Rattle.std.proofs.lemmas.Bool.Decides.{nat_tests}
 use Rattle.std.proofs.lemmas.Option.{get_or_from_slice_get}
 use Rattle.std.specs.List.Sorted.{IsNonDecreasingBy, IsPartitionPoint}
@@ -25,19 +25,6 @@ module _ {A : Type 0} (n : A → ℕ) (xs : List A) (u : ℕ) where
     from_low k d p h =
         let e = low.1 k d h (stands_within xs k d p) in
         ltb-false (n d) u (subst (λ (y : A). ltb (n y) u ≡ false) (get_or_from_slice_get xs k d d p) e)
-
-  module _ (to : ℕ) (high : IsPartitionPoint (λ y. leb (n y) u ≡ true) (λ y. leb (n y) u ≡ false) xs to) where
-    -- before the point the numbers are at most u
-    pub before_high : (k : ℕ) (d : A) → Stands xs k d → k < to → n d ≤ u
-    before_high k d p h =
-        let e = high.0 k d (omega arith) h in
-        leb-true (n d) u (subst (λ (y : A). leb (n y) u ≡ true) (get_or_from_slice_get xs k d d p) e)
-
-    -- from it on they are above it
-    pub from_high : (k : ℕ) (d : A) → Stands xs k d → to ≤ k → u < n d
-    from_high k d p h =
-        let e = high.1 k d h (stands_within xs k d p) in
-        leb-false (n d) u (subst (λ (y : A). leb (n y) u ≡ false) (get_or_from_slice_get xs k d d p) e)
 
 -- Entries
 
@@ -103,19 +90,21 @@ module _ (entries : List (NameId × UnitId)) (x at : ℕ)
 
 -- The run of nodes of one unit
 
-module _ {A : Type 0} (n : A → ℕ) (xs : List A) (u from to : ℕ)
-    (low : IsPartitionPoint (λ y. ltb (n y) u ≡ true) (λ y. ltb (n y) u ≡ false) xs from)
-    (high : IsPartitionPoint (λ y. leb (n y) u ≡ true) (λ y. leb (n y) u ≡ false) xs to) where
-  -- what stands in the run is of the unit
-  pub run_unit : (k : ℕ) (d : A) → Stands xs k d → from ≤ k → k < to → n d ≡ u
-  run_unit k d p f t = let a = from_low n xs u from low k d p f in let b = before_high n xs u to high k d p t in omega (arith, a, b)
-
-  -- what is of the unit stands in the run
+module _ {A : Type 0} (n : A → ℕ) (xs : List A) (u from : ℕ)
+    (low : IsPartitionPoint (λ y. ltb (n y) u ≡ true) (λ y. ltb (n y) u ≡ false) xs from) where
+  -- what is of the unit stands from the point on
   pub run_from : (k : ℕ) (d : A) → Stands xs k d → n d ≡ u → from ≤ k
   run_from k d p e = elim (side from k) [ inl h ↦ h | inr h ↦ absurd (let a = before_low n xs u from low k d p h in omega (arith, a, e)) ]
 
-  pub run_to : (k : ℕ) (d : A) → Stands xs k d → n d ≡ u → k < to
-  run_to k d p e = elim (side to k) [ inl h ↦ absurd (let a = from_high n xs u to high k d p h in omega (arith, a, e)) | inr h ↦ h ]
+  -- where a node from the point on is of another unit, none from there on is of the unit
+  pub run_ends : IsNonDecreasingBy n xs → (place : ℕ) (e : A) → from ≤ place → place < length xs
+      → (n (slice_index_or xs place e) ≡ u → ⊥) → (k : ℕ) (d : A) → place ≤ k → Stands xs k d → n d ≡ u → ⊥
+  run_ends rises place e f l other k d g p q =
+      let a : u ≤ n (slice_index_or xs place e) =
+      from_low n xs u from low place (slice_index_or xs place e) (stands_get xs place e l) f in
+      let b = subst (λ (y : A). n (slice_index_or xs place e) ≤ n y) (get_or_from_slice_get xs k d e p)
+      (rises place k e g (stands_within xs k d p)) in
+      omega (arith, a, b, q, other)
 
 -- one more node of the run has another name
 pub none_more : {A : Type 0} (x : A → ℕ) (xs : List A) (wanted from place : ℕ) (e : A) → place < length xs
@@ -127,21 +116,26 @@ none_more x xs wanted from place e l n before k d f m q h = elim (side place k) 
   | inr g ↦ before k d f g q h
 ]
 
--- a node of the run that has the name is found
-pub node_found : {A : Type 0} (node : A → MemNode) (xs : List A) (u x from to : ℕ)
+-- a node of the unit that has the name is found
+pub node_found : {A : Type 0} (node : A → MemNode) (xs : List A) (u x place : ℕ) (e : A) → place < length xs
+    → (node (slice_index_or xs place e)).unit.n ≡ u → (node (slice_index_or xs place e)).name.n ≡ x
+    → FindsNode node xs u x (Some place)
+node_found node xs u x place e l q h = (slice_index_or xs place e, stands_get xs place e l, q, h)
+
+-- none is found where none before a place has the name, and the node at the place is of another unit or there is none
+pub none_found : {A : Type 0} (node : A → MemNode) (xs : List A) (u x from place : ℕ)
     → IsPartitionPoint (λ y. ltb (node y).unit.n u ≡ true) (λ y. ltb (node y).unit.n u ≡ false) xs from
-    → IsPartitionPoint (λ y. leb (node y).unit.n u ≡ true) (λ y. leb (node y).unit.n u ≡ false) xs to
-    → (place : ℕ) (e : A) → from ≤ place → place < to → to ≤ length xs
-    → (node (slice_index_or xs place e)).name.n ≡ x → FindsNode node xs u x (Some place)
-node_found node xs u x from to low high place e f t b h =
-    let l : place < length xs = omega (arith, t, b) in
-    let p = stands_get xs place e l in (
-      slice_index_or xs place e,
-      p,
-      run_unit (λ d. (node d).unit.n) xs u from to low high place
-          (slice_index_or xs place e) p f t,
-      h,
-    )
+    → ((k : ℕ) (d : A) → from ≤ k → k < place → Stands xs k d → (node d).name.n ≡ x → ⊥)
+    → ((k : ℕ) (d : A) → place ≤ k → Stands xs k d → (node d).unit.n ≡ u → ⊥) → FindsNode node xs u x None
+none_found node xs u x from place low before past k d p q h = elim (side place k) [
+  | inl g ↦ past k d g p q
+  | inr g ↦ before k d (run_from (λ d. (node d).unit.n) xs u from low k d p q) g p h
+]
+
+-- nothing stands behind the end
+pub past_end : {A : Type 0} (xs : List A) (place : ℕ) → length xs ≤ place → (k : ℕ) (d : A) → place ≤ k
+    → Stands xs k d → ⊥
+past_end xs place e k d g p = let l = stands_within xs k d p in omega (arith, e, g, l)
 
 -- what is read at a place below the length stands there
 pub item_stands : {A : Type 0} (xs : List A) (k : ℕ) (a : A) → true ≡ nat_lt k (length xs) → a ≡ slice_index_or xs k a

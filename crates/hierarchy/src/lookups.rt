@@ -42,9 +42,12 @@ fn place_of_variable(nodes: &[VarNode], unit: UnitId, name: NameId) -> Option<us
     ensures { FindsNode (λ d. d.node) nodes.now unit.n name.n result }
 {
     let from = nodes.partition_point(|d| d.node.unit.n < unit.n);
-    let to = nodes.partition_point(|d| d.node.unit.n <= unit.n);
-    for place in from..to {
-        if nodes[place].node.name.n == name.n {
+    for place in from..nodes.len() {
+        let node = &nodes[place].node;
+        if node.unit.n != unit.n {
+            return None;
+        }
+        if node.name.n == name.n {
             return Some(place);
         }
     }
@@ -57,9 +60,12 @@ fn place_of_parameter(nodes: &[ParNode], unit: UnitId, name: NameId) -> Option<u
     ensures { FindsNode (λ d. d.node) nodes.now unit.n name.n result }
 {
     let from = nodes.partition_point(|d| d.node.unit.n < unit.n);
-    let to = nodes.partition_point(|d| d.node.unit.n <= unit.n);
-    for place in from..to {
-        if nodes[place].node.name.n == name.n {
+    for place in from..nodes.len() {
+        let node = &nodes[place].node;
+        if node.unit.n != unit.n {
+            return None;
+        }
+        if node.name.n == name.n {
             return Some(place);
         }
     }
@@ -72,9 +78,12 @@ fn place_of_member(nodes: &[MemNode], unit: UnitId, name: NameId) -> Option<usiz
     ensures { FindsNode (λ d. d) nodes.now unit.n name.n result }
 {
     let from = nodes.partition_point(|d| d.unit.n < unit.n);
-    let to = nodes.partition_point(|d| d.unit.n <= unit.n);
-    for place in from..to {
-        if nodes[place].name.n == name.n {
+    for place in from..nodes.len() {
+        let node = &nodes[place];
+        if node.unit.n != unit.n {
+            return None;
+        }
+        if node.name.n == name.n {
             return Some(place);
         }
     }

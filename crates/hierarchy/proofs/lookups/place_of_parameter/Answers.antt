@@ -1,32 +1,32 @@
-use Rattle.std.proofs.Common.{rules, ◌<◌, ltb, leb, length, arith}
-use Rattle.std.proofs.lemmas.List.Sorted.{IsPartitionPoint-from_clause, IsPartitionedBy-ltb, IsPartitionedBy-leb}
+use Rattle.std.proofs.Common.{rules, ◌<◌, ltb, length, arith}
+use Rattle.std.proofs.lemmas.List.Sorted.{IsPartitionPoint-from_clause, IsPartitionedBy-ltb}
 use Rattle.hierarchy.specs.declared.tree.ParNode.{ParNode}
-use Rattle.hierarchy.proofs.Finding.{node_found, run_from, run_to, none_more}
+use Rattle.hierarchy.proofs.Finding.{node_found, none_found, run_ends, none_more, past_end}
 use Rattle.hierarchy.proofs.lookups.place_of_parameter.Goals as goal
 
 pub loop-place-init : goal.loop-place-init
 loop-place-init c = λ k d f l p e. omega (arith, f, l)
 
-pub returns-then-nodes-place : goal.returns-then-nodes-place
-returns-then-nodes-place c =
+pub returns-then-node-unit : goal.returns-then-node-unit
+returns-then-node-unit c =
     let low = IsPartitionPoint-from_clause (λ (d : ParNode). ltb d.node.unit.n c.args.unit.n) _ _
     c.partition_point-from.ensures.partitioned
     (IsPartitionedBy-ltb (λ (d : ParNode). d.node.unit.n) _ c.args.unit.n c.requires)
     (λ a r q k. search rules) in
-    let high = IsPartitionPoint-from_clause (λ (d : ParNode). leb d.node.unit.n c.args.unit.n) _ _
-    c.partition_point-to.ensures.partitioned
-    (IsPartitionedBy-leb (λ (d : ParNode). d.node.unit.n) _ c.args.unit.n c.requires)
-    (λ a r q k. search rules) in
-    node_found (λ (d : ParNode). d.node) c.args.nodes.now c.args.unit.n c.args.name.n c.partition_point-from.result
-    c.partition_point-to.result low high c.loop-place.place _ c.loop-place.auto.place c.loop-place-test.true
-    c.partition_point-to.ensures.bound c.if-nodes-place.true
+    none_found (λ (d : ParNode). d.node) c.args.nodes.now c.args.unit.n c.args.name.n c.partition_point-from.result
+    c.loop-place.place low c.loop-place.invariant
+    (run_ends (λ (d : ParNode). d.node.unit.n) c.args.nodes.now c.args.unit.n c.partition_point-from.result low
+    c.requires c.loop-place.place _ c.loop-place.auto.place c.loop-place-test.true c.if-node-unit.true)
+
+pub returns-then-node-name : goal.returns-then-node-name
+returns-then-node-name c =
+    node_found (λ (d : ParNode). d.node) c.args.nodes.now c.args.unit.n c.args.name.n c.loop-place.place _
+    c.loop-place-test.true c.if-node-unit.false c.if-node-name.true
 
 pub loop-place-preserved : goal.loop-place-preserved
 loop-place-preserved c =
-    let l : c.loop-place.place < length c.args.nodes.now =
-    omega (arith, c.loop-place-test.true, c.partition_point-to.ensures.bound) in
     none_more (λ (d : ParNode). d.node.name.n) c.args.nodes.now c.args.name.n c.partition_point-from.result
-    c.loop-place.place _ l c.if-nodes-place.false c.loop-place.invariant
+    c.loop-place.place _ c.loop-place-test.true c.if-node-name.false c.loop-place.invariant
 
 pub returns : goal.returns
 returns c =
@@ -34,12 +34,6 @@ returns c =
     c.partition_point-from.ensures.partitioned
     (IsPartitionedBy-ltb (λ (d : ParNode). d.node.unit.n) _ c.args.unit.n c.requires)
     (λ a r q k. search rules) in
-    let high = IsPartitionPoint-from_clause (λ (d : ParNode). leb d.node.unit.n c.args.unit.n) _ _
-    c.partition_point-to.ensures.partitioned
-    (IsPartitionedBy-leb (λ (d : ParNode). d.node.unit.n) _ c.args.unit.n c.requires)
-    (λ a r q k. search rules) in
-    λ k d p u e. c.loop-place.invariant k d
-    (run_from (λ (d : ParNode). d.node.unit.n) c.args.nodes.now c.args.unit.n c.partition_point-from.result
-    c.partition_point-to.result low high k d p u)
-    (let l = run_to (λ (d : ParNode). d.node.unit.n) c.args.nodes.now c.args.unit.n c.partition_point-from.result c.partition_point-to.result low high k d p u in search (rules, l))
-    p e
+    none_found (λ (d : ParNode). d.node) c.args.nodes.now c.args.unit.n c.args.name.n c.partition_point-from.result
+    c.loop-place.place low c.loop-place.invariant
+    (λ k d g p q. past_end c.args.nodes.now c.loop-place.place c.loop-place-test.false k d g p)

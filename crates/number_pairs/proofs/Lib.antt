@@ -1,3 +1,2 @@
-mod Runs
 mod Firsts
 pub mod PairRuns

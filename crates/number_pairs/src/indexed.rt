@@ -56,7 +56,7 @@ fn starts_of(alloc: Global, pairs: &[(u32, u32)], count: usize) -> Result<Vec<us
 }
 
 // How many pairs have a lesser first.
-fn start_of(pairs: &[(u32, u32)], first: usize) -> usize
+pub(crate) fn start_of(pairs: &[(u32, u32)], first: usize) -> usize
     requires { IsNonDecreasingBy (λ q. q.0) pairs.now }
     ensures { IsStart pairs.now first result }
 {

@@ -6,7 +6,7 @@ ghost use Rattle.ar_base.specs.Lists.{IsOneOf};
 ghost use Rattle.ar_base.specs.Sets.{Ascends};
 ghost use Rattle.number_pairs.specs.Pairing.{AddsRun, IsPaired};
 
-use crate::indexed::{IndexedPairs, run_in};
+use crate::indexed::{IndexedPairs, run_in, start_of};
 use ar_base::Memory;
 use std::alloc::Global;
 
@@ -72,7 +72,7 @@ fn run_of(pairs: &[(u32, u32)], first: u32) -> &[(u32, u32)]
     ensures among { (q : ℕ × ℕ) → IsOneOf result.now q → IsOneOf pairs.now q × (q.0 ≡ first) }
     ensures all { (n : ℕ) → IsOneOf pairs.now (first, n) → IsOneOf result.now (first, n) }
 {
-    let from = pairs.partition_point(|q| q.0 < first);
-    let to = pairs.partition_point(|q| q.0 <= first);
+    let from = start_of(pairs, first as usize);
+    let to = start_of(pairs, first as usize + 1);
     &pairs[from..to]
 }

@@ -1,46 +1,28 @@
-use Rattle.std.proofs.Common.{ℕ, ◌≤◌, ltb, leb, rules, refl}
-use Rattle.std.proofs.lemmas.List.Sorted.{IsPartitionPoint-from_clause, IsPartitionedBy-ltb, IsPartitionedBy-leb}
-use Rattle.number_pairs.proofs.Runs.{in_order, run_all, run_among}
+use Rattle.std.proofs.Common.{◌≤◌, rules, refl}
+use Rattle.number_pairs.proofs.PairRuns.{from_to, run_among, run_exact, run_all}
 use Rattle.number_pairs.proofs.pairing.run_of.Goals as goal
 
 pub slice_bounds-result-count : goal.slice_bounds-result-count
 slice_bounds-result-count c =
-    let low = IsPartitionPoint-from_clause (λ (r : ℕ × ℕ). ltb r.0 c.args.first) _ _
-    c.partition_point-from.ensures.partitioned
-    (IsPartitionedBy-ltb (λ (r : ℕ × ℕ). r.0) _ c.args.first c.requires) (λ a r q k. search rules) in
-    let high = IsPartitionPoint-from_clause (λ (r : ℕ × ℕ). leb r.0 c.args.first) _ _
-    c.partition_point-to.ensures.partitioned
-    (IsPartitionedBy-leb (λ (r : ℕ × ℕ). r.0) _ c.args.first c.requires) (λ a r q k. search rules) in
-    in_order c.args.pairs.now c.args.first c.partition_point-from.result c.partition_point-to.result low high
-    c.partition_point-to.ensures.bound c.partition_point-from.ensures.bound
+    from_to c.args.pairs.now c.args.first c.start_of-from.result c.start_of-to.result c.start_of-from.ensures
+    c.start_of-to.ensures
 
 pub slice_bounds-result-start : goal.slice_bounds-result-start
 slice_bounds-result-start c =
-    let low = IsPartitionPoint-from_clause (λ (r : ℕ × ℕ). ltb r.0 c.args.first) _ _
-    c.partition_point-from.ensures.partitioned
-    (IsPartitionedBy-ltb (λ (r : ℕ × ℕ). r.0) _ c.args.first c.requires) (λ a r q k. search rules) in
-    let high = IsPartitionPoint-from_clause (λ (r : ℕ × ℕ). leb r.0 c.args.first) _ _
-    c.partition_point-to.ensures.partitioned
-    (IsPartitionedBy-leb (λ (r : ℕ × ℕ). r.0) _ c.args.first c.requires) (λ a r q k. search rules) in
-    let h : c.partition_point-from.result ≤ c.partition_point-to.result =
-    in_order c.args.pairs.now c.args.first c.partition_point-from.result c.partition_point-to.result low high
-    c.partition_point-to.ensures.bound c.partition_point-from.ensures.bound in
-    search (rules, h, c.partition_point-to.ensures.bound)
+    let h : c.start_of-from.result ≤ c.start_of-to.result =
+    from_to c.args.pairs.now c.args.first c.start_of-from.result c.start_of-to.result c.start_of-from.ensures
+    c.start_of-to.ensures in
+    search (rules, h, c.start_of-to.ensures.within)
 
 pub returns : goal.returns
 returns c =
-    let low = IsPartitionPoint-from_clause (λ (r : ℕ × ℕ). ltb r.0 c.args.first) _ _
-    c.partition_point-from.ensures.partitioned
-    (IsPartitionedBy-ltb (λ (r : ℕ × ℕ). r.0) _ c.args.first c.requires) (λ a r q k. search rules) in
-    let high = IsPartitionPoint-from_clause (λ (r : ℕ × ℕ). leb r.0 c.args.first) _ _
-    c.partition_point-to.ensures.partitioned
-    (IsPartitionedBy-leb (λ (r : ℕ × ℕ). r.0) _ c.args.first c.requires) (λ a r q k. search rules) in
     let pairs = c.args.pairs.now in
-    let from = c.partition_point-from.result in
-    let to = c.partition_point-to.result in
-    let bound = c.partition_point-to.ensures.bound in
-    let bound' = c.partition_point-from.ensures.bound in
+    let x = c.args.first in
+    let from = c.start_of-from.result in
+    let to = c.start_of-to.result in
+    let low = c.start_of-from.ensures in
+    let high = c.start_of-to.ensures in
     record {
-      among = run_among pairs c.args.first from to low high bound bound';
-      all = λ n o. run_all pairs c.args.first from to low high bound bound' (c.args.first, n) o refl;
+      among = λ r o. (run_among pairs x from to low high r o, run_exact pairs x from to low high r o);
+      all = λ n o. run_all pairs x from to low high (x, n) o refl;
     }

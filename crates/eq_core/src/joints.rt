@@ -42,17 +42,10 @@ impl Operand {
         match self {
             Operand::Always => true,
             Operand::Never => false,
-            Operand::Event(event, sign) => is_in(set, event) == sign,
+            Operand::Event(event, sign) => set.contains(&event) == sign,
             Operand::Gate(gate, sign) => before[gate.n as usize] == sign,
         }
     }
-}
-
-// Whether the event is one of the set.
-fn is_in(set: &[EventId], event: EventId) -> bool
-    ensures { result ≡ list_any (λ e. nat_eq e.n event.n) set.now }
-{
-    set.iter().any(|e| e.n == event.n)
 }
 
 /// A gate over at least two operands, each an event or an earlier gate.

@@ -15,5 +15,5 @@ mod steps;
 pub use building::build;
 pub use entries::{BuildFault, Entry, MOST_GATES, made, one_of_alls, operand_for};
 pub use groups::Groups;
-pub use laws::{building_laws, entries_tell, terms_with_never};
+pub use laws::building_laws;
 pub use steps::Step;

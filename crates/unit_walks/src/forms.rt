@@ -44,18 +44,11 @@ impl<'a> Forms<'a> {
         Some(list)
     }
 
-    // The place of the name in the list of the body.
-    fn place(&self, body: BodyId, name: NameId) -> Option<usize>
-        ensures { result ≡ place_at self.now body.n name.n }
-    {
-        self.places.get(&(body.n as usize, name.n)).copied()
-    }
-
     /// What the name may be a unit by in the body.
     pub(crate) fn form(&self, body: BodyId, name: NameId) -> Option<UnitForm<'a>>
         ensures { result ≡ form_at self.now body.n name.n }
     {
-        let place = self.place(body, name)?;
+        let place = self.places.get(&(body.n as usize, name.n)).copied()?;
         let named = self.list(body)?.get(place)?;
         Some(named.form)
     }

@@ -17,7 +17,7 @@ ghost use Rattle.source_meaning.specs.Systems.{Declarations, AreOf, Binds};
 ghost use Rattle.binding_laws.specs.Declarations.{SameDeclarations};
 
 use parser_laws::readings::agreement_opens;
-use unit_laws::units::{one_root_of_a_text, one_tree_or_refusal};
+use unit_laws::units::{one_root_of_a_text, units_agree};
 
 /// The units of a model that keeps the rules L1 to L5 have one list of declarations: two are alike.
 pub fn one_list_of_declarations()
@@ -46,5 +46,5 @@ pub fn one_binding_of_a_text()
 {
     agreement_opens();
     one_root_of_a_text();
-    one_tree_or_refusal();
+    units_agree();
 }

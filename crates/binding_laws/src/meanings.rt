@@ -18,9 +18,15 @@ ghost use Rattle.source_meaning.specs.Systems.{Declarations, AreOf};
 
 use parser_laws::readings::agreement_opens;
 
-/// In models that agree expressions that agree mean the same over variables, each parameter, init
-/// and reset has the same value, and instructions that agree have the same assignments at the same
-/// places.
+/// What is written in models that agree means the same.
+///
+/// - `expressions`, `values`, `instructions`: In models that agree expressions that agree mean the same over
+///   variables, each parameter, init and reset has the same value, and instructions that agree have the same
+///   assignments at the same places.
+/// - `declarations_agree`: What the units of a model declare they declare in each model that agrees with it,
+///   save for the model itself: the same variables, assertions, events, observers and places.
+/// - `name_rules_agree`: Models that agree break the same of the rules L10 to L13 at the same places, where
+///   they have the same units.
 pub fn meanings_agree()
     ensures expressions { (m n : RootedModel) → SameRooted m n → (u : UnitPath) (e f : RawExpr)
         → SameExpr e f → (l : Level Thing) → Means m u (level_of e) l → Means n u (level_of f) l }
@@ -29,23 +35,9 @@ pub fn meanings_agree()
     ensures instructions { (m n : RootedModel) → SameRooted m n → (u : UnitPath) (i j : Instr)
         → SameInstr i j → (when : Conditions) (ps : List Placed)
         → Sets m u when (out-Instr i) ps → Sets n u when (out-Instr j) ps }
-{
-    agreement_opens();
-}
-
-/// What the units of a model declare they declare in each model that agrees with it, save for the
-/// model itself: the same variables, assertions, events, observers and places.
-pub fn declarations_agree()
-    ensures { (m n : RootedModel) → SameRooted m n → (us : List UnitPath) (d : Declarations)
+    ensures declarations_agree { (m n : RootedModel) → SameRooted m n → (us : List UnitPath) (d : Declarations)
         → AreOf m us d → AreOf n us (record d { model = n }) }
-{
-    agreement_opens();
-}
-
-/// Models that agree break the same of the rules L10 to L13 at the same places, where they have the
-/// same units.
-pub fn name_rules_agree()
-    ensures { (m n : RootedModel) → SameRooted m n → (us : List UnitPath) (r : ℕ) (p : Place)
+    ensures name_rules_agree { (m n : RootedModel) → SameRooted m n → (us : List UnitPath) (r : ℕ) (p : Place)
         → (BreaksNameRule m us r p ↔ BreaksNameRule n us r p) }
 {
     agreement_opens();

@@ -14,7 +14,7 @@ ghost use Rattle.job_laws.specs.Definite.{IsDefinite, SaysOf, AgreeButNodes};
 
 use job_inputs::laws::one_list;
 use parser_laws::readings::one_tree;
-use ready_laws::laws::{readiness_agrees, texts_agree};
+use ready_laws::laws::jobs_agree;
 use source_laws::sources::one_source_of_a_text;
 use unit_laws::laws::{texts_are_seen_alike, texts_break_the_same_rules};
 
@@ -26,7 +26,7 @@ pub fn one_readiness_of_alike_sources()
         → Readies job texts y b → SameAnswer SameReady a b }
 {
     one_list();
-    readiness_agrees();
+    jobs_agree();
 }
 
 /// Of sources that are alike the words of a job say at most one text and end in one way, save that, where
@@ -37,8 +37,7 @@ pub fn one_answer_of_alike_sources()
         → SaysOf job texts y t b → AgreeButNodes job s a t b }
 {
     one_list();
-    readiness_agrees();
-    texts_agree();
+    jobs_agree();
 }
 
 /// However a text is read, the stages up to its source have at most one answer: its sources from the main

@@ -24,7 +24,7 @@ use crate::answer_laws::sources_are_definite;
 use altarica_run::laws::{listings_are_whole, one_job, one_loading};
 use job_inputs::laws::one_list;
 use parser_laws::readings::one_tree;
-use ready_laws::laws::{conflicts_agree, readiness_agrees, texts_agree};
+use ready_laws::laws::jobs_agree;
 
 /// Whatever a shelf reports: of texts that were read all stages of a job have at most one answer. All
 /// of them are passed, by jobs that stand ready alike, or they refuse in one way.
@@ -35,7 +35,7 @@ pub fn texts_that_were_read_have_one_answer()
     one_list();
     one_source_or_refusal();
     sources_are_definite();
-    readiness_agrees();
+    jobs_agree();
 }
 
 /// The stages of a job over files of which something is told have at most one answer: all of them are
@@ -50,7 +50,7 @@ pub fn one_passing()
     one_tree();
     one_source_or_refusal();
     sources_are_definite();
-    readiness_agrees();
+    jobs_agree();
 }
 
 /// Words over files of which something is told say at most one text and end in one way, save that,
@@ -67,8 +67,7 @@ pub fn texts_have_one_answer()
     one_tree();
     one_source_or_refusal();
     sources_are_definite();
-    readiness_agrees();
-    texts_agree();
+    jobs_agree();
 }
 
 /// A job over files of which something is told, and which a stage refuses, is answered with that
@@ -95,6 +94,6 @@ pub fn listings_are_complete()
 {
     one_job();
     listings_are_whole();
-    conflicts_agree();
+    jobs_agree();
     one_passing();
 }

@@ -35,7 +35,7 @@ ghost use Rattle.job_laws.specs.Told.{IsStopped, IsAnswered, IsToldAs, IsToldWit
 use crate::one_answer::{one_passing, texts_have_one_answer};
 use altarica_run::laws::one_job;
 use altarica_run::nodes::enough_nodes_suffice;
-use ready_laws::laws::texts_agree;
+use ready_laws::laws::jobs_agree;
 
 /// A job over files of which something is told, and which a stage refuses, is answered with that
 /// refusal, its line and its status, or is stopped.
@@ -62,7 +62,7 @@ pub fn jobs_are_told()
 {
     one_job();
     one_passing();
-    texts_agree();
+    jobs_agree();
     texts_have_one_answer();
 }
 
@@ -157,5 +157,5 @@ pub fn nodes_are_told()
 {
     one_job();
     one_passing();
-    texts_agree();
+    jobs_agree();
 }

@@ -33,16 +33,27 @@ pub fn likeness_turns_round()
     ensures jobs { (w v : Ready) → SameReady w v → SameReady v w }
 {}
 
-/// In sources that are alike everything is called alike, and words, scripts and lists of cuts mean
-/// the same: labels, commands, cut lines, events, observers and their values.
-pub fn inputs_agree()
+/// Jobs of sources that are alike are answered alike.
+///
+/// - `naming`, `labels`, `scripts`, `inputs_agree_cuts`, `events`, `observers`, `wanted`: In sources that are
+///   alike everything is called alike, and words, scripts and lists of cuts mean the same: labels, commands,
+///   cut lines, events, observers and their values.
+/// - `requests_pass`, `requests_refused`: Of sources that are alike the words, the script and the list of cuts
+///   of a job ask one thing, and both jobs stand ready alike; or they are refused in one way.
+/// - `readiness_passes`, `readiness_refused`: Of sources that are alike the stages behind them have at most one
+///   answer: both jobs stand ready alike, or are refused in one way.
+/// - `conflict_free`, `conflicts_agree`, `cuts_agree`, `nodes_agree`: Of jobs that stand ready alike no set of
+///   events meets a conflict in both or in neither, some set does in both or in neither, and more nodes than a
+///   limit may be needed for both or for neither. Where both have cuts, the same sets of events are cuts.
+/// - `texts_agree`: Jobs that stand ready alike tell the same texts, and end in the same ways.
+pub fn jobs_agree()
     ensures naming { (x y : Elaborated) → SameSource x y
         → naming_of x.declarations ≡ naming_of y.declarations }
     ensures labels { (x y : Elaborated) → SameSource x y → (text : List ℕ) (l : Label)
         → (IsLabel x text l ↔ IsLabel y text l) }
     ensures scripts { (x y : Elaborated) → SameSource x y → (script : List ℕ)
         (a : Result (List Command) BadLine) → (Commands script x a ↔ Commands script y a) }
-    ensures cuts { (x y : Elaborated) → SameSource x y → (list : List ℕ)
+    ensures inputs_agree_cuts { (x y : Elaborated) → SameSource x y → (list : List ℕ)
         (a : Result (List CutLine) BadLine) → (CutList list x a ↔ CutList list y a) }
     ensures events { (x y : Elaborated) → SameSource x y → (text events : List ℕ)
         → (NamesEvents x text events ↔ NamesEvents y text events) }
@@ -50,52 +61,24 @@ pub fn inputs_agree()
         → (NamesObserver x path n ↔ NamesObserver y path n) }
     ensures wanted { (x y : Elaborated) → SameSource x y → (path : List ℕ) (word : Option (List ℕ))
         (n : ℕ) (v : Value) → (IsWanted x path word n v ↔ IsWanted y path word n v) }
-{
-    agreement_opens();
-}
-
-/// Of sources that are alike the words, the script and the list of cuts of a job ask one thing, and
-/// both jobs stand ready alike; or they are refused in one way.
-pub fn requests_agree()
-    ensures passes { (x y : Elaborated) → SameSource x y → (job : Job) (texts : List (List ℕ))
+    ensures requests_pass { (x y : Elaborated) → SameSource x y → (job : Job) (texts : List (List ℕ))
         (w : Ready) → Asks job texts x (Ok w)
         → (v : Ready) × Asks job texts y (Ok v) × SameReady w v }
-    ensures refuses { (x y : Elaborated) → SameSource x y → (job : Job) (texts : List (List ℕ))
+    ensures requests_refused { (x y : Elaborated) → SameSource x y → (job : Job) (texts : List (List ℕ))
         (r : Refusal) → Asks job texts x (Err r) → Asks job texts y (Err r) }
-{
-    agreement_opens();
-}
-
-/// Of sources that are alike the stages behind them have at most one answer: both jobs stand ready alike,
-/// or are refused in one way.
-pub fn readiness_agrees()
-    ensures passes { (x y : Elaborated) → SameSource x y → (job : Job) (texts : List (List ℕ))
+    ensures readiness_passes { (x y : Elaborated) → SameSource x y → (job : Job) (texts : List (List ℕ))
         (w : Ready) → Readies job texts x (Ok w)
         → (v : Ready) × Readies job texts y (Ok v) × SameReady w v }
-    ensures refuses { (x y : Elaborated) → SameSource x y → (job : Job) (texts : List (List ℕ))
+    ensures readiness_refused { (x y : Elaborated) → SameSource x y → (job : Job) (texts : List (List ℕ))
         (r : Refusal) → Readies job texts x (Err r) → Readies job texts y (Err r) }
-{
-    agreement_opens();
-}
-
-/// Of jobs that stand ready alike no set of events meets a conflict in both or in neither, some set
-/// does in both or in neither, and more nodes than a limit may be needed for both or for neither.
-/// Where both have cuts, the same sets of events are cuts.
-pub fn conflicts_agree()
-    ensures free { (w v : Ready) → SameReady w v
+    ensures conflict_free { (w v : Ready) → SameReady w v
         → (IsConflictFree w.source.system w.dropped ↔ IsConflictFree v.source.system v.dropped) }
-    ensures conflict { (w v : Ready) → SameReady w v → (HasConflict w ↔ HasConflict v) }
-    ensures cuts { (w v : Ready) → SameReady w v → (a : HasCuts w) (b : HasCuts v) (set : List ℕ)
+    ensures conflicts_agree { (w v : Ready) → SameReady w v → (HasConflict w ↔ HasConflict v) }
+    ensures cuts_agree { (w v : Ready) → SameReady w v → (a : HasCuts w) (b : HasCuts v) (set : List ℕ)
         → (IsCut w a set ↔ IsCut v b set) }
-    ensures nodes { (w v : Ready) → SameReady w v → (limit : ℕ)
+    ensures nodes_agree { (w v : Ready) → SameReady w v → (limit : ℕ)
         → (MayNeedMore w limit ↔ MayNeedMore v limit) }
-{
-    agreement_opens();
-}
-
-/// Jobs that stand ready alike tell the same texts, and end in the same ways.
-pub fn texts_agree()
-    ensures { (w v : Ready) → SameReady w v → (job : Job) (text : List ℕ) (ends : Status)
+    ensures texts_agree { (w v : Ready) → SameReady w v → (job : Job) (text : List ℕ) (ends : Status)
         → (Tells job w text ends ↔ Tells job v text ends) }
 {
     agreement_opens();

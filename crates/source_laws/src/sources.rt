@@ -23,9 +23,7 @@ ghost use Rattle.binding_laws.specs.Declarations.{IsSameThing, SameDeclarations}
 ghost use Rattle.source_laws.specs.Sources.{SameSource};
 
 use binding_laws::bindings::one_binding_or_refusal;
-use unit_laws::units::{
-    members_of_units_agree, one_root_of_a_text, one_tree_or_refusal, things_agree,
-};
+use unit_laws::units::{one_root_of_a_text, units_agree};
 
 /// Declarations that are alike break L14 at the same places: the same synchronisations lead back to
 /// their events.
@@ -33,26 +31,24 @@ pub fn way_rules_agree()
     ensures { (d e : Declarations) → SameDeclarations d e → (r : ℕ) (p : Place)
         → (BreaksWayRule d r p ↔ BreaksWayRule e r p) }
 {
-    things_agree();
-    members_of_units_agree();
+    units_agree();
 }
 
-/// Declarations that are alike, no two of whose events have one key, mean systems that are the same
-/// form for form, the ways of their events included.
+/// Declarations that are alike mean systems that are alike.
+///
+/// - `systems_agree`: Declarations that are alike, no two of whose events have one key, mean systems that are
+///   the same form for form, the ways of their events included.
+/// - `counted_ways_agree`, `counted_parts_agree`, `counted_nodes_agree`: Sources that are alike have as many
+///   ways of the event that has the most, parts of ways and nodes of expressions.
 pub fn systems_agree()
-    ensures { (d e : Declarations) → SameDeclarations d e → AreKeyedEvents e.events
+    ensures systems_agree { (d e : Declarations) → SameDeclarations d e → AreKeyedEvents e.events
         → (x y : System Thing) → HasDeclarations d x → HasDeclarations e y
         → IsImage IsSameThing x y }
-{}
-
-/// Sources that are alike have as many ways of the event that has the most, parts of ways and nodes
-/// of expressions.
-pub fn counts_agree()
-    ensures ways { (x y : Elaborated) → SameSource x y
+    ensures counted_ways_agree { (x y : Elaborated) → SameSource x y
         → most_ways_counted x ≡ most_ways_counted y }
-    ensures parts { (x y : Elaborated) → SameSource x y
+    ensures counted_parts_agree { (x y : Elaborated) → SameSource x y
         → way_parts_counted x ≡ way_parts_counted y }
-    ensures nodes { (x y : Elaborated) → SameSource x y → nodes_counted x ≡ nodes_counted y }
+    ensures counted_nodes_agree { (x y : Elaborated) → SameSource x y → nodes_counted x ≡ nodes_counted y }
 {}
 
 /// The system of declarations that are alike, no two of whose events have one key, has at most one
@@ -65,7 +61,6 @@ pub fn one_system_or_refusal()
 {
     way_rules_agree();
     systems_agree();
-    counts_agree();
 }
 
 /// The source of models that agree has at most one answer, where they keep the rules L1 to L5: both have sources
@@ -75,7 +70,7 @@ pub fn one_source_or_refusal()
         → (a b : Result Elaborated RuleFault) → Then Instantiates (Then Binds Flattens) m a
         → Then Instantiates (Then Binds Flattens) n b → SameAnswer SameSource a b }
 {
-    one_tree_or_refusal();
+    units_agree();
     one_binding_or_refusal();
     one_system_or_refusal();
 }

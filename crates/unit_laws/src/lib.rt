@@ -9,4 +9,4 @@ pub mod laws;
 mod outcomes;
 pub mod units;
 
-pub use outcomes::{some_list, some_outcome};
+pub use outcomes::some_outcome;

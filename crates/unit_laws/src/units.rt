@@ -31,19 +31,28 @@ ghost use Rattle.unit_laws.specs.Views.{SameForms};
 use crate::laws::texts_are_seen_alike;
 use parser_laws::readings::agreement_opens;
 
-/// In models that agree each path leads to the same outcome, and the main block has the same units.
-pub fn walks_agree()
-    ensures names { (m n : RootedModel) → SameRooted m n → (f : List Thing) (u : Option UnitPath)
+/// In models that agree units, and what they hold, agree.
+///
+/// - `walks_agree`, `lists_agree`: In models that agree each path leads to the same outcome, and the main block
+///   has the same units.
+/// - `variables`, `parameters`, `events`, `observers`, `nodes`: In models that agree the same units hold the
+///   same variables, parameters, events and observers, in one order, and as many nodes.
+/// - `variable_paths_agree`, `parameter_paths_agree`, `event_paths_agree`, `observer_paths_agree`, `unit_text`,
+///   `thing_text`, `path_text`: In models that agree paths name the same things, and units, things and paths
+///   have the same texts.
+/// - `in_force`, `domains`, `assertions`, `hidden`, `ways`: In models that agree each thing has a value in
+///   force in both or in neither, read in one unit from one member, and its expressions agree; types have the
+///   same domains; and the assertions, the paths that hide clauses name, and the transitions and
+///   synchronisations of each event agree, in one order.
+/// - `unit_rules_agree`: Models that agree break the same of the rules L6 to L9 at the same places, where they
+///   have the same units.
+/// - `one_tree_or_refusal`: The unfolding of models that agree has at most one answer: both have the same
+///   units, or both pass the same limit, or break the same rule at the same place.
+pub fn units_agree()
+    ensures walks_agree { (m n : RootedModel) → SameRooted m n → (f : List Thing) (u : Option UnitPath)
         (xs : List ℕ) (o : WalkOutcome) → (NamesLead m f u xs o ↔ NamesLead n f u xs o) }
-    ensures units { (m n : RootedModel) → SameRooted m n → (us : List UnitPath)
+    ensures lists_agree { (m n : RootedModel) → SameRooted m n → (us : List UnitPath)
         → (AreUnits m us ↔ AreUnits n us) }
-{
-    agreement_opens();
-}
-
-/// In models that agree the same units hold the same variables, parameters, events and observers, in one
-/// order, and as many nodes.
-pub fn things_agree()
     ensures variables { (m n : RootedModel) → SameRooted m n → (us : List UnitPath)
         → variables m us ≡ variables n us }
     ensures parameters { (m n : RootedModel) → SameRooted m n → (us : List UnitPath)
@@ -54,19 +63,13 @@ pub fn things_agree()
         → observers m us ≡ observers n us }
     ensures nodes { (m n : RootedModel) → SameRooted m n → (us : List UnitPath)
         → tree_nodes m us ≡ tree_nodes n us }
-{
-    agreement_opens();
-}
-
-/// In models that agree paths name the same things, and units, things and paths have the same texts.
-pub fn paths_agree()
-    ensures variable { (m n : RootedModel) → SameRooted m n → (u : UnitPath) (p : Path) (t : Thing)
+    ensures variable_paths_agree { (m n : RootedModel) → SameRooted m n → (u : UnitPath) (p : Path) (t : Thing)
         → (Finds m is_variable u p t ↔ Finds n is_variable u p t) }
-    ensures parameter { (m n : RootedModel) → SameRooted m n → (u : UnitPath) (p : Path) (t : Thing)
+    ensures parameter_paths_agree { (m n : RootedModel) → SameRooted m n → (u : UnitPath) (p : Path) (t : Thing)
         → (Finds m is_parameter u p t ↔ Finds n is_parameter u p t) }
-    ensures event { (m n : RootedModel) → SameRooted m n → (u : UnitPath) (p : Path) (t : Thing)
+    ensures event_paths_agree { (m n : RootedModel) → SameRooted m n → (u : UnitPath) (p : Path) (t : Thing)
         → (Finds m is_event u p t ↔ Finds n is_event u p t) }
-    ensures observer { (m n : RootedModel) → SameRooted m n → (u : UnitPath) (p : Path) (t : Thing)
+    ensures observer_paths_agree { (m n : RootedModel) → SameRooted m n → (u : UnitPath) (p : Path) (t : Thing)
         → (Finds m is_observer u p t ↔ Finds n is_observer u p t) }
     ensures unit_text { (m n : RootedModel) → SameRooted m n → (u : UnitPath)
         → unit_path m u ≡ unit_path n u }
@@ -74,14 +77,6 @@ pub fn paths_agree()
         → thing_path m t ≡ thing_path n t }
     ensures path_text { (m n : RootedModel) → SameRooted m n → (xs : List ℕ)
         → dotted m xs ≡ dotted n xs }
-{
-    agreement_opens();
-}
-
-/// In models that agree each thing has a value in force in both or in neither, read in one unit from one
-/// member, and its expressions agree; types have the same domains; and the assertions, the paths that hide
-/// clauses name, and the transitions and synchronisations of each event agree, in one order.
-pub fn members_of_units_agree()
     ensures in_force { (m n : RootedModel) → SameRooted m n → (t : Thing)
         → SameOption SameAttribute (in_force m t) (in_force n t) }
     ensures domains { (m n : RootedModel) → SameRooted m n → (f : TypeForm) (v : Domain)
@@ -92,22 +87,9 @@ pub fn members_of_units_agree()
         → Along (SameIn SamePath) (hidden_paths m us) (hidden_paths n us) }
     ensures ways { (m n : RootedModel) → SameRooted m n → (e : Thing)
         → Along SameForms (ways_declared m e) (ways_declared n e) }
-{
-    agreement_opens();
-}
-
-/// Models that agree break the same of the rules L6 to L9 at the same places, where they have the same units.
-pub fn unit_rules_agree()
-    ensures { (m n : RootedModel) → SameRooted m n → (us : List UnitPath) (r : ℕ) (p : Place)
+    ensures unit_rules_agree { (m n : RootedModel) → SameRooted m n → (us : List UnitPath) (r : ℕ) (p : Place)
         → (BreaksUnitRule m us r p ↔ BreaksUnitRule n us r p) }
-{
-    agreement_opens();
-}
-
-/// The unfolding of models that agree has at most one answer: both have the same units, or both pass the same
-/// limit, or break the same rule at the same place.
-pub fn one_tree_or_refusal()
-    ensures { (m n : RootedModel) → SameRooted m n → (a b : Result Unfolded RuleFault)
+    ensures one_tree_or_refusal { (m n : RootedModel) → SameRooted m n → (a b : Result Unfolded RuleFault)
         → Instantiates m a → Instantiates n b → SameAnswer SameUnfolded a b }
 {
     agreement_opens();
@@ -132,5 +114,5 @@ pub fn one_tree_of_a_text()
         → SameAnswer SameUnfolded a b }
 {
     one_root_of_a_text();
-    one_tree_or_refusal();
+    units_agree();
 }

@@ -2,6 +2,8 @@ use Rattle.unit_laws.proofs.Turned.{rooted_turned}
 use Rattle.binding_laws.proofs.Acted.{sets_there}
 use Rattle.binding_laws.proofs.Levels.{level_there, acts_there}
 use Rattle.binding_laws.proofs.Meant.{means_there, value_there}
+use Rattle.binding_laws.proofs.Carried.{declarations_there}
+use Rattle.binding_laws.proofs.Ruled.{name_rules_there}
 use Rattle.binding_laws.proofs.meanings.meanings_agree.Goals as goal
 
 pub returns-clause-expressions : goal.returns-clause-expressions
@@ -19,3 +21,17 @@ pub returns-clause-instructions : goal.returns-clause-instructions
 returns-clause-instructions c = λ m n s u i j r when ps h.
     let steps = c.agreement_opens.ensures.step in
     sets_there c.agreement_opens.ensures.form steps c.agreement_opens.ensures.kind m n s (acts_there steps i j r) h
+
+pub returns-clause-declarations_agree : goal.returns-clause-declarations_agree
+returns-clause-declarations_agree c =
+    declarations_there c.agreement_opens.ensures.form c.agreement_opens.ensures.step c.agreement_opens.ensures.kind
+
+pub returns-clause-name_rules_agree : goal.returns-clause-name_rules_agree
+returns-clause-name_rules_agree c = λ m n s us r p.
+    let forms = c.agreement_opens.ensures.form in
+    let steps = c.agreement_opens.ensures.step in
+    let kinds = c.agreement_opens.ensures.kind in
+    let back = rooted_turned s in (
+      λ b. name_rules_there forms steps kinds m n s back us r p b,
+      λ b. name_rules_there forms steps kinds n m back s us r p b,
+    )

@@ -3,6 +3,6 @@ use Rattle.job_laws.proofs.alike_laws.one_answer_of_alike_sources.Goals as goal
 
 pub returns : goal.returns
 returns c =
-    λ x y same is job texts s t a b h k. saying_alike c.readiness_agrees.ensures.passes
-    c.readiness_agrees.ensures.refuses c.one_list.ensures x y same is job texts
-    (λ w v alike job text ends. (c.texts_agree.ensures w v alike job text ends).0) s t a b h k
+    λ x y same is job texts s t a b h k. saying_alike c.jobs_agree.ensures.readiness_passes
+    c.jobs_agree.ensures.readiness_refused c.one_list.ensures x y same is job texts
+    (λ w v alike job text ends. (c.jobs_agree.ensures.texts_agree w v alike job text ends).0) s t a b h k

@@ -5,6 +5,6 @@ pub returns : goal.returns
 returns c = λ k s job w gave quiet known is cuts p free enough.
     let alike = c.one_passing.ensures k.files known job in
     listed_whole k job (c.one_job.ensures k.words) is alike cuts w p
-    (λ v same. (c.conflicts_agree.ensures.free w v same).0 free)
-    (λ v same more. enough ((c.conflicts_agree.ensures.nodes w v same job.nodes).1 more))
+    (λ v same. (c.jobs_agree.ensures.conflict_free w v same).0 free)
+    (λ v same more. enough ((c.jobs_agree.ensures.nodes_agree w v same job.nodes).1 more))
     (λ g. c.listings_are_whole.ensures k job g is cuts) quiet s gave

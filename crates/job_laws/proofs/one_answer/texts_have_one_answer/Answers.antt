@@ -3,8 +3,8 @@ use Rattle.job_laws.proofs.one_answer.texts_have_one_answer.Goals as goal
 
 pub returns : goal.returns
 returns c =
-    λ files known words s t a b h k. says_alike c.readiness_agrees.ensures.passes
-    c.readiness_agrees.ensures.refuses c.one_list.ensures c.sources_are_definite.ensures
+    λ files known words s t a b h k. says_alike c.jobs_agree.ensures.readiness_passes
+    c.jobs_agree.ensures.readiness_refused c.one_list.ensures c.sources_are_definite.ensures
     c.one_source_or_refusal.ensures files (c.one_loading.ensures files known) c.one_tree.ensures
-    (λ w v same job text ends. (c.texts_agree.ensures w v same job text ends).0) words (c.one_job.ensures words) s t a
+    (λ w v same job text ends. (c.jobs_agree.ensures.texts_agree w v same job text ends).0) words (c.one_job.ensures words) s t a
     b h k

@@ -28,7 +28,7 @@ use gts_core::laws::lawful_systems;
 use min_cuts::Lister;
 use mode_trees::Forest;
 use std::alloc::Global;
-use table_laws::{drawn_sets, table_agrees};
+use table_laws::{drawn_sets, gate_table_laws};
 use zdd_nodes::{room_for_families, stored_sections};
 
 /// Writes what is to be said of each line of the list, and the cuts that it lacks.
@@ -52,7 +52,7 @@ pub(crate) fn write_check<K: Sink>(
     // What is drawn are the cuts, what is said of the lines and the cuts is said of the source's, and
     // what is stored has room for their sections.
     lawful_systems();
-    table_agrees();
+    gate_table_laws();
     drawn_sets();
     edges_of_forests();
     check_of_the_source();

@@ -23,7 +23,7 @@ use gts_core::laws::lawful_systems;
 use min_cuts::{Lister, counts};
 use mode_trees::Forest;
 use std::alloc::Global;
-use table_laws::{drawn_sets, ordered_table, table_agrees};
+use table_laws::{drawn_sets, gate_table_laws};
 use zdd_nodes::{NodeFault, room_for_families, stored_sections};
 
 /// Draws the conflict sets of a gate table or, where there are none, the cuts of its value, with at most
@@ -42,7 +42,7 @@ pub(crate) fn draw(
 {
     // The table's gates are in order, the trees of a static system's forest are trees, and which
     // nodes may be needed does not rest on the numbers of ways.
-    ordered_table();
+    gate_table_laws();
     edges_of_forests();
     drawn_sets();
     diagrams(alloc, &table.equations, forest, nodes)
@@ -66,7 +66,7 @@ pub(crate) fn write_cuts<K: Sink>(
     // What is drawn are the cuts, they have the text of the source's, each line of it replays, and
     // what is stored has room for their sections.
     lawful_systems();
-    table_agrees();
+    gate_table_laws();
     drawn_sets();
     edges_of_forests();
     cuts_of_the_source();
@@ -98,7 +98,7 @@ pub(crate) fn write_conflict<K: Sink>(
     // What is drawn are the conflict sets, and the first of them has the text of the source's
     // conflict.
     lawful_systems();
-    table_agrees();
+    gate_table_laws();
     drawn_sets();
     edges_of_forests();
     conflicts_of_the_source();

@@ -14,7 +14,7 @@ use ar_base::{RuleFault, Text};
 use ar_parser::parse;
 use ar_syntax::Model;
 use bind_names::bind;
-use class_table::{Classes, one_declared, table};
+use class_table::{Classes, declaring_laws, table};
 use gts_core::Gts;
 use gts_flatten::flatten;
 use hierarchy::Tree;
@@ -66,7 +66,7 @@ fn classes_of(alloc: Global, model: Model, main: &Option<Text>) -> Result<Classe
     ensures { Meets (Tables main.now) IsKeptTable model result }
 {
     // What a model declares is one thing, and its table keeps the model as it is seen from there.
-    one_declared();
+    declaring_laws();
     tables_are_rooted();
     let classes = table(alloc, model, word_of(main))?;
     Ok(classes)

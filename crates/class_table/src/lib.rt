@@ -22,7 +22,7 @@ mod tables;
 mod tabling;
 mod types;
 
-pub use laws::{inherited_members_come_first, one_declared, one_list_of_members, one_refusal};
+pub use laws::declaring_laws;
 pub use sites::owned_at;
 pub use tables::{Body, Classes, Owned, TypeBody};
 pub use tabling::table;

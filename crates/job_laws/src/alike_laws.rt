@@ -13,7 +13,7 @@ ghost use Rattle.ready_laws.specs.Ready.{SameReady};
 ghost use Rattle.job_laws.specs.Definite.{IsDefinite, SaysOf, AgreeButNodes};
 
 use job_inputs::laws::one_list;
-use parser_laws::readings::one_tree;
+use parser_laws::readings::one_reading;
 use ready_laws::laws::jobs_agree;
 use source_laws::sources::one_source_of_a_text;
 use unit_laws::laws::{texts_are_seen_alike, texts_break_the_same_rules};
@@ -46,7 +46,7 @@ pub fn one_source_or_refusal()
     ensures { (main : Option (List ℕ)) (text : List ℕ) (a b : Result Elaborated Refusal)
         → Elaborates main text a → Elaborates main text b → SameAnswer SameSource a b }
 {
-    one_tree();
+    one_reading();
     texts_are_seen_alike();
     texts_break_the_same_rules();
     one_source_of_a_text();

@@ -40,7 +40,7 @@ use crate::one_answer::{causes_are_told, one_passing};
 use altarica_run::laws::{one_job, one_loading};
 use job_inputs::laws::one_list;
 use module_text::laws::combinations_are_cuts;
-use parser_laws::readings::{one_tree, trees_keep};
+use parser_laws::readings::one_reading;
 use unit_laws::laws::{texts_are_seen_alike, texts_break_the_same_rules};
 use unit_laws::units::one_tree_of_a_text;
 
@@ -50,7 +50,7 @@ pub fn one_reading_or_refusal()
     ensures { (text : List ℕ) (x y : Result Model Refusal) → Parses text x → Parses text y
         → SameAnswer SameModel x y }
 {
-    one_tree();
+    one_reading();
 }
 
 /// First tokens of a text fit where they open no production inside so many others and begin a text in
@@ -125,7 +125,7 @@ pub fn read_texts_are_no_syntax_errors()
 {
     one_job();
     one_loading();
-    one_tree();
+    one_reading();
 }
 
 /// However a text is read, the stage of the rules L1 to L5 has at most one answer: the text is seen alike from the
@@ -194,7 +194,7 @@ pub fn sources_are_definite()
     ensures { (main : Option (List ℕ)) (text : List ℕ) (x : Elaborated)
         → Elaborates main text (Ok x) → IsDefinite x }
 {
-    trees_keep();
+    one_reading();
 }
 
 /// A call of `modules` that ends well writes short forms that stand for the cuts: each choice of one
@@ -205,7 +205,7 @@ pub fn modules_stand_for_cuts()
         → job.command ≡ Modules → AreModulesOf c job }
 {
     one_job();
-    trees_keep();
+    one_reading();
     combinations_are_cuts();
 }
 
@@ -217,5 +217,5 @@ pub fn conflicts_are_met()
         → lists_cuts job.command ≡ true → IsConflictOf c job }
 {
     one_job();
-    trees_keep();
+    one_reading();
 }

@@ -23,7 +23,7 @@ use crate::alike_laws::one_source_or_refusal;
 use crate::answer_laws::sources_are_definite;
 use altarica_run::laws::{listings_are_whole, one_job, one_loading};
 use job_inputs::laws::one_list;
-use parser_laws::readings::one_tree;
+use parser_laws::readings::one_reading;
 use ready_laws::laws::jobs_agree;
 
 /// Whatever a shelf reports: of texts that were read all stages of a job have at most one answer. All
@@ -47,7 +47,7 @@ pub fn one_passing()
 {
     one_loading();
     one_list();
-    one_tree();
+    one_reading();
     one_source_or_refusal();
     sources_are_definite();
     jobs_agree();
@@ -64,7 +64,7 @@ pub fn texts_have_one_answer()
     one_job();
     one_loading();
     one_list();
-    one_tree();
+    one_reading();
     one_source_or_refusal();
     sources_are_definite();
     jobs_agree();

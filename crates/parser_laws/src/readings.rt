@@ -18,28 +18,40 @@ ghost use Rattle.parser_laws.specs.Models.{HasOneTree, SameItem, SameModel};
 ghost use Rattle.parser_laws.specs.Opened.{SameForm, SameStep, SameKind};
 ghost use Rattle.parser_laws.specs.Opened.{SameItemForm, SameModelForm};
 
-/// Each text has at most one tree: two readings have the same items, names, places and spans.
-pub fn one_tree()
-    ensures { (bytes : List ℕ) → HasOneTree bytes }
-{}
-
-/// Each text has at most one list of tokens or one first fault, and never both.
-pub fn one_lexing()
+/// However often a text is read, it has one list of tokens and one tree.
+///
+/// - `one_tree`: Each text has at most one tree: two readings have the same items, names, places and spans.
+/// - `tokens`, `fault`, `apart`: Each text has at most one list of tokens or one first fault, and never both.
+/// - `trees_keep`: Each name of a text's tree has a number in the tree's table, and no list of the tree has
+///   more items than the text has bytes.
+pub fn one_reading()
+    ensures one_tree { (bytes : List ℕ) → HasOneTree bytes }
     ensures tokens { (text : List ℕ) (ts us : List Token)
         → AreTokens text ts → AreTokens text us → ts ≡ us }
     ensures fault { (text : List ℕ) (f g : LexFault)
         → IsFirstFault text f → IsFirstFault text g → f ≡ g }
     ensures apart { (text : List ℕ) (ts : List Token) (f : LexFault)
         → AreTokens text ts → IsFirstFault text f → ⊥ }
+    ensures trees_keep { (bytes : List ℕ) → TreesKeep bytes }
 {}
 
-/// Expressions that agree stand in one place and take the same bytes, and where both are whole
-/// numbers, they are the same number.
-pub fn agreement_says()
+/// Agreement by address, and by outermost forms.
+///
+/// - `place`, `span`, `number`: Expressions that agree stand in one place and take the same bytes, and where
+///   both are whole numbers, they are the same number.
+/// - `closed_form`, `closed_step`, `closed_kind`, `closed_item`, `closed_model`: Expressions in one place whose
+///   forms agree, and other trees whose forms agree, agree at every depth.
+pub fn agreement_closes()
     ensures place { (e f : RawExpr) → SameExpr e f → e.at ≡ f.at }
     ensures span { (e f : RawExpr) → SameExpr e f → e.span ≡ f.span }
     ensures number { (e f : RawExpr) (n m : ℤ)
         → SameExpr e f → e.form ≡ Whole n → f.form ≡ Whole m → n ≡ m }
+    ensures closed_form { (e f : RawExpr) → e.at ≡ f.at → e.span ≡ f.span
+        → SameForm (out-RawForm e.form) (out-RawForm f.form) → SameExpr e f }
+    ensures closed_step { (i j : Instr) → SameStep (out-Instr i) (out-Instr j) → SameInstr i j }
+    ensures closed_kind { (m n : Member) → SameKind (out-Member m) (out-Member n) → SameMember m n }
+    ensures closed_item { (x y : Item) → SameItemForm x y → SameItem x y }
+    ensures closed_model { (m n : Model) → SameModelForm m n → SameModel m n }
 {}
 
 /// Trees that agree have outermost forms of one kind, whose parts agree: the trees inside at every
@@ -51,21 +63,4 @@ pub fn agreement_opens()
     ensures kind { (m n : Member) → SameMember m n → SameKind (out-Member m) (out-Member n) }
     ensures item { (x y : Item) → SameItem x y → SameItemForm x y }
     ensures model { (m n : Model) → SameModel m n → SameModelForm m n }
-{}
-
-/// Expressions in one place whose forms agree, and other trees whose forms agree, agree at every
-/// depth.
-pub fn agreement_closes()
-    ensures form { (e f : RawExpr) → e.at ≡ f.at → e.span ≡ f.span
-        → SameForm (out-RawForm e.form) (out-RawForm f.form) → SameExpr e f }
-    ensures step { (i j : Instr) → SameStep (out-Instr i) (out-Instr j) → SameInstr i j }
-    ensures kind { (m n : Member) → SameKind (out-Member m) (out-Member n) → SameMember m n }
-    ensures item { (x y : Item) → SameItemForm x y → SameItem x y }
-    ensures model { (m n : Model) → SameModelForm m n → SameModel m n }
-{}
-
-/// Each name of a text's tree has a number in the tree's table, and no list of the tree has more
-/// items than the text has bytes.
-pub fn trees_keep()
-    ensures { (bytes : List ℕ) → TreesKeep bytes }
 {}

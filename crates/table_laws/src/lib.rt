@@ -9,5 +9,5 @@ mod gate_laws;
 mod round_laws;
 
 pub use drawn::drawn_sets;
-pub use gate_laws::{ordered_table, table_agrees};
-pub use round_laws::{known_facts, seen_conflicts};
+pub use gate_laws::gate_table_laws;
+pub use round_laws::round_laws;

@@ -9,15 +9,15 @@ ghost use Rattle.ar_firing.specs.Operands.{HasFault};
 ghost use Rattle.table_laws.specs.Known.{IsKnown, IsConflict, AreOfFlows};
 ghost use Rattle.table_laws.specs.RoundLaws.{HasTotals};
 
-/// What is known after the rounds of all blocks are facts.
-pub fn known_facts<V>()
-    ensures { (net : Net V) (t : List Value) (blocks : List (List V)) (known : V → Value → Bool)
+/// Laws of the rounds of the blocks.
+///
+/// - `known_facts`: What is known after the rounds of all blocks are facts.
+/// - `fault`, `flows`: Of a state that has an outcome, as each has: where a conflict is seen, its flows are a
+///   fault, and where none is seen, it has flows, and they are the total values of what is known. So as many
+///   rounds as a block has flows are enough.
+pub fn round_laws<V>()
+    ensures known_facts { (net : Net V) (t : List Value) (blocks : List (List V)) (known : V → Value → Bool)
         → IsKnown net t blocks known → (x : V) (v : Value) → known x v ≡ true → FactOf net t x v }
-{}
-
-/// Of a state that has an outcome, as each has: where a conflict is seen, its flows are a fault, and where none is seen,
-/// it has flows, and they are the total values of what is known. So as many rounds as a block has flows are enough.
-pub fn seen_conflicts<V>()
     ensures fault { (net : Net V) (t : List Value) (blocks : List (List V))
         (known : V → Value → Bool) (o : Outcome)
         → AreKeyed net → AreOfFlows net blocks → IsKnown net t blocks known → Flows net t o

@@ -11,8 +11,8 @@ ghost use Rattle.class_table.specs.Rules.{BreaksTextRule};
 ghost use Rattle.hierarchy.specs.Models.{RootedModel, IsRootedIn};
 ghost use Rattle.unit_laws.specs.Tables.{AreSeenAlike, SameTable};
 
-use class_table::{one_declared, one_list_of_members};
-use parser_laws::readings::{agreement_opens, one_tree};
+use class_table::declaring_laws;
+use parser_laws::readings::{agreement_opens, one_reading};
 
 /// Models that agree declare tables that agree: the same bodies with members that agree, the same types,
 /// symbols and top-level blocks, all in one order.
@@ -21,7 +21,7 @@ pub fn tables_agree()
         → SameTable d e }
 {
     agreement_opens();
-    one_declared();
+    declaring_laws();
 }
 
 /// Whatever its limit of nesting, a text declares one table: those of two readings of it agree.
@@ -29,7 +29,7 @@ pub fn one_table_of_a_text()
     ensures { (text : List ℕ) (n : ℕ) (x y : Model) (d e : Declared) → ReadsWithin n text x
         → ReadsWithin n text y → IsDeclared x d → IsDeclared y e → SameTable d e }
 {
-    one_tree();
+    one_reading();
     tables_agree();
 }
 
@@ -40,7 +40,7 @@ pub fn members_agree()
         → Members e b ys → xs ≡ ys }
 {
     agreement_opens();
-    one_list_of_members();
+    declaring_laws();
 }
 
 /// However a text is read, each of its bodies has at most one list of members.
@@ -60,10 +60,9 @@ pub fn texts_are_seen_alike()
         → ReadsWithin k text x → ReadsWithin k text y → IsRootedIn x main m → IsRootedIn y main n
         → AreSeenAlike main m n }
 {
-    one_tree();
+    one_reading();
     agreement_opens();
-    one_declared();
-    one_list_of_members();
+    declaring_laws();
 }
 
 /// However a text is read, it breaks the same of the rules L1 to L5 at the same places.
@@ -73,7 +72,7 @@ pub fn texts_break_the_same_rules()
         → (main : Option (List ℕ)) (r : ℕ) (p : Place)
         → (BreaksTextRule x main d r p ↔ BreaksTextRule y main e r p) }
 {
-    one_tree();
+    one_reading();
     agreement_opens();
     tables_agree();
 }

@@ -6,7 +6,7 @@ use Rattle.altarica_run.proofs.cutting.draw.Goals as goal
 pub diagrams-requires-clause-table : goal.diagrams-requires-clause-table
 diagrams-requires-clause-table c =
     let r = c.requires.analysed in
-    ordered r.0 r.1 c.args.forest.now c.args.table.now r.2 c.ordered_table.ensures
+    ordered r.0 r.1 c.args.forest.now c.args.table.now r.2 c.gate_table_laws.ensures.ordered_table
 
 pub diagrams-requires-clause-trees : goal.diagrams-requires-clause-trees
 diagrams-requires-clause-trees c =

@@ -60,7 +60,7 @@ returns-in_err-print_conflict g c = λ job w drawn.
     let kinds = c.lawful_systems.ensures.net p sound in
     let f = forest_is w p trees gates is in
     let a = agrees w p trees gates is kinds (λ o h. c.lawful_systems.ensures.observers p o sound h)
-    c.table_agrees.ensures.agrees in
+    c.gate_table_laws.ensures.agrees in
     let d = are_drawn w p trees gates is kinds (λ o h. c.lawful_systems.ensures.observers p o sound h)
     c.drawn_sets.ensures.meant (Conflicts c.args.family) drawn.answer in
     let k = conflict_printed w p trees gates is job drawn.lists
@@ -82,7 +82,7 @@ returns g c = λ job w drawn.
     let kinds = c.lawful_systems.ensures.net p sound in
     let f = forest_is w p trees gates is in
     let a = agrees w p trees gates is kinds (λ o h. c.lawful_systems.ensures.observers p o sound h)
-    c.table_agrees.ensures.agrees in
+    c.gate_table_laws.ensures.agrees in
     let d = are_drawn w p trees gates is kinds (λ o h. c.lawful_systems.ensures.observers p o sound h)
     c.drawn_sets.ensures.meant (Conflicts c.args.family) drawn.answer in
     let k = conflict_printed w p trees gates is job drawn.lists

@@ -70,7 +70,7 @@ returns-in_err-print_cuts g c = λ job w drawn e.
     let d = are_drawn w p trees gates is kinds (λ o h. c.lawful_systems.ensures.observers p o sound h)
     c.drawn_sets.ensures.meant (Cuts f) drawn.answer in
     let a = agrees w p trees gates is kinds (λ o h. c.lawful_systems.ensures.observers p o sound h)
-    c.table_agrees.ensures.agrees in
+    c.gate_table_laws.ensures.agrees in
     let forest = forest_is w p trees gates is in
     let o = source_observer w p trees gates is in
     let q = renamed w p trees gates is in
@@ -100,7 +100,7 @@ returns g c = λ job w drawn e.
     let d = are_drawn w p trees gates is kinds (λ o h. c.lawful_systems.ensures.observers p o sound h)
     c.drawn_sets.ensures.meant (Cuts f) drawn.answer in
     let a = agrees w p trees gates is kinds (λ o h. c.lawful_systems.ensures.observers p o sound h)
-    c.table_agrees.ensures.agrees in
+    c.gate_table_laws.ensures.agrees in
     let forest = forest_is w p trees gates is in
     let o = source_observer w p trees gates is in
     let q = renamed w p trees gates is in

@@ -11,5 +11,5 @@ returns-in_err-classes c =
 pub returns : goal.returns
 returns c =
     let h = rw c.word_of.ensures at c.in_ok-classes.ensures in
-    table_stands c.args.main.now c.args.model (c.one_declared.ensures c.args.model) h.0 _ h.1 h.2
+    table_stands c.args.main.now c.args.model (c.declaring_laws.ensures.one_declared c.args.model) h.0 _ h.1 h.2
     (c.tables_are_rooted.ensures c.args.model c.args.main.now h.0 h.1)

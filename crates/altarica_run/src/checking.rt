@@ -21,7 +21,7 @@ use check_text::laws::check_of_the_source;
 use check_text::print_check;
 use cut_check::{Verdict, verdicts};
 use cut_text::PrintFault;
-use cut_text::laws::edges_of_forests;
+use cut_text::laws::edges_and_lines;
 use gate_diagrams::{Drawn, Family};
 use gts_core::Chain;
 use gts_core::laws::lawful_systems;
@@ -29,7 +29,7 @@ use min_cuts::Lister;
 use mode_trees::Forest;
 use std::alloc::Global;
 use table_laws::{drawn_sets, gate_table_laws};
-use zdd_nodes::{room_for_families, stored_sections};
+use zdd_nodes::store_laws;
 
 /// Writes what is to be said of each line of the list, and the cuts that it lacks.
 pub(crate) fn write_check<K: Sink>(
@@ -54,10 +54,9 @@ pub(crate) fn write_check<K: Sink>(
     lawful_systems();
     gate_table_laws();
     drawn_sets();
-    edges_of_forests();
+    edges_and_lines();
     check_of_the_source();
-    stored_sections();
-    room_for_families();
+    store_laws();
     let system = &request.system;
     let _sound_parts = system.parts();
     let _sound_store = family.store.len();

@@ -13,9 +13,7 @@ ghost use Rattle.altarica_run.specs.Tells.{MayNeedMore, nodes_line, Tells};
 use crate::status::Status;
 use crate::tabling::GateTable;
 use ar_io::{Sink, SinkFailed, write_number, write_text};
-use cut_text::laws::{
-    conflicts_of_the_source, cuts_of_the_source, edges_of_forests, lines_of_the_source_replay,
-};
+use cut_text::laws::{cuts_of_the_source, edges_and_lines};
 use cut_text::{PrintFault, print_conflict, print_cuts};
 use gate_diagrams::{Drawn, Family, diagrams};
 use gts_core::Gts;
@@ -24,7 +22,7 @@ use min_cuts::{Lister, counts};
 use mode_trees::Forest;
 use std::alloc::Global;
 use table_laws::{drawn_sets, gate_table_laws};
-use zdd_nodes::{NodeFault, room_for_families, stored_sections};
+use zdd_nodes::{NodeFault, store_laws};
 
 /// Draws the conflict sets of a gate table or, where there are none, the cuts of its value, with at most
 /// so many nodes.
@@ -43,7 +41,7 @@ pub(crate) fn draw(
     // The table's gates are in order, the trees of a static system's forest are trees, and which
     // nodes may be needed does not rest on the numbers of ways.
     gate_table_laws();
-    edges_of_forests();
+    edges_and_lines();
     drawn_sets();
     diagrams(alloc, &table.equations, forest, nodes)
 }
@@ -68,11 +66,9 @@ pub(crate) fn write_cuts<K: Sink>(
     lawful_systems();
     gate_table_laws();
     drawn_sets();
-    edges_of_forests();
+    edges_and_lines();
     cuts_of_the_source();
-    lines_of_the_source_replay();
-    stored_sections();
-    room_for_families();
+    store_laws();
     let _sound_parts = system.parts();
     let _sound_store = family.store.len();
     let counted = counts(alloc, &family)?;
@@ -100,8 +96,8 @@ pub(crate) fn write_conflict<K: Sink>(
     lawful_systems();
     gate_table_laws();
     drawn_sets();
-    edges_of_forests();
-    conflicts_of_the_source();
+    edges_and_lines();
+    cuts_of_the_source();
     let _sound_parts = system.parts();
     let lister = Lister::open(alloc, family, forest)?;
     print_conflict(alloc, system, forest, lister, out)?;

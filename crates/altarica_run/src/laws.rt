@@ -101,20 +101,19 @@ pub fn listings_are_whole()
     one_job();
 }
 
-/// Words that are no job, and those of a command that makes its model, leave the shelf as it was: of
-/// no name what is told of it changes, nor its count of faults.
-pub fn untouched_shelves()
-    ensures no_job { (c : Call) (s : Status) → Gave c s → IsNoJob c.words → IsShelfSame c }
-    ensures made { (c : Call) (s : Status) (job : Job) → Gave c s → IsJob c.words job
+/// When the shelf and the sink are as they were.
+///
+/// - `untouched_without_job`, `untouched_where_made`: Words that are no job, and those of a command that makes
+///   its model, leave the shelf as it was: of no name what is told of it changes, nor its count of faults.
+/// - `refused_memory_writes_nothing`: Where memory is refused nothing was written, and the sink met no fault,
+///   unless the job is a replay, which writes as it goes.
+pub fn shelves_and_sinks()
+    ensures untouched_without_job { (c : Call) (s : Status) → Gave c s → IsNoJob c.words → IsShelfSame c }
+    ensures untouched_where_made { (c : Call) (s : Status) (job : Job) → Gave c s → IsJob c.words job
         → makes_model job.command ≡ true → IsShelfSame c }
+    ensures refused_memory_writes_nothing { (c : Call) → Gave c status.Memory
+        → ((job : Job) → IsJob c.words job → job.command ≢ Replay)
+        → sink_after c ≡ sink_before c }
 {
     one_job();
 }
-
-/// Where memory is refused nothing was written, and the sink met no fault, unless the job is a
-/// replay, which writes as it goes.
-pub fn refused_memory_writes_nothing()
-    ensures { (c : Call) → Gave c status.Memory
-        → ((job : Job) → IsJob c.words job → job.command ≢ Replay)
-        → sink_after c ≡ sink_before c }
-{}

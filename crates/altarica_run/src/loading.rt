@@ -12,7 +12,7 @@ use crate::refusals::{FileKind, Refusal};
 use crate::stops::Stop;
 use ar_base::{Count, Text};
 use ar_io::{LoadFault, Shelf};
-use run_words::laws::generated_models_are_short;
+use run_words::laws::one_job;
 use run_words::{Job, make_text};
 use std::alloc::Global;
 
@@ -35,7 +35,7 @@ pub fn job_texts<H: Shelf>(alloc: Global, shelf: &mut H, job: &Job) -> Result<Te
         job.now result }
 {
     // A made model is short.
-    generated_models_are_short();
+    one_job();
     if makes_model(job.command) {
         let model = make_text(alloc, job.number)?;
         return Ok(Texts {

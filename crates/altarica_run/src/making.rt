@@ -20,7 +20,7 @@ use gts_core::{Gts, GtsParts};
 use min_cuts::{Counted, counts};
 use std::alloc::Global;
 use table_laws::drawn_sets;
-use zdd_nodes::{room_for_families, stored_sections};
+use zdd_nodes::store_laws;
 
 /// Writes how large the made model of so many components is, how many cuts it has, and how large the
 /// largest is.
@@ -41,8 +41,7 @@ pub(crate) fn write_made<K: Sink>(
     // What is drawn are the cuts, and what is stored has room for their sections.
     lawful_systems();
     drawn_sets();
-    stored_sections();
-    room_for_families();
+    store_laws();
     let parts = system.parts();
     let _sound_store = family.store.len();
     let counted = counts(alloc, family)?;

@@ -16,33 +16,31 @@ ghost use Rattle.altarica_run.specs.declared.status.Status.TheVariants as status
 
 use crate::laws::one_job;
 
-/// Where more nodes than a limit may be needed, more than any smaller limit may be: so a limit that
-/// cannot be too small for a job stays so when it is raised.
-pub fn larger_limits_suffice()
-    ensures { (w : Ready) (less more : ℕ) → less ≤ more → MayNeedMore w more → MayNeedMore w less }
-{}
-
-/// Where no more nodes than the job's limit may be needed, the line `nodes: N` does not come: where
-/// some set of events meets a conflict, the job tells the conflict, and where none does, the cuts.
+/// Where no more nodes than the limit may be needed, they suffice.
+///
+/// - `larger_limits_suffice`: Where more nodes than a limit may be needed, more than any smaller limit may be:
+///   so a limit that cannot be too small for a job stays so when it is raised.
+/// - `conflict_with_enough`, `listing_with_enough`: Where no more nodes than the job's limit may be needed, the
+///   line `nodes: N` does not come: where some set of events meets a conflict, the job tells the conflict, and
+///   where none does, the cuts.
+/// - `call_with_conflict`, `call_with_listing`: The same of a call: with enough nodes and a conflict it ends
+///   with Fault, and with enough and none with Done, unless a stage refuses the job, a file is not read, the
+///   sink fails or memory is refused.
 pub fn enough_nodes_suffice()
-    ensures conflict { (job : Job) (w : Ready) (text : List ℕ) (s : Status) → Tells job w text s
+    ensures larger_limits_suffice { (w : Ready) (less more : ℕ) → less ≤ more → MayNeedMore w more → MayNeedMore w less }
+    ensures conflict_with_enough { (job : Job) (w : Ready) (text : List ℕ) (s : Status) → Tells job w text s
         → lists_cuts job.command ≡ true → (MayNeedMore w job.nodes → ⊥) → HasConflict w
         → (s ≡ status.Fault)
         × IsConflictText (naming_of w.source.declarations) w.source.system w.dropped text }
-    ensures listing { (job : Job) (w : Ready) (text : List ℕ) (s : Status) → Tells job w text s
+    ensures listing_with_enough { (job : Job) (w : Ready) (text : List ℕ) (s : Status) → Tells job w text s
         → lists_cuts job.command ≡ true → (MayNeedMore w job.nodes → ⊥)
         → IsConflictFree w.source.system w.dropped
         → (s ≡ status.Done) × IsTextOfCuts job.command job w text }
-{}
-
-/// The same of a call: with enough nodes and a conflict it ends with Fault, and with enough and none
-/// with Done, unless a stage refuses the job, a file is not read, the sink fails or memory is refused.
-pub fn calls_with_enough_nodes()
-    ensures conflict { (c : Call) (s : Status) (job : Job) → Gave c s → IsJob c.words job
+    ensures call_with_conflict { (c : Call) (s : Status) (job : Job) → Gave c s → IsJob c.words job
         → lists_cuts job.command ≡ true → HasEnough c job → OfAllReady c job HasConflict
         → (s ≡ status.Fault)
         ⊎ (IsRefused c s ⊎ (IsNotRead c ⊎ (SinkRose c ⊎ (s ≡ status.Memory)))) }
-    ensures listing { (c : Call) (s : Status) (job : Job) → Gave c s → IsJob c.words job
+    ensures call_with_listing { (c : Call) (s : Status) (job : Job) → Gave c s → IsJob c.words job
         → lists_cuts job.command ≡ true → HasEnough c job
         → OfAllReady c job (λ w. IsConflictFree w.source.system w.dropped)
         → (s ≡ status.Done)

@@ -22,7 +22,7 @@ use module_text::laws::modules_of_the_source;
 use module_text::print_modules;
 use std::alloc::Global;
 use table_laws::drawn_sets;
-use zdd_nodes::{room_for_families, stored_sections};
+use zdd_nodes::store_laws;
 
 /// Writes the modules of the cuts, and the cuts in short.
 pub(crate) fn write_modules<K: Sink>(
@@ -47,8 +47,7 @@ pub(crate) fn write_modules<K: Sink>(
     lawful_systems();
     drawn_sets();
     modules_of_the_source();
-    stored_sections();
-    room_for_families();
+    store_laws();
     let _sound_parts = system.parts();
     let _sound_store = family.store.len();
     let short = shorten(alloc, family, ranges)?;

@@ -18,21 +18,17 @@ use ready_laws::laws::jobs_agree;
 use source_laws::sources::one_source_of_a_text;
 use unit_laws::laws::{texts_are_seen_alike, texts_break_the_same_rules};
 
-/// All stages of a job that come after sources that are alike have at most one answer: both jobs stand
-/// ready alike, or both are refused for one reason.
-pub fn one_readiness_of_alike_sources()
-    ensures { (x y : Elaborated) → SameSource x y → IsDefinite y → (job : Job)
+/// Jobs of sources that are alike have at most one answer.
+///
+/// - `one_readiness_of_alike_sources`: All stages of a job that come after sources that are alike have at most
+///   one answer: both jobs stand ready alike, or both are refused for one reason.
+/// - `one_answer_of_alike_sources`: Of sources that are alike the words of a job say at most one text and end
+///   in one way, save that, where cuts are asked for, the line `nodes: N` may stand beside it.
+pub fn one_answer_of_alike_sources()
+    ensures one_readiness_of_alike_sources { (x y : Elaborated) → SameSource x y → IsDefinite y → (job : Job)
         (texts : List (List ℕ)) (a b : Result Ready Refusal) → Readies job texts x a
         → Readies job texts y b → SameAnswer SameReady a b }
-{
-    one_list();
-    jobs_agree();
-}
-
-/// Of sources that are alike the words of a job say at most one text and end in one way, save that, where
-/// cuts are asked for, the line `nodes: N` may stand beside it.
-pub fn one_answer_of_alike_sources()
-    ensures { (x y : Elaborated) → SameSource x y → IsDefinite y → (job : Job)
+    ensures one_answer_of_alike_sources { (x y : Elaborated) → SameSource x y → IsDefinite y → (job : Job)
         (texts : List (List ℕ)) (s t : List ℕ) (a b : Status) → SaysOf job texts x s a
         → SaysOf job texts y t b → AgreeButNodes job s a t b }
 {

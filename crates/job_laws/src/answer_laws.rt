@@ -44,24 +44,64 @@ use parser_laws::readings::one_reading;
 use unit_laws::laws::{texts_are_seen_alike, texts_break_the_same_rules};
 use unit_laws::units::one_tree_of_a_text;
 
-/// A text is never both read and refused: two readings of it agree, and it is refused for one cause, at
-/// one place.
-pub fn one_reading_or_refusal()
-    ensures { (text : List ℕ) (x y : Result Model Refusal) → Parses text x → Parses text y
+/// However a text is read, each stage of its model has at most one answer.
+///
+/// - `one_reading_or_refusal`: A text is never both read and refused: two readings of it agree, and it is
+///   refused for one cause, at one place.
+/// - `one_table_or_refusal`: However a text is read, the stage of the rules L1 to L5 has at most one answer:
+///   the text is seen alike from the main block that is asked for, or it is refused with one rule at one place,
+///   never both.
+/// - `one_unfolding_or_refusal`: However a text is read, the stages of the rules L1 to L5 and of its units have
+///   at most one answer: the text has the same units in models that agree, or it is refused for one limit, or
+///   with one rule at one place.
+pub fn one_stage_each()
+    ensures one_reading_or_refusal { (text : List ℕ) (x y : Result Model Refusal) → Parses text x → Parses text y
         → SameAnswer SameModel x y }
+    ensures one_table_or_refusal { (text : List ℕ) (main : Option (List ℕ)) (x y : Model)
+        (a b : Result RootedModel RuleFault) → Reads text x → Reads text y → Tables main x a
+        → Tables main y b → SameAnswer (AreSeenAlike main) a b }
+    ensures one_unfolding_or_refusal { (text : List ℕ) (main : Option (List ℕ)) (x y : Model)
+        (a b : Result Unfolded RuleFault) → Reads text x → Reads text y
+        → Then (Tables main) Instantiates x a → Then (Tables main) Instantiates y b
+        → SameAnswer SameUnfolded a b }
 {
     one_reading();
+    texts_are_seen_alike();
+    texts_break_the_same_rules();
+    one_tree_of_a_text();
 }
 
-/// First tokens of a text fit where they open no production inside so many others and begin a text in
-/// which a production too deep is one token. Where they fit, some text of the grammar begins with them,
-/// of some nesting. So a text that is refused for its syntax is refused at the
-/// first token with which no text goes on, and its tokens before that one begin some text.
-pub fn fitting_fronts_are_viable()
-    ensures { (text : List ℕ) (front rest : Tokens) (names : List (List ℕ)) (end : Place)
+/// What a job asks of a definite source, and what it then says, is at most one thing.
+///
+/// - `one_request`: What the words, the script and the list of cuts of a job ask of a source is at most one
+///   thing, or they are refused in one way.
+/// - `one_readiness`: All stages of a job that come after its source have at most one answer: a job that passes
+///   them is not refused as well, and it is refused for one reason.
+/// - `one_saying`: Of one source the words of a job say at most one text and end in one way, save that, where
+///   cuts are asked for, the line `nodes: N` may stand beside it.
+/// - `one_text`: A job that has passed its stages tells at most one text and ends in one way, save that, where
+///   cuts are asked for, the line `nodes: N` may stand beside it.
+/// - `fitting_fronts_are_viable`: First tokens of a text fit where they open no production inside so many
+///   others and begin a text in which a production too deep is one token. Where they fit, some text of the
+///   grammar begins with them, of some nesting. So a text that is refused for its syntax is refused at the
+///   first token with which no text goes on, and its tokens before that one begin some text.
+pub fn one_asking()
+    ensures one_request { (x : Elaborated) → IsDefinite x → (job : Job) (texts : List (List ℕ))
+        (a b : Result Ready Refusal) → Asks job texts x a → Asks job texts x b → a ≡ b }
+    ensures one_readiness { (x : Elaborated) → IsDefinite x → (job : Job) (texts : List (List ℕ))
+        (a b : Result Ready Refusal) → Readies job texts x a → Readies job texts x b → a ≡ b }
+    ensures one_saying { (x : Elaborated) → IsDefinite x → (job : Job) (texts : List (List ℕ))
+        (s t : List ℕ) (a b : Status) → SaysOf job texts x s a → SaysOf job texts x t b
+        → AgreeButNodes job s a t b }
+    ensures one_text { (x : Elaborated) → IsDefinite x → (job : Job) (texts : List (List ℕ)) (w : Ready)
+        → Readies job texts x (Ok w) → (s t : List ℕ) (a b : Status)
+        → Tells job w s a → Tells job w t b → AgreeButNodes job s a t b }
+    ensures fitting_fronts_are_viable { (text : List ℕ) (front rest : Tokens) (names : List (List ℕ)) (end : Place)
         → AreLexemes text (front ++ rest) names end → (n : ℕ) → FitsNesting n front
         → Viable front }
-{}
+{
+    one_list();
+}
 
 /// A text without a tree, and a rule that a text or its units break, are told.
 ///
@@ -128,66 +168,6 @@ pub fn read_texts_are_no_syntax_errors()
     one_reading();
 }
 
-/// However a text is read, the stage of the rules L1 to L5 has at most one answer: the text is seen alike from the
-/// main block that is asked for, or it is refused with one rule at one place, never both.
-pub fn one_table_or_refusal()
-    ensures { (text : List ℕ) (main : Option (List ℕ)) (x y : Model)
-        (a b : Result RootedModel RuleFault) → Reads text x → Reads text y → Tables main x a
-        → Tables main y b → SameAnswer (AreSeenAlike main) a b }
-{
-    texts_are_seen_alike();
-    texts_break_the_same_rules();
-}
-
-/// However a text is read, the stages of the rules L1 to L5 and of its units have at most one answer: the
-/// text has the same units in models that agree, or it is refused for one limit, or with one rule at one place.
-pub fn one_unfolding_or_refusal()
-    ensures { (text : List ℕ) (main : Option (List ℕ)) (x y : Model)
-        (a b : Result Unfolded RuleFault) → Reads text x → Reads text y
-        → Then (Tables main) Instantiates x a → Then (Tables main) Instantiates y b
-        → SameAnswer SameUnfolded a b }
-{
-    texts_are_seen_alike();
-    texts_break_the_same_rules();
-    one_tree_of_a_text();
-}
-
-/// What the words, the script and the list of cuts of a job ask of a source is at most one thing, or
-/// they are refused in one way.
-pub fn one_request()
-    ensures { (x : Elaborated) → IsDefinite x → (job : Job) (texts : List (List ℕ))
-        (a b : Result Ready Refusal) → Asks job texts x a → Asks job texts x b → a ≡ b }
-{
-    one_list();
-}
-
-/// All stages of a job that come after its source have at most one answer: a job that passes them is not
-/// refused as well, and it is refused for one reason.
-pub fn one_readiness()
-    ensures { (x : Elaborated) → IsDefinite x → (job : Job) (texts : List (List ℕ))
-        (a b : Result Ready Refusal) → Readies job texts x a → Readies job texts x b → a ≡ b }
-{
-    one_list();
-}
-
-/// A job that has passed its stages tells at most one text and ends in one way, save that, where cuts are
-/// asked for, the line `nodes: N` may stand beside it.
-pub fn one_text()
-    ensures { (x : Elaborated) → IsDefinite x → (job : Job) (texts : List (List ℕ)) (w : Ready)
-        → Readies job texts x (Ok w) → (s t : List ℕ) (a b : Status)
-        → Tells job w s a → Tells job w t b → AgreeButNodes job s a t b }
-{}
-
-/// Of one source the words of a job say at most one text and end in one way, save that, where cuts are asked
-/// for, the line `nodes: N` may stand beside it.
-pub fn one_saying()
-    ensures { (x : Elaborated) → IsDefinite x → (job : Job) (texts : List (List ℕ))
-        (s t : List ℕ) (a b : Status) → SaysOf job texts x s a → SaysOf job texts x t b
-        → AgreeButNodes job s a t b }
-{
-    one_list();
-}
-
 /// The source of each text that the stages up to it pass is one of which words ask one thing: no
 /// two of its names have one text, and none of its things is listed twice.
 pub fn sources_are_definite()
@@ -197,25 +177,21 @@ pub fn sources_are_definite()
     one_reading();
 }
 
-/// A call of `modules` that ends well writes short forms that stand for the cuts: each choice of one
-/// set of the module for each unit of a form makes a cut with the form's events, and each cut comes
-/// from just one form and one choice.
-pub fn modules_stand_for_cuts()
-    ensures { (c : Call) (job : Job) → Gave c status.Done → IsJob c.words job
+/// What a listing shows stands in the source.
+///
+/// - `modules_stand_for_cuts`: A call of `modules` that ends well writes short forms that stand for the cuts:
+///   each choice of one set of the module for each unit of a form makes a cut with the form's events, and each
+///   cut comes from just one form and one choice.
+/// - `conflicts_are_met`: A line `fault: ..` of a job that tells of cuts meets its fault: its labels are those
+///   of a least set that meets a conflict, and fired as they stand in the whole model, dropped events included,
+///   they meet this flow fault at the last of them, and none before.
+pub fn cuts_are_cuts()
+    ensures modules_stand_for_cuts { (c : Call) (job : Job) → Gave c status.Done → IsJob c.words job
         → job.command ≡ Modules → AreModulesOf c job }
-{
-    one_job();
-    one_reading();
-    combinations_are_cuts();
-}
-
-/// A line `fault: ..` of a job that tells of cuts meets its fault: its labels are those of a least set
-/// that meets a conflict, and fired as they stand in the whole model, dropped events included, they
-/// meet this flow fault at the last of them, and none before.
-pub fn conflicts_are_met()
-    ensures { (c : Call) (job : Job) → Gave c status.Fault → IsJob c.words job
+    ensures conflicts_are_met { (c : Call) (job : Job) → Gave c status.Fault → IsJob c.words job
         → lists_cuts job.command ≡ true → IsConflictOf c job }
 {
     one_job();
     one_reading();
+    combinations_are_cuts();
 }

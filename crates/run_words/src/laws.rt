@@ -7,12 +7,11 @@ ghost use Rattle.run_words.specs.declared.jobs.Job.{Job};
 ghost use Rattle.run_words.specs.Generator.{generated};
 ghost use Rattle.run_words.specs.Jobs.{IsJob};
 
-/// Words give at most one job.
+/// Words give at most one job, and generated models are short.
+///
+/// - `one_job`: Words give at most one job.
+/// - `generated_models_are_short`: The text of a generated model is within the limit of a model's bytes.
 pub fn one_job()
-    ensures { (words : List (List ℕ)) (a b : Job) → IsJob words a → IsJob words b → a ≡ b }
-{}
-
-/// The text of a generated model is within the limit of a model's bytes.
-pub fn generated_models_are_short()
-    ensures { (number : ℕ) → number ≤ 200 → length (generated number) ≤ limit_of ModelBytes }
+    ensures one_job { (words : List (List ℕ)) (a b : Job) → IsJob words a → IsJob words b → a ≡ b }
+    ensures generated_models_are_short { (number : ℕ) → number ≤ 200 → length (generated number) ≤ limit_of ModelBytes }
 {}

@@ -163,12 +163,11 @@ impl Store {
     }
 }
 
-/// Each counted section of a stored family is stored.
-pub fn stored_sections()
-    ensures { SectionsAreStored }
-{}
-
-/// Different families take different nodes.
-pub fn room_for_families()
-    ensures { EachTakesANode }
+/// Laws of stores of families.
+///
+/// - `stored_sections`: Each counted section of a stored family is stored.
+/// - `room_for_families`: Different families take different nodes.
+pub fn store_laws()
+    ensures stored_sections { SectionsAreStored }
+    ensures room_for_families { EachTakesANode }
 {}

@@ -20,7 +20,7 @@ open-requires-clause-trees g c =
     let d = r.4 in
     let p = c.args.request.now.system in
     let f = c.args.forest.now in
-    c.edges_of_forests.ensures.trees d.gates.flat.flat r.1.dropped (both r.1 p f d.table d.gates)
+    c.edges_and_lines.ensures.trees d.gates.flat.flat r.1.dropped (both r.1 p f d.table d.gates)
     (number_in p) f (own_forest r.1 p f d.table d.gates)
 
 pub open-requires-clause-firable : goal.open-requires-clause-firable
@@ -48,12 +48,12 @@ print_check-requires-clause-one_way g c =
     let d = r.4 in
     let p = c.args.request.now.system in
     let f = c.args.forest.now in
-    c.edges_of_forests.ensures.one_way d.gates.flat.flat r.1.dropped (both r.1 p f d.table d.gates)
+    c.edges_and_lines.ensures.one_way d.gates.flat.flat r.1.dropped (both r.1 p f d.table d.gates)
     (number_in p) f (own_forest r.1 p f d.table d.gates)
 
 pub print_check-requires-clause-known : goal.print_check-requires-clause-known
 print_check-requires-clause-known g c =
-    c.edges_of_forests.ensures.known c.args.forest.now (sets_of c.args.family) _ c.in_ok-lister.ensures.lines
+    c.edges_and_lines.ensures.known c.args.forest.now (sets_of c.args.family) _ c.in_ok-lister.ensures.lines
 
 pub returns-in_err-print_check : goal.returns-in_err-print_check
 returns-in_err-print_check g c = λ job w asked lines drawn e.
@@ -76,7 +76,7 @@ returns-in_err-print_check g c = λ job w asked lines drawn e.
     c.in_ok-said.said.items (λ o at. c.in_ok-said.ensures w asked is.flat.flat is.flat.views o at) in
     let verdicts = subst (λ (z : List Verdict). AreVerdicts p is.flat.flat w.dropped (observed w p trees gates is)
     t.wanted.value c.args.chains.now z) (sym c.deref.ensures.value) said in
-    let few = few_counted c.stored_sections.ensures c.room_for_families.ensures f.store f.root.n job.nodes
+    let few = few_counted c.store_laws.ensures.stored_sections c.store_laws.ensures.room_for_families f.store f.root.n job.nodes
     c.len-sound_store.ensures.sound drawn.answer.1 drawn.within in
     let told = checks_told w p trees gates is job e c.args.chains.now lines.are (sets_of f) _ d.0 d.1
     (c.check_of_the_source.ensures w.source p is.flat.flat w.dropped trees forest o (observed w p trees gates is) q
@@ -103,7 +103,7 @@ returns g c = λ job w asked lines drawn e.
     c.in_ok-said.said.items (λ o at. c.in_ok-said.ensures w asked is.flat.flat is.flat.views o at) in
     let verdicts = subst (λ (z : List Verdict). AreVerdicts p is.flat.flat w.dropped (observed w p trees gates is)
     t.wanted.value c.args.chains.now z) (sym c.deref.ensures.value) said in
-    let few = few_counted c.stored_sections.ensures c.room_for_families.ensures f.store f.root.n job.nodes
+    let few = few_counted c.store_laws.ensures.stored_sections c.store_laws.ensures.room_for_families f.store f.root.n job.nodes
     c.len-sound_store.ensures.sound drawn.answer.1 drawn.within in
     let told = checks_told w p trees gates is job e c.args.chains.now lines.are (sets_of f) _ d.0 d.1
     (c.check_of_the_source.ensures w.source p is.flat.flat w.dropped trees forest o (observed w p trees gates is) q

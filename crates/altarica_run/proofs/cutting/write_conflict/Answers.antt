@@ -18,7 +18,7 @@ open-requires-clause-trees g c =
     let d = r.2 in
     let p = c.args.system.now in
     let f = c.args.forest.now in
-    c.edges_of_forests.ensures.trees d.gates.flat.flat r.1.dropped (both r.1 p f d.table d.gates)
+    c.edges_and_lines.ensures.trees d.gates.flat.flat r.1.dropped (both r.1 p f d.table d.gates)
     (number_in p) f (own_forest r.1 p f d.table d.gates)
 
 pub open-requires-clause-firable : goal.open-requires-clause-firable
@@ -41,12 +41,12 @@ print_conflict-requires-clause-one_way g c =
     let d = r.2 in
     let p = c.args.system.now in
     let f = c.args.forest.now in
-    c.edges_of_forests.ensures.one_way d.gates.flat.flat r.1.dropped (both r.1 p f d.table d.gates)
+    c.edges_and_lines.ensures.one_way d.gates.flat.flat r.1.dropped (both r.1 p f d.table d.gates)
     (number_in p) f (own_forest r.1 p f d.table d.gates)
 
 pub print_conflict-requires-clause-known : goal.print_conflict-requires-clause-known
 print_conflict-requires-clause-known g c =
-    c.edges_of_forests.ensures.known c.args.forest.now (sets_of c.args.family) _ c.in_ok-lister.ensures.lines
+    c.edges_and_lines.ensures.known c.args.forest.now (sets_of c.args.family) _ c.in_ok-lister.ensures.lines
 
 pub returns-in_err-print_conflict : goal.returns-in_err-print_conflict
 returns-in_err-print_conflict g c = λ job w drawn.
@@ -64,9 +64,9 @@ returns-in_err-print_conflict g c = λ job w drawn.
     let d = are_drawn w p trees gates is kinds (λ o h. c.lawful_systems.ensures.observers p o sound h)
     c.drawn_sets.ensures.meant (Conflicts c.args.family) drawn.answer in
     let k = conflict_printed w p trees gates is job drawn.lists
-    (λ set sets events lists l x. c.conflicts_of_the_source.ensures.meets w.source p is.flat.flat w.dropped
+    (λ set sets events lists l x. c.cuts_of_the_source.ensures.cuts_of_the_source.conflicts_of_the_source w.source p is.flat.flat w.dropped
     trees f (observed w p trees gates is) (table w p trees gates is).wanted.value _ _ a set sets events lists l x)
-    (λ set sets events lists fault l x y. c.conflicts_of_the_source.ensures.text w.source p is.flat.flat
+    (λ set sets events lists fault l x y. c.cuts_of_the_source.ensures.cuts_of_the_source.conflict_text_of_the_source w.source p is.flat.flat
     w.dropped trees f set sets events lists fault l x y)
     (g.K.Sink.state c.args.out.now) (g.K.Sink.state c.print_conflict.new.out) (Err c.in_err-print_conflict.field-0.0)
     (sets_of c.args.family) _ d.0 d.1 c.in_ok-lister.ensures.lines c.in_err-print_conflict.ensures in
@@ -86,9 +86,9 @@ returns g c = λ job w drawn.
     let d = are_drawn w p trees gates is kinds (λ o h. c.lawful_systems.ensures.observers p o sound h)
     c.drawn_sets.ensures.meant (Conflicts c.args.family) drawn.answer in
     let k = conflict_printed w p trees gates is job drawn.lists
-    (λ set sets events lists l x. c.conflicts_of_the_source.ensures.meets w.source p is.flat.flat w.dropped
+    (λ set sets events lists l x. c.cuts_of_the_source.ensures.cuts_of_the_source.conflicts_of_the_source w.source p is.flat.flat w.dropped
     trees f (observed w p trees gates is) (table w p trees gates is).wanted.value _ _ a set sets events lists l x)
-    (λ set sets events lists fault l x y. c.conflicts_of_the_source.ensures.text w.source p is.flat.flat
+    (λ set sets events lists fault l x y. c.cuts_of_the_source.ensures.cuts_of_the_source.conflict_text_of_the_source w.source p is.flat.flat
     w.dropped trees f set sets events lists fault l x y)
     (g.K.Sink.state c.args.out.now) (g.K.Sink.state c.print_conflict.new.out) (Ok tt) (sets_of c.args.family) _ d.0 d.1
     c.in_ok-lister.ensures.lines c.in_ok-print_conflict.ensures in

@@ -22,7 +22,7 @@ open-requires-clause-trees g c =
     let d = r.2 in
     let p = c.args.system.now in
     let f = c.args.forest.now in
-    c.edges_of_forests.ensures.trees d.gates.flat.flat r.1.dropped (both r.1 p f d.table d.gates)
+    c.edges_and_lines.ensures.trees d.gates.flat.flat r.1.dropped (both r.1 p f d.table d.gates)
     (number_in p) f (own_forest r.1 p f d.table d.gates)
 
 pub open-requires-clause-firable : goal.open-requires-clause-firable
@@ -50,12 +50,12 @@ print_cuts-requires-clause-one_way g c =
     let d = r.2 in
     let p = c.args.system.now in
     let f = c.args.forest.now in
-    c.edges_of_forests.ensures.one_way d.gates.flat.flat r.1.dropped (both r.1 p f d.table d.gates)
+    c.edges_and_lines.ensures.one_way d.gates.flat.flat r.1.dropped (both r.1 p f d.table d.gates)
     (number_in p) f (own_forest r.1 p f d.table d.gates)
 
 pub print_cuts-requires-clause-known : goal.print_cuts-requires-clause-known
 print_cuts-requires-clause-known g c =
-    c.edges_of_forests.ensures.known c.args.forest.now (sets_of c.args.family) _ c.in_ok-lister.ensures.lines
+    c.edges_and_lines.ensures.known c.args.forest.now (sets_of c.args.family) _ c.in_ok-lister.ensures.lines
 
 pub returns-in_err-print_cuts : goal.returns-in_err-print_cuts
 returns-in_err-print_cuts g c = λ job w drawn e.
@@ -75,12 +75,12 @@ returns-in_err-print_cuts g c = λ job w drawn e.
     let o = source_observer w p trees gates is in
     let q = renamed w p trees gates is in
     let v = (table w p trees gates is).wanted.value in
-    let few = few_counted c.stored_sections.ensures c.room_for_families.ensures f.store f.root.n job.nodes
+    let few = few_counted c.store_laws.ensures.stored_sections c.store_laws.ensures.room_for_families f.store f.root.n job.nodes
     c.len-sound_store.ensures.sound drawn.answer.1 drawn.within in
     let t = cuts_told w p trees gates is job e (sets_of f) _ d.0 d.1
-    (c.cuts_of_the_source.ensures w.source p is.flat.flat w.dropped trees forest o (observed w p trees gates is) q v
+    (c.cuts_of_the_source.ensures.cuts_of_the_source w.source p is.flat.flat w.dropped trees forest o (observed w p trees gates is) q v
     (sets_of f) _ d.1 c.in_ok-lister.ensures.lines)
-    (λ sets listed set one ls line. c.lines_of_the_source_replay.ensures w.source p is.flat.flat w.dropped
+    (λ sets listed set one ls line. c.cuts_of_the_source.ensures.lines_of_the_source_replay w.source p is.flat.flat w.dropped
     trees forest o (observed w p trees gates is) q v _ _ a d.0 sets listed set one ls line)
     few in
     let h = counted_text (g.K.Sink.state c.args.out.now) (g.K.Sink.state c.print_cuts.new.out) p
@@ -105,12 +105,12 @@ returns g c = λ job w drawn e.
     let o = source_observer w p trees gates is in
     let q = renamed w p trees gates is in
     let v = (table w p trees gates is).wanted.value in
-    let few = few_counted c.stored_sections.ensures c.room_for_families.ensures f.store f.root.n job.nodes
+    let few = few_counted c.store_laws.ensures.stored_sections c.store_laws.ensures.room_for_families f.store f.root.n job.nodes
     c.len-sound_store.ensures.sound drawn.answer.1 drawn.within in
     let t = cuts_told w p trees gates is job e (sets_of f) _ d.0 d.1
-    (c.cuts_of_the_source.ensures w.source p is.flat.flat w.dropped trees forest o (observed w p trees gates is) q v
+    (c.cuts_of_the_source.ensures.cuts_of_the_source w.source p is.flat.flat w.dropped trees forest o (observed w p trees gates is) q v
     (sets_of f) _ d.1 c.in_ok-lister.ensures.lines)
-    (λ sets listed set one ls line. c.lines_of_the_source_replay.ensures w.source p is.flat.flat w.dropped
+    (λ sets listed set one ls line. c.cuts_of_the_source.ensures.lines_of_the_source_replay w.source p is.flat.flat w.dropped
     trees forest o (observed w p trees gates is) q v _ _ a d.0 sets listed set one ls line)
     few in
     printed_whole (Tells job w) _ Done t tt (rw c.in_ok-counted.ensures.sets at c.in_ok-print_cuts.ensures)

@@ -15,7 +15,7 @@ returns-then-makes_model-clause-texts g c =
     let e = sym c.makes_model.ensures ∙ c.if-makes_model.true in
     let made = made_job c.requires.0 job c.requires.1 e in
     let short = subst (λ (z : List ℕ). length z ≤ limit_of ModelBytes) (sym c.in_ok-model.ensures)
-    (c.generated_models_are_short.ensures job.number made.at_most) in
+    (c.one_job.ensures.generated_models_are_short job.number made.at_most) in
     made_told told rose job e made.script (record { model = c.in_ok-model.model; script = None }) refl
     c.in_ok-model.ensures short
 

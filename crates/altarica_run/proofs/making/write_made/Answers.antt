@@ -25,7 +25,7 @@ returns-in_err-put_made g c = λ job w trees drawn e same.
     let d = are_drawn w p trees drawn.table drawn.gates (c.lawful_systems.ensures.net p sound)
     (λ o h. c.lawful_systems.ensures.observers p o sound h)
     c.drawn_sets.ensures.meant (Cuts f) drawn.answer in
-    let few = few_counted c.stored_sections.ensures c.room_for_families.ensures f.store f.root.n job.nodes
+    let few = few_counted c.store_laws.ensures.stored_sections c.store_laws.ensures.room_for_families f.store f.root.n job.nodes
     c.len-sound_store.ensures.sound drawn.answer.1 drawn.within in
     let t = make_told w p trees drawn.table drawn.gates job e c.args.number same (sets_of f) _ d.0 d.1
     (made_text c.parts-parts.ensures.parts c.args.number c.in_ok-counted.ensures.sets
@@ -40,7 +40,7 @@ returns g c = λ job w trees drawn e same.
     let d = are_drawn w p trees drawn.table drawn.gates (c.lawful_systems.ensures.net p sound)
     (λ o h. c.lawful_systems.ensures.observers p o sound h)
     c.drawn_sets.ensures.meant (Cuts f) drawn.answer in
-    let few = few_counted c.stored_sections.ensures c.room_for_families.ensures f.store f.root.n job.nodes
+    let few = few_counted c.store_laws.ensures.stored_sections c.store_laws.ensures.room_for_families f.store f.root.n job.nodes
     c.len-sound_store.ensures.sound drawn.answer.1 drawn.within in
     let t = make_told w p trees drawn.table drawn.gates job e c.args.number same (sets_of f) _ d.0 d.1
     (made_text c.parts-parts.ensures.parts c.args.number c.in_ok-counted.ensures.sets

@@ -34,7 +34,7 @@ returns-in_err-print_modules g c = λ job w drawn of e.
     let o = source_observer w p trees gates is in
     let q = renamed w p trees gates is in
     let t = table w p trees gates is in
-    let few = few_counted c.stored_sections.ensures c.room_for_families.ensures f.store f.root.n job.nodes
+    let few = few_counted c.store_laws.ensures.stored_sections c.store_laws.ensures.room_for_families f.store f.root.n job.nodes
     c.len-sound_store.ensures.sound drawn.answer.1 drawn.within in
     let told = short_told w p trees gates is job e (sets_of f) _ d.0 d.1
     (c.modules_of_the_source.ensures w.source p is.flat.flat w.dropped trees forest o (observed w p trees gates is)
@@ -57,7 +57,7 @@ returns g c = λ job w drawn of e.
     let o = source_observer w p trees gates is in
     let q = renamed w p trees gates is in
     let t = table w p trees gates is in
-    let few = few_counted c.stored_sections.ensures c.room_for_families.ensures f.store f.root.n job.nodes
+    let few = few_counted c.store_laws.ensures.stored_sections c.store_laws.ensures.room_for_families f.store f.root.n job.nodes
     c.len-sound_store.ensures.sound drawn.answer.1 drawn.within in
     let told = short_told w p trees gates is job e (sets_of f) _ d.0 d.1
     (c.modules_of_the_source.ensures w.source p is.flat.flat w.dropped trees forest o (observed w p trees gates is)

@@ -5,11 +5,11 @@ use Rattle.job_laws.proofs.told.cuts_are_told.Goals as goal
 pub returns-clause-conflicts_are_told : goal.returns-clause-conflicts_are_told
 returns-clause-conflicts_are_told c = λ k s job w gave known is lists p met enough.
     told_with k job w s status.Fault _
-    (λ text t. c.enough_nodes_suffice.ensures.conflict job w text s t lists enough met)
+    (λ text t. c.enough_nodes_suffice.ensures.conflict_with_enough job w text s t lists enough met)
     (c.jobs_are_told.ensures.told k s job w gave known is p)
 
 pub returns-clause-cuts_are_told : goal.returns-clause-cuts_are_told
 returns-clause-cuts_are_told c = λ k s job w gave known is lists p free enough.
     told_with k job w s status.Done _
-    (λ text t. c.enough_nodes_suffice.ensures.listing job w text s t lists enough free)
+    (λ text t. c.enough_nodes_suffice.ensures.listing_with_enough job w text s t lists enough free)
     (c.jobs_are_told.ensures.told k s job w gave known is p)

@@ -21,7 +21,7 @@ use check_text::laws::check_of_the_source;
 use check_text::print_check;
 use cut_check::{Verdict, verdicts};
 use cut_text::PrintFault;
-use cut_text::laws::edges_and_lines;
+use cut_text::laws::edges_of_forests;
 use gate_diagrams::{Drawn, Family};
 use gts_core::Chain;
 use gts_core::laws::lawful_systems;
@@ -54,7 +54,7 @@ pub(crate) fn write_check<K: Sink>(
     lawful_systems();
     gate_table_laws();
     drawn_sets();
-    edges_and_lines();
+    edges_of_forests();
     check_of_the_source();
     store_laws();
     let system = &request.system;

@@ -13,7 +13,7 @@ ghost use Rattle.altarica_run.specs.Tells.{MayNeedMore, nodes_line, Tells};
 use crate::status::Status;
 use crate::tabling::GateTable;
 use ar_io::{Sink, SinkFailed, write_number, write_text};
-use cut_text::laws::{cuts_of_the_source, edges_and_lines};
+use cut_text::laws::{cuts_of_the_source, edges_of_forests};
 use cut_text::{PrintFault, print_conflict, print_cuts};
 use gate_diagrams::{Drawn, Family, diagrams};
 use gts_core::Gts;
@@ -41,7 +41,7 @@ pub(crate) fn draw(
     // The table's gates are in order, the trees of a static system's forest are trees, and which
     // nodes may be needed does not rest on the numbers of ways.
     gate_table_laws();
-    edges_and_lines();
+    edges_of_forests();
     drawn_sets();
     diagrams(alloc, &table.equations, forest, nodes)
 }
@@ -66,7 +66,7 @@ pub(crate) fn write_cuts<K: Sink>(
     lawful_systems();
     gate_table_laws();
     drawn_sets();
-    edges_and_lines();
+    edges_of_forests();
     cuts_of_the_source();
     store_laws();
     let _sound_parts = system.parts();
@@ -96,7 +96,7 @@ pub(crate) fn write_conflict<K: Sink>(
     lawful_systems();
     gate_table_laws();
     drawn_sets();
-    edges_and_lines();
+    edges_of_forests();
     cuts_of_the_source();
     let _sound_parts = system.parts();
     let lister = Lister::open(alloc, family, forest)?;

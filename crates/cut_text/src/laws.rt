@@ -31,14 +31,9 @@ ghost use Rattle.cut_text.specs.Texts.{IsCutText, IsConflictText};
 
 use gts_core::laws::one_system;
 
-/// Laws of the edges of forests and of the lines of sets.
-///
-/// - `trees`, `one_way`, `known`: In a static system's forest the trees by the numbers of their ways are trees
-///   too, edges with one event have one way, and each event of a set in firing order is that of an edge.
-/// - `lines_replay`: Fired as they stand on its line, the labels of a cut reach the wanted value, in the system
-///   without the dropped events and in the whole one, where the former is static and no set meets a conflict in
-///   it.
-pub fn edges_and_lines<V>()
+/// In a static system's forest the trees by the numbers of their ways are trees too, edges with one
+/// event have one way, and each event of a set in firing order is that of an edge.
+pub fn edges_of_forests()
     ensures trees { (system : System ℕ) (dropped : List ℕ) → IsKeyedStatic system dropped
         → (number : ℕ → ℕ) (f : TheForest) → IsForest system dropped (trees_of number f)
         → AreTrees (trees_of (λ n. n) f) }
@@ -48,7 +43,50 @@ pub fn edges_and_lines<V>()
     ensures known { (f : TheForest) (sets lists : List (List ℕ))
         → AreInFiringOrder (trees_of (λ n. n) f) sets lists
         → AreOfEdges (edges_of f.trees.items) lists }
-    ensures lines_replay { (sys : System V) (dropped : List ℕ) → IsKeyedStatic sys dropped
+{}
+
+/// The listed cuts of a flat system, each printed in firing order, have the text of the cuts of its
+/// source.
+pub fn cuts_of_the_source()
+    ensures { (x : Elaborated) (p : GtsParts) (flat : System ℕ) (dropped : List ℕ) (f : TheForest)
+        → IsForestOf x p flat dropped f → (observer : Expr Thing) (other : Expr ℕ)
+        → Expr_renames (IsNumber (things_of x)) observer other → (wanted : Value)
+        (sets lists : List (List ℕ)) → AreListed (Cut flat dropped other wanted) sets
+        → AreInFiringOrder (trees_of (λ n. n) f) sets lists
+        → IsCutText (naming_of x.declarations) x.system dropped observer wanted
+        (cuts_text p (edges_of f.trees.items) lists (count sets)) }
+{
+    one_system();
+}
+
+/// The first listed conflict set of a flat system meets a flow fault in firing order, and printed
+/// with this it has the text of the conflict of its source.
+pub fn conflicts_of_the_source()
+    ensures meets { (x : Elaborated) (p : GtsParts) (flat : System ℕ) (dropped : List ℕ)
+        (f : TheForest) → IsForestOf x p flat dropped f → (other : Expr ℕ) (wanted : Value)
+        (conflict top : List ℕ → Bool) → Agrees flat dropped other wanted conflict top
+        → (set : List ℕ) (sets : List (List ℕ)) (events : List ℕ) (lists : List (List ℕ))
+        → AreListed (ConflictSet flat dropped) (set ∷ sets)
+        → AreInFiringOrder (trees_of (λ n. n) f) (set ∷ sets) (events ∷ lists)
+        → (fault : FlowFault)
+        × Conflicts flat dropped (reverse (labels_in p (edges_of f.trees.items) events)) fault }
+    ensures text { (x : Elaborated) (p : GtsParts) (flat : System ℕ) (dropped : List ℕ)
+        (f : TheForest) → IsForestOf x p flat dropped f
+        → (set : List ℕ) (sets : List (List ℕ)) (events : List ℕ) (lists : List (List ℕ))
+        (fault : FlowFault) → AreListed (ConflictSet flat dropped) (set ∷ sets)
+        → AreInFiringOrder (trees_of (λ n. n) f) (set ∷ sets) (events ∷ lists)
+        → Conflicts flat dropped (reverse (labels_in p (edges_of f.trees.items) events)) fault
+        → IsConflictText (naming_of x.declarations) x.system dropped
+        (conflict_text p (edges_of f.trees.items) events fault) }
+{
+    one_system();
+}
+
+/// Fired as they stand on its line, the labels of a cut reach the wanted value, in the system
+/// without the dropped events and in the whole one, where the former is static and no set meets a
+/// conflict in it.
+pub fn lines_replay<V>()
+    ensures { (sys : System V) (dropped : List ℕ) → IsKeyedStatic sys dropped
         → (observer : Expr V) (wanted : Value) (conflict top : List ℕ → Bool)
         → Agrees sys dropped observer wanted conflict top → IsConflictFree sys dropped
         → (sets : List (List ℕ)) → AreListed (Cut sys dropped observer wanted) sets
@@ -57,38 +95,9 @@ pub fn edges_and_lines<V>()
         × Yields (HasValue sys.net t) (out-Expr V observer) wanted }
 {}
 
-/// The text of cuts and of a conflict over a flat system is that of its source.
-///
-/// - `cuts_of_the_source`: The listed cuts of a flat system, each printed in firing order, have the text of the
-///   cuts of its source.
-/// - `conflicts_of_the_source`, `conflict_text_of_the_source`: The first listed conflict set of a flat system
-///   meets a flow fault in firing order, and printed with this it has the text of the conflict of its source.
-/// - `lines_of_the_source_replay`: The same of a source, by tests of its flat system.
-pub fn cuts_of_the_source()
-    ensures cuts_of_the_source { (x : Elaborated) (p : GtsParts) (flat : System ℕ) (dropped : List ℕ) (f : TheForest)
-        → IsForestOf x p flat dropped f → (observer : Expr Thing) (other : Expr ℕ)
-        → Expr_renames (IsNumber (things_of x)) observer other → (wanted : Value)
-        (sets lists : List (List ℕ)) → AreListed (Cut flat dropped other wanted) sets
-        → AreInFiringOrder (trees_of (λ n. n) f) sets lists
-        → IsCutText (naming_of x.declarations) x.system dropped observer wanted
-        (cuts_text p (edges_of f.trees.items) lists (count sets)) }
-    ensures conflicts_of_the_source { (x : Elaborated) (p : GtsParts) (flat : System ℕ) (dropped : List ℕ)
-        (f : TheForest) → IsForestOf x p flat dropped f → (other : Expr ℕ) (wanted : Value)
-        (conflict top : List ℕ → Bool) → Agrees flat dropped other wanted conflict top
-        → (set : List ℕ) (sets : List (List ℕ)) (events : List ℕ) (lists : List (List ℕ))
-        → AreListed (ConflictSet flat dropped) (set ∷ sets)
-        → AreInFiringOrder (trees_of (λ n. n) f) (set ∷ sets) (events ∷ lists)
-        → (fault : FlowFault)
-        × Conflicts flat dropped (reverse (labels_in p (edges_of f.trees.items) events)) fault }
-    ensures conflict_text_of_the_source { (x : Elaborated) (p : GtsParts) (flat : System ℕ) (dropped : List ℕ)
-        (f : TheForest) → IsForestOf x p flat dropped f
-        → (set : List ℕ) (sets : List (List ℕ)) (events : List ℕ) (lists : List (List ℕ))
-        (fault : FlowFault) → AreListed (ConflictSet flat dropped) (set ∷ sets)
-        → AreInFiringOrder (trees_of (λ n. n) f) (set ∷ sets) (events ∷ lists)
-        → Conflicts flat dropped (reverse (labels_in p (edges_of f.trees.items) events)) fault
-        → IsConflictText (naming_of x.declarations) x.system dropped
-        (conflict_text p (edges_of f.trees.items) events fault) }
-    ensures lines_of_the_source_replay { (x : Elaborated) (p : GtsParts) (flat : System ℕ) (dropped : List ℕ) (f : TheForest)
+/// The same of a source, by tests of its flat system.
+pub fn lines_of_the_source_replay()
+    ensures { (x : Elaborated) (p : GtsParts) (flat : System ℕ) (dropped : List ℕ) (f : TheForest)
         → IsForestOf x p flat dropped f → (observer : Expr Thing) (other : Expr ℕ)
         → Expr_renames (IsNumber (things_of x)) observer other
         → (wanted : Value) (conflict top : List ℕ → Bool)

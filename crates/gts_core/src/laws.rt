@@ -16,17 +16,17 @@ ghost use Rattle.gts_core.specs.Lawful.{IsLawful, kind_by_number};
 ghost use Rattle.gts_core.specs.declared.system.Observer.{Observer};
 ghost use Rattle.gts_core.specs.declared.system.GtsParts.{GtsParts};
 
-/// Laws of systems and what stands for them by numbers.
-///
-/// - `some_system`, `one_system`: Sound parts stand for exactly one system.
-/// - `numbered_copies`, `numbered_sources`: Numbered forms keep copies, and keep the numbers of a source's
-///   variables.
-pub fn one_system<V>()
-    ensures some_system { (p : GtsParts) → IsSound p → (system : System ℕ) × Views p system }
-    ensures one_system { (p : GtsParts) (a b : System ℕ) → Views p a → Views p b → a ≡ b }
-    ensures numbered_copies { (e f : Expr VarId) → IsCopy e f
+/// Sound parts stand for exactly one system.
+pub fn one_system()
+    ensures some { (p : GtsParts) → IsSound p → (system : System ℕ) × Views p system }
+    ensures one { (p : GtsParts) (a b : System ℕ) → Views p a → Views p b → a ≡ b }
+{}
+
+/// Numbered forms keep copies, and keep the numbers of a source's variables.
+pub fn numbered_expressions<V>()
+    ensures copies { (e f : Expr VarId) → IsCopy e f
         → Expr_renames (λ m n. m ≡ n) (numbered e) (numbered f) }
-    ensures numbered_sources { (things : List V) (e : Expr V) (f : Expr VarId)
+    ensures sources { (things : List V) (e : Expr V) (f : Expr VarId)
         → Renames (λ x y. Stands things y.n x) (out-Expr V e) (out-Expr VarId f)
         → Expr_renames (IsNumber things) e (numbered f) }
 {}

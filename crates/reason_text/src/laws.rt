@@ -15,17 +15,18 @@ ghost use Rattle.ar_firing.specs.Operands.{HasFlows};
 ghost use Rattle.reason_text.specs.Answers.{AreSameObserver};
 ghost use Rattle.reason_text.specs.Texts.{IsReasonText};
 
-/// The text of reasons over a flat system is that of its source.
-///
-/// - `reasons_of_the_source`: The text of a flat system is that of its source.
-/// - `one_reason_text`: A valuation with flows has one such text for an observer, or for none.
-pub fn reasons_of_the_source<V>()
-    ensures reasons_of_the_source { (x : Elaborated) (p : GtsParts) → IsFlat x p
+/// The text of a flat system is that of its source.
+pub fn reasons_of_the_source()
+    ensures { (x : Elaborated) (p : GtsParts) → IsFlat x p
         → (values : List Value) (observer : Option (Expr Thing)) (other : Option (Expr ℕ))
         → AreSameObserver (variables x.declarations.model x.declarations.units) observer other
         → (text : List ℕ) → IsReasonText (naming_of_parts p) (net_of p) values other text
         → IsReasonText (naming_of x.declarations) x.system.net values observer text }
-    ensures one_reason_text { (names : Naming) (net : Net V) (values : List Value) → HasFlows net values
+{}
+
+/// A valuation with flows has one such text for an observer, or for none.
+pub fn one_reason_text<V>()
+    ensures { (names : Naming) (net : Net V) (values : List Value) → HasFlows net values
         → (observer : Option (Expr V)) (s t : List ℕ) → IsReasonText names net values observer s
         → IsReasonText names net values observer t → s ≡ t }
 {}

@@ -20,7 +20,7 @@ open-requires-clause-trees g c =
     let d = r.4 in
     let p = c.args.request.now.system in
     let f = c.args.forest.now in
-    c.edges_and_lines.ensures.trees d.gates.flat.flat r.1.dropped (both r.1 p f d.table d.gates)
+    c.edges_of_forests.ensures.trees d.gates.flat.flat r.1.dropped (both r.1 p f d.table d.gates)
     (number_in p) f (own_forest r.1 p f d.table d.gates)
 
 pub open-requires-clause-firable : goal.open-requires-clause-firable
@@ -48,12 +48,12 @@ print_check-requires-clause-one_way g c =
     let d = r.4 in
     let p = c.args.request.now.system in
     let f = c.args.forest.now in
-    c.edges_and_lines.ensures.one_way d.gates.flat.flat r.1.dropped (both r.1 p f d.table d.gates)
+    c.edges_of_forests.ensures.one_way d.gates.flat.flat r.1.dropped (both r.1 p f d.table d.gates)
     (number_in p) f (own_forest r.1 p f d.table d.gates)
 
 pub print_check-requires-clause-known : goal.print_check-requires-clause-known
 print_check-requires-clause-known g c =
-    c.edges_and_lines.ensures.known c.args.forest.now (sets_of c.args.family) _ c.in_ok-lister.ensures.lines
+    c.edges_of_forests.ensures.known c.args.forest.now (sets_of c.args.family) _ c.in_ok-lister.ensures.lines
 
 pub returns-in_err-print_check : goal.returns-in_err-print_check
 returns-in_err-print_check g c = λ job w asked lines drawn e.

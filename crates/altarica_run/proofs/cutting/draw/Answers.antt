@@ -12,7 +12,7 @@ pub diagrams-requires-clause-trees : goal.diagrams-requires-clause-trees
 diagrams-requires-clause-trees c =
     let r = c.requires.analysed in
     let f = c.args.forest.now in
-    c.edges_and_lines.ensures.trees r.2.flat.flat r.0.dropped (both r.0 r.1 f c.args.table.now r.2)
+    c.edges_of_forests.ensures.trees r.2.flat.flat r.0.dropped (both r.0 r.1 f c.args.table.now r.2)
     (number_in r.1) f (own_forest r.0 r.1 f c.args.table.now r.2)
 
 pub returns : goal.returns

@@ -22,7 +22,7 @@ open-requires-clause-trees g c =
     let d = r.2 in
     let p = c.args.system.now in
     let f = c.args.forest.now in
-    c.edges_and_lines.ensures.trees d.gates.flat.flat r.1.dropped (both r.1 p f d.table d.gates)
+    c.edges_of_forests.ensures.trees d.gates.flat.flat r.1.dropped (both r.1 p f d.table d.gates)
     (number_in p) f (own_forest r.1 p f d.table d.gates)
 
 pub open-requires-clause-firable : goal.open-requires-clause-firable
@@ -50,12 +50,12 @@ print_cuts-requires-clause-one_way g c =
     let d = r.2 in
     let p = c.args.system.now in
     let f = c.args.forest.now in
-    c.edges_and_lines.ensures.one_way d.gates.flat.flat r.1.dropped (both r.1 p f d.table d.gates)
+    c.edges_of_forests.ensures.one_way d.gates.flat.flat r.1.dropped (both r.1 p f d.table d.gates)
     (number_in p) f (own_forest r.1 p f d.table d.gates)
 
 pub print_cuts-requires-clause-known : goal.print_cuts-requires-clause-known
 print_cuts-requires-clause-known g c =
-    c.edges_and_lines.ensures.known c.args.forest.now (sets_of c.args.family) _ c.in_ok-lister.ensures.lines
+    c.edges_of_forests.ensures.known c.args.forest.now (sets_of c.args.family) _ c.in_ok-lister.ensures.lines
 
 pub returns-in_err-print_cuts : goal.returns-in_err-print_cuts
 returns-in_err-print_cuts g c = λ job w drawn e.

@@ -46,7 +46,7 @@ returns-in_err-print_reasons-in-Some g c = λ job w given e.
     (known_there p c.args.shown shown.inside) c.in-Some.values.values.items
     (λ settles. (c.settles_of_the_source.ensures.settles w.source is.flat p is is.views _ _).0
     settles)
-    (λ observer other same text. c.reasons_of_the_source.ensures.reasons_of_the_source w.source p is _ observer other same text)
+    (λ observer other same text. c.reasons_of_the_source.ensures w.source p is _ observer other same text)
     _ _ _ c.in-Some.values refl c.in-Some.is answers _ c.in_err-print_reasons-in-Some.ensures _ _ r.1 r.2
 
 pub returns-in_ok-print_reasons-in-Some : goal.returns-in_ok-print_reasons-in-Some
@@ -59,5 +59,5 @@ returns-in_ok-print_reasons-in-Some g c = λ job w given e.
     (known_there p c.args.shown shown.inside) c.in-Some.values.values.items
     (λ settles. (c.settles_of_the_source.ensures.settles w.source is.flat p is is.views _ _).0
     settles)
-    (λ observer other same text. c.reasons_of_the_source.ensures.reasons_of_the_source w.source p is _ observer other same text)
+    (λ observer other same text. c.reasons_of_the_source.ensures w.source p is _ observer other same text)
     _ _ _ c.in-Some.values refl c.in-Some.is answers c.in_ok-print_reasons-in-Some.ensures

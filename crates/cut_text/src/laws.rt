@@ -45,24 +45,22 @@ pub fn edges_of_forests()
         → AreOfEdges (edges_of f.trees.items) lists }
 {}
 
-/// The listed cuts of a flat system, each printed in firing order, have the text of the cuts of its
-/// source.
+/// The text of cuts and of a conflict over a flat system is that of its source.
+///
+/// - `cuts_of_the_source`: The listed cuts of a flat system, each printed in firing order, have the text of the
+///   cuts of its source.
+/// - `conflicts_of_the_source`, `conflict_text_of_the_source`: The first listed conflict set of a flat system
+///   meets a flow fault in firing order, and printed with this it has the text of the conflict of its source.
+/// - `lines_of_the_source_replay`: The same of a source, by tests of its flat system.
 pub fn cuts_of_the_source()
-    ensures { (x : Elaborated) (p : GtsParts) (flat : System ℕ) (dropped : List ℕ) (f : TheForest)
+    ensures cuts_of_the_source { (x : Elaborated) (p : GtsParts) (flat : System ℕ) (dropped : List ℕ) (f : TheForest)
         → IsForestOf x p flat dropped f → (observer : Expr Thing) (other : Expr ℕ)
         → Expr_renames (IsNumber (things_of x)) observer other → (wanted : Value)
         (sets lists : List (List ℕ)) → AreListed (Cut flat dropped other wanted) sets
         → AreInFiringOrder (trees_of (λ n. n) f) sets lists
         → IsCutText (naming_of x.declarations) x.system dropped observer wanted
         (cuts_text p (edges_of f.trees.items) lists (count sets)) }
-{
-    one_system();
-}
-
-/// The first listed conflict set of a flat system meets a flow fault in firing order, and printed
-/// with this it has the text of the conflict of its source.
-pub fn conflicts_of_the_source()
-    ensures meets { (x : Elaborated) (p : GtsParts) (flat : System ℕ) (dropped : List ℕ)
+    ensures conflicts_of_the_source { (x : Elaborated) (p : GtsParts) (flat : System ℕ) (dropped : List ℕ)
         (f : TheForest) → IsForestOf x p flat dropped f → (other : Expr ℕ) (wanted : Value)
         (conflict top : List ℕ → Bool) → Agrees flat dropped other wanted conflict top
         → (set : List ℕ) (sets : List (List ℕ)) (events : List ℕ) (lists : List (List ℕ))
@@ -70,7 +68,7 @@ pub fn conflicts_of_the_source()
         → AreInFiringOrder (trees_of (λ n. n) f) (set ∷ sets) (events ∷ lists)
         → (fault : FlowFault)
         × Conflicts flat dropped (reverse (labels_in p (edges_of f.trees.items) events)) fault }
-    ensures text { (x : Elaborated) (p : GtsParts) (flat : System ℕ) (dropped : List ℕ)
+    ensures conflict_text_of_the_source { (x : Elaborated) (p : GtsParts) (flat : System ℕ) (dropped : List ℕ)
         (f : TheForest) → IsForestOf x p flat dropped f
         → (set : List ℕ) (sets : List (List ℕ)) (events : List ℕ) (lists : List (List ℕ))
         (fault : FlowFault) → AreListed (ConflictSet flat dropped) (set ∷ sets)
@@ -78,6 +76,16 @@ pub fn conflicts_of_the_source()
         → Conflicts flat dropped (reverse (labels_in p (edges_of f.trees.items) events)) fault
         → IsConflictText (naming_of x.declarations) x.system dropped
         (conflict_text p (edges_of f.trees.items) events fault) }
+    ensures lines_of_the_source_replay { (x : Elaborated) (p : GtsParts) (flat : System ℕ) (dropped : List ℕ) (f : TheForest)
+        → IsForestOf x p flat dropped f → (observer : Expr Thing) (other : Expr ℕ)
+        → Expr_renames (IsNumber (things_of x)) observer other
+        → (wanted : Value) (conflict top : List ℕ → Bool)
+        → Agrees flat dropped other wanted conflict top → IsConflictFree flat dropped
+        → (sets : List (List ℕ)) → AreListed (Cut x.system dropped observer wanted) sets
+        → (set : List ℕ) → IsOneOf sets set → (ls : List Label) → IsLine x.system dropped set ls
+        → (t : List Value) × Reaches x.system dropped (reverse ls) t
+        × Reaches x.system [] (reverse ls) t
+        × Yields (HasValue x.system.net t) (out-Expr Thing observer) wanted }
 {
     one_system();
 }
@@ -94,19 +102,3 @@ pub fn lines_replay<V>()
         → (t : List Value) × Reaches sys dropped (reverse ls) t × Reaches sys [] (reverse ls) t
         × Yields (HasValue sys.net t) (out-Expr V observer) wanted }
 {}
-
-/// The same of a source, by tests of its flat system.
-pub fn lines_of_the_source_replay()
-    ensures { (x : Elaborated) (p : GtsParts) (flat : System ℕ) (dropped : List ℕ) (f : TheForest)
-        → IsForestOf x p flat dropped f → (observer : Expr Thing) (other : Expr ℕ)
-        → Expr_renames (IsNumber (things_of x)) observer other
-        → (wanted : Value) (conflict top : List ℕ → Bool)
-        → Agrees flat dropped other wanted conflict top → IsConflictFree flat dropped
-        → (sets : List (List ℕ)) → AreListed (Cut x.system dropped observer wanted) sets
-        → (set : List ℕ) → IsOneOf sets set → (ls : List Label) → IsLine x.system dropped set ls
-        → (t : List Value) × Reaches x.system dropped (reverse ls) t
-        × Reaches x.system [] (reverse ls) t
-        × Yields (HasValue x.system.net t) (out-Expr Thing observer) wanted }
-{
-    one_system();
-}

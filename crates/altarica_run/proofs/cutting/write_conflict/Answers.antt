@@ -64,9 +64,9 @@ returns-in_err-print_conflict g c = λ job w drawn.
     let d = are_drawn w p trees gates is kinds (λ o h. c.lawful_systems.ensures.observers p o sound h)
     c.drawn_sets.ensures.meant (Conflicts c.args.family) drawn.answer in
     let k = conflict_printed w p trees gates is job drawn.lists
-    (λ set sets events lists l x. c.cuts_of_the_source.ensures.cuts_of_the_source.conflicts_of_the_source w.source p is.flat.flat w.dropped
+    (λ set sets events lists l x. c.cuts_of_the_source.ensures.conflicts_of_the_source w.source p is.flat.flat w.dropped
     trees f (observed w p trees gates is) (table w p trees gates is).wanted.value _ _ a set sets events lists l x)
-    (λ set sets events lists fault l x y. c.cuts_of_the_source.ensures.cuts_of_the_source.conflict_text_of_the_source w.source p is.flat.flat
+    (λ set sets events lists fault l x y. c.cuts_of_the_source.ensures.conflict_text_of_the_source w.source p is.flat.flat
     w.dropped trees f set sets events lists fault l x y)
     (g.K.Sink.state c.args.out.now) (g.K.Sink.state c.print_conflict.new.out) (Err c.in_err-print_conflict.field-0.0)
     (sets_of c.args.family) _ d.0 d.1 c.in_ok-lister.ensures.lines c.in_err-print_conflict.ensures in
@@ -86,9 +86,9 @@ returns g c = λ job w drawn.
     let d = are_drawn w p trees gates is kinds (λ o h. c.lawful_systems.ensures.observers p o sound h)
     c.drawn_sets.ensures.meant (Conflicts c.args.family) drawn.answer in
     let k = conflict_printed w p trees gates is job drawn.lists
-    (λ set sets events lists l x. c.cuts_of_the_source.ensures.cuts_of_the_source.conflicts_of_the_source w.source p is.flat.flat w.dropped
+    (λ set sets events lists l x. c.cuts_of_the_source.ensures.conflicts_of_the_source w.source p is.flat.flat w.dropped
     trees f (observed w p trees gates is) (table w p trees gates is).wanted.value _ _ a set sets events lists l x)
-    (λ set sets events lists fault l x y. c.cuts_of_the_source.ensures.cuts_of_the_source.conflict_text_of_the_source w.source p is.flat.flat
+    (λ set sets events lists fault l x y. c.cuts_of_the_source.ensures.conflict_text_of_the_source w.source p is.flat.flat
     w.dropped trees f set sets events lists fault l x y)
     (g.K.Sink.state c.args.out.now) (g.K.Sink.state c.print_conflict.new.out) (Ok tt) (sets_of c.args.family) _ d.0 d.1
     c.in_ok-lister.ensures.lines c.in_ok-print_conflict.ensures in

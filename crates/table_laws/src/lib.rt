@@ -10,4 +10,4 @@ mod round_laws;
 
 pub use drawn::drawn_sets;
 pub use gate_laws::gate_table_laws;
-pub use round_laws::round_laws;
+pub use round_laws::laws_of_rounds;

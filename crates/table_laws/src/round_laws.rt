@@ -15,7 +15,7 @@ ghost use Rattle.table_laws.specs.RoundLaws.{HasTotals};
 /// - `fault`, `flows`: Of a state that has an outcome, as each has: where a conflict is seen, its flows are a
 ///   fault, and where none is seen, it has flows, and they are the total values of what is known. So as many
 ///   rounds as a block has flows are enough.
-pub fn round_laws<V>()
+pub fn laws_of_rounds<V>()
     ensures known_facts { (net : Net V) (t : List Value) (blocks : List (List V)) (known : V → Value → Bool)
         → IsKnown net t blocks known → (x : V) (v : Value) → known x v ≡ true → FactOf net t x v }
     ensures fault { (net : Net V) (t : List Value) (blocks : List (List V))

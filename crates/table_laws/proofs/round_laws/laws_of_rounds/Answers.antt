@@ -1,6 +1,6 @@
 use Rattle.table_laws.proofs.Rounds.{known_sound}
 use Rattle.table_laws.proofs.Faults.{conflict_faults, no_conflict_flows}
-use Rattle.table_laws.proofs.round_laws.round_laws.Goals as goal
+use Rattle.table_laws.proofs.round_laws.laws_of_rounds.Goals as goal
 
 pub returns-clause-known_facts : goal.returns-clause-known_facts
 returns-clause-known_facts g c = λ net t blocks known k x v e. known_sound net t blocks known k x v e

@@ -1,6 +1,6 @@
 //! Expressions.
 
-ghost use Rattle.std.specs.Prelude.{◌≡◌, ◌≢◌, ◌++◌, ◌∷◌, ℕ, length, IfOk, true, false};
+ghost use Rattle.std.specs.Prelude.{◌≡◌, ◌≢◌, ◌++◌, IfOk, true, false};
 ghost use Rattle.ar_lexer.specs.declared.token.TokenKind.TheVariants.{Sign, Reserved, End};
 ghost use Rattle.ar_lexer.specs.declared.signs.TheConstants.{COMMA};
 ghost use Rattle.ar_lexer.specs.declared.words.TheConstants.{CASE};
@@ -8,7 +8,7 @@ ghost use Rattle.ar_grammar.specs.Words.{token, deep, ◌▸◌, between, each, 
 ghost use Rattle.ar_grammar.specs.Expressions.{Node, ReadsExpr, ReadsNot, ReadsMinus, ReadsProduct, ReadsSum, ReadsTerm, ReadsCompare, ReadsPrimary, ReadsIf, ReadsSwitch, ReadsCase, ReadsOperands};
 ghost use Rattle.ar_grammar.specs.Chains.{separator_of, operand_form, chain_form, ends_operand, ends_chain};
 ghost use Rattle.ar_grammar.specs.Texts.{expr_tokens, not_tokens, minus_tokens, if_tokens, compare_tokens, sum_tokens, product_tokens, primary_tokens, operands_tokens, switch_tokens};
-ghost use Rattle.ar_grammar.specs.Results.{kind_at, Takes, Finds, Halts, Spans, anything, ends_path, ends_product, ends_sum, ends_not, ends_expr, ends_list, ends_cases, begins_term};
+ghost use Rattle.ar_grammar.specs.Results.{kind_at, Takes, Finds, Halts, Spans, anything, ends_path, ends_sum, ends_not, ends_expr, ends_list, ends_cases, begins_term};
 ghost use Rattle.ar_grammar.specs.Parts.{operand_tokens, chain_tokens, term_tokens, case_tokens};
 
 use crate::begins::{begins_expr, begins_minus, begins_not};
@@ -102,8 +102,9 @@ impl<'a> Parser<'a> {
         )?;
         self.expect(TokenKind::Reserved(words::ELSE))?;
         let other = self.expr(left)?;
-        let form = self.one_case(case, other)?;
-        Ok(self.node(start, form))
+        let cases = list_of(self.alloc, case)?;
+        let boxed = in_box(self.alloc, other)?;
+        Ok(self.node(start, RawForm::Choose(cases, boxed)))
     }
 
     /// Takes operands with one separator between them; one operand alone is itself.
@@ -288,7 +289,7 @@ impl<'a> Parser<'a> {
                 TokenKind::Sign(signs::CLOSE_PARENTHESIS),
                 left,
             )?;
-            return Ok(self.bracketed(start, inner));
+            return Ok(self.node(start, inner.form));
         }
         if self.is_at(TokenKind::Reserved(words::SWITCH)) {
             return self.switch(left);

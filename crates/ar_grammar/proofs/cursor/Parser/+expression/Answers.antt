@@ -88,11 +88,21 @@ choice-returns-in_err-other-clause-only t c =
     (finds_err c.in_err-other.ensures.only c.from_residual-in_err-other.ensures.1) follows_any) (follows_then refl))
     (λ n next ts h s k. (then_unassoc h, s))
 
-pub choice-returns-in_err-form-clause-only : goal.choice-returns-in_err-form-clause-only
-choice-returns-in_err-form-clause-only t c = let f = finds_then c.in_ok-case.ensures.only (finds_then (c.in_ok-expect.ensures.only _) c.in_ok-other.ensures.only follows_any) (follows_then refl) in finds_memory f.front f.passed (err_memory _ _ c.from_residual-in_err-form.ensures.1 c.in_err-form.ensures.err)
+pub choice-returns-in_err-cases-clause-only : goal.choice-returns-in_err-cases-clause-only
+choice-returns-in_err-cases-clause-only t c = let f = finds_then c.in_ok-case.ensures.only (finds_then (c.in_ok-expect.ensures.only _) c.in_ok-other.ensures.only follows_any) (follows_then refl) in finds_memory f.front f.passed (err_memory _ _ c.from_residual-in_err-cases.ensures.1 c.in_err-cases.ensures.err)
+
+pub choice-returns-in_err-boxed-clause-only : goal.choice-returns-in_err-boxed-clause-only
+choice-returns-in_err-boxed-clause-only t c = let f = finds_then c.in_ok-case.ensures.only (finds_then (c.in_ok-expect.ensures.only _) c.in_ok-other.ensures.only follows_any) (follows_then refl) in finds_memory f.front f.passed (err_memory _ _ c.from_residual-in_err-boxed.ensures.1 c.in_err-boxed.ensures.err)
 
 pub choice-returns-clause-found : goal.choice-returns-clause-found
-choice-returns-clause-found t c = if_made _ _ _ _ _ _ c.in_ok-form.ensures.made
+choice-returns-clause-found t c = if_made _ c.in_ok-case.case.0 c.in_ok-case.case.1 c.in_ok-other.other _ _
+    (record {
+      cases = c.in_ok-cases.cases;
+      d = c.in_ok-boxed.boxed;
+      is = refl;
+      one = c.in_ok-cases.ensures.items;
+      other_is = c.in_ok-boxed.ensures.ok;
+    })
     (record { form = c.node.ensures.form; there = c.node.ensures.there; span = c.node.ensures.span })
     c.in_ok-case.ensures.found (spans_expected c.in_ok-expect.ensures.found) c.in_ok-other.ensures.found
 
@@ -379,7 +389,7 @@ primary-returns-in_err-inner-clause-only t c =
 pub primary-returns-then-is_at-clause-found : goal.primary-returns-then-is_at-clause-found
 primary-returns-then-is_at-clause-found t c =
     brackets_made _ c.in_ok-inner.inner _
-    (record { form = c.bracketed.ensures.form; there = c.bracketed.ensures.there; span = c.bracketed.ensures.span })
+    (record { form = c.node-then-is_at.ensures.form; there = c.node-then-is_at.ensures.there; span = c.node-then-is_at.ensures.span })
     (spans_from c.in_ok-inner.ensures.found (sym c.in_default.ensures.left))
 
 pub primary-returns-then-is_at-clause-only : goal.primary-returns-then-is_at-clause-only
@@ -817,9 +827,13 @@ pub more_terms-returns-in_err-put-clause-stuck : goal.more_terms-returns-in_err-
 more_terms-returns-in_err-put-clause-stuck t c =
     halts_memory _ _ _ _ _ (err_memory _ _ c.from_residual-in_err-put.ensures.1 c.in_err-put.ensures.err)
 
-pub choice-returns-in_err-form-clause-stuck : goal.choice-returns-in_err-form-clause-stuck
-choice-returns-in_err-form-clause-stuck t c =
-    halts_memory _ _ _ _ _ (err_memory _ _ c.from_residual-in_err-form.ensures.1 c.in_err-form.ensures.err)
+pub choice-returns-in_err-cases-clause-stuck : goal.choice-returns-in_err-cases-clause-stuck
+choice-returns-in_err-cases-clause-stuck t c =
+    halts_memory _ _ _ _ _ (err_memory _ _ c.from_residual-in_err-cases.ensures.1 c.in_err-cases.ensures.err)
+
+pub choice-returns-in_err-boxed-clause-stuck : goal.choice-returns-in_err-boxed-clause-stuck
+choice-returns-in_err-boxed-clause-stuck t c =
+    halts_memory _ _ _ _ _ (err_memory _ _ c.from_residual-in_err-boxed.ensures.1 c.in_err-boxed.ensures.err)
 
 pub not-returns-in_err-boxed-clause-stuck : goal.not-returns-in_err-boxed-clause-stuck
 not-returns-in_err-boxed-clause-stuck t c =

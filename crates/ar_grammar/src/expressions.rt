@@ -15,7 +15,7 @@ use crate::begins::{begins_expr, begins_minus, begins_not};
 use crate::cursor::{Parser, no_room};
 use crate::lexeme::Refusal;
 use crate::lists::{in_box, list_of, put};
-use crate::terms::{Chain, call_of, chain_of, separator_of};
+use crate::terms::{Chain, call_at, call_of, chain_of, constant_of, separator_of};
 use ar_lexer::{TokenKind, signs, words};
 use ar_syntax::{RawExpr, RawForm};
 
@@ -280,7 +280,8 @@ impl<'a> Parser<'a> {
             self.new.rest.now }
     {
         let start = self.rest;
-        if let Some(form) = self.eat_constant() {
+        if let Some(form) = constant_of(self.kind()) {
+            self.skip();
             return Ok(self.node(start, form));
         }
         if self.is_at(TokenKind::Sign(signs::OPEN_PARENTHESIS)) {
@@ -294,7 +295,8 @@ impl<'a> Parser<'a> {
         if self.is_at(TokenKind::Reserved(words::SWITCH)) {
             return self.switch(left);
         }
-        if let Some(call) = self.eat_call() {
+        if let Some(call) = call_at(self.kind()) {
+            self.skip();
             let operands = self.operands(left)?;
             return Ok(self.node(start, call_of(call, operands)));
         }

@@ -100,8 +100,8 @@ fn relation_of(kind: TokenKind) -> Option<RawRelation>
     None
 }
 
-// The constant that a token is.
-fn constant_of(kind: TokenKind) -> Option<RawForm>
+/// The constant that a token is.
+pub(crate) fn constant_of(kind: TokenKind) -> Option<RawForm>
     ensures found { IfSome result (λ f. IsConstant f kind) }
     ensures none { IfNone result (begins_constant kind ≡ false) }
 {
@@ -121,8 +121,8 @@ fn constant_of(kind: TokenKind) -> Option<RawForm>
     }
 }
 
-// The call that a token begins.
-fn call_at(kind: TokenKind) -> Option<Call>
+/// The call that a token begins.
+pub(crate) fn call_at(kind: TokenKind) -> Option<Call>
     ensures found { IfSome result (λ c. kind ≡ word_of c) }
     ensures none { IfNone result (begins_call kind ≡ false) }
 {
@@ -162,29 +162,6 @@ impl<'a> Parser<'a> {
         let relation = relation_of(self.kind())?;
         self.skip();
         Some(relation)
-    }
-
-    /// Takes a constant.
-    pub(crate) fn eat_constant(&mut self) -> Option<RawForm>
-        ensures taken { IfSome result (λ f. (k : _) × Eats k self.old.rest.now self.new.rest.now
-            × IsConstant f k) }
-        ensures left { IfNone result (self.new.rest.now ≡ self.old.rest.now) }
-        ensures other { IfNone result (begins_constant (kind_at self.old.rest.now) ≡ false) }
-    {
-        let form = constant_of(self.kind())?;
-        self.skip();
-        Some(form)
-    }
-
-    /// Takes the word of a call.
-    pub(crate) fn eat_call(&mut self) -> Option<Call>
-        ensures taken { IfSome result (λ c. Eats (word_of c) self.old.rest.now self.new.rest.now) }
-        ensures left { IfNone result (self.new.rest.now ≡ self.old.rest.now) }
-        ensures other { IfNone result (begins_call (kind_at self.old.rest.now) ≡ false) }
-    {
-        let call = call_at(self.kind())?;
-        self.skip();
-        Some(call)
     }
 
     /// Takes `+` or `-`: true for `+`.

@@ -8,8 +8,8 @@ ghost use Rattle.class_table.specs.Declaring.{Declared};
 ghost use Rattle.ar_syntax.specs.declared.members.Member.{out-Member};
 ghost use Rattle.class_table.specs.Members.{Site, names_of, names_of_form, named_at, declared_kind};
 ghost use Rattle.class_table.specs.Tables.{HoldsDeclared, site_of};
-ghost use Rattle.hierarchy.specs.Models.{RootedModel, IsRootedTable};
-ghost use Rattle.hierarchy.specs.Units.{UnitPath, names_in};
+ghost use Rattle.hierarchy.specs.Models.{RootedModel};
+ghost use Rattle.hierarchy.specs.Units.{UnitPath};
 ghost use Rattle.hierarchy.specs.Tie.{AreOutlines};
 ghost use Rattle.unit_rules.specs.Typing.{KnowsPlaces};
 ghost use Rattle.unit_rules.specs.Settables.{settable_of, variable_of, one_entry, entries_of, kept_at, Adds, AreSettables};
@@ -185,23 +185,6 @@ impl Settables {
         Ok(())
     }
 
-    // Keeps what the names of a body are, inherited ones included.
-    fn add_body(
-        &mut self,
-        body: BodyId,
-        classes: &Classes,
-        places: &TypePlaces,
-    ) -> Result<(), Memory>
-        ensures { (m : RootedModel)
-            → IsRootedTable m classes.now → KnowsPlaces classes.now.types.items places.now
-            → OnOk result (Adds body.n (entries_of (names_in m body.n)) self.old self.new) }
-    {
-        match classes.bodies.get(body.n as usize) {
-            None => Ok(()),
-            Some(found) => self.add_sites(body, &found.all, classes, places),
-        }
-    }
-
     /// What may be set in these units. Takes memory linear in the names of their bodies.
     pub(crate) fn new(
         alloc: Global,
@@ -217,7 +200,9 @@ impl Settables {
             kept: HashMap::new(alloc),
         };
         for outline in outlines {
-            settables.add_body(outline.body, classes, &places)?;
+            if let Some(body) = classes.bodies.get(outline.body.n as usize) {
+                settables.add_sites(outline.body, &body.all, classes, &places)?;
+            }
         }
         Ok(settables)
     }

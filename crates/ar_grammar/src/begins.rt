@@ -1,19 +1,9 @@
 //! Which tokens begin an expression, an instruction, a member, a section, a body or an item.
 
 ghost use Rattle.std.specs.Prelude.{◌≡◌};
-ghost use Rattle.ar_grammar.specs.Results.{is_sign, is_word, begins_primary, begins_minus, begins_not, begins_expr, begins_instr, begins_keyed, begins_member, begins_section, begins_later, begins_body, begins_item};
+ghost use Rattle.ar_grammar.specs.Results.{is_word, begins_minus, begins_not, begins_expr, begins_instr, begins_keyed, begins_member, begins_section, begins_later, begins_body, begins_item};
 
 use ar_lexer::{TokenKind, signs, words};
-
-/// Whether the token is this sign.
-fn is_sign(sign: u8, kind: TokenKind) -> bool
-    ensures { result ≡ is_sign sign kind }
-{
-    match kind {
-        TokenKind::Sign(other) => other == sign,
-        _ => false,
-    }
-}
 
 /// Whether the token is this reserved word.
 fn is_word(word: u8, kind: TokenKind) -> bool
@@ -25,13 +15,13 @@ fn is_word(word: u8, kind: TokenKind) -> bool
     }
 }
 
-/// Whether the token begins an operand without a sign or word before it: a constant, a path, a call, a choice or a bracket.
-fn begins_primary(kind: TokenKind) -> bool
-    ensures { result ≡ begins_primary kind }
+/// Whether the token begins an operand of a product: `-`, a constant, a path, a call, a choice or a bracket.
+pub(crate) fn begins_minus(kind: TokenKind) -> bool
+    ensures { result ≡ begins_minus kind }
 {
     match kind {
         TokenKind::Name | TokenKind::Whole(_) | TokenKind::Real => true,
-        TokenKind::Sign(sign) => sign == signs::OPEN_PARENTHESIS,
+        TokenKind::Sign(sign) => sign == signs::MINUS || sign == signs::OPEN_PARENTHESIS,
         TokenKind::Reserved(word) => {
             word == words::OWNER
                 || word == words::MAIN
@@ -44,13 +34,6 @@ fn begins_primary(kind: TokenKind) -> bool
         }
         TokenKind::End => false,
     }
-}
-
-/// Whether the token begins an operand of a product.
-pub(crate) fn begins_minus(kind: TokenKind) -> bool
-    ensures { result ≡ begins_minus kind }
-{
-    is_sign(signs::MINUS, kind) || begins_primary(kind)
 }
 
 /// Whether the token begins an operand of `and`.

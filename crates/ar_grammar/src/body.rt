@@ -3,20 +3,20 @@
 ghost use Rattle.std.specs.Prelude.{◌≡◌, ◌≢◌, ◌++◌, ℕ, IfOk};
 ghost use Rattle.ar_lexer.specs.declared.token.TokenKind.TheVariants.{Name, Sign, Reserved, End};
 ghost use Rattle.ar_lexer.specs.declared.signs.TheConstants.{SEMICOLON, EQUALS};
-ghost use Rattle.ar_lexer.specs.declared.words.TheConstants.{AS, REAL};
-ghost use Rattle.ar_grammar.specs.Words.{token, deep, ◌▸◌, between, many, groups, covering};
+ghost use Rattle.ar_lexer.specs.declared.words.TheConstants.{AS};
+ghost use Rattle.ar_grammar.specs.Words.{token, deep, ◌▸◌, between, many, groups};
 ghost use Rattle.ar_grammar.specs.Paths.{ReadsPath, ReadsPlacedName};
 ghost use Rattle.ar_grammar.specs.Expressions.{Node, ReadsExpr};
 ghost use Rattle.ar_grammar.specs.Members.{ReadsType, ReadsSingle, ReadsKeyed, ReadsUnit, ReadsMember, ReadsSection, ReadsLater, ReadsSections, ReadsBody, kept};
 ghost use Rattle.ar_grammar.specs.Texts.{body_tokens};
-ghost use Rattle.ar_grammar.specs.Parts.{alias_tokens, value_tokens, kept_value_tokens, single_tokens, parameter_tokens, section_of, unit_of, member_tokens, keyed_of, sections_tokens, later_tokens};
+ghost use Rattle.ar_grammar.specs.Parts.{alias_tokens, value_tokens, single_tokens, parameter_tokens, section_of, unit_of, member_tokens, keyed_of, sections_tokens, later_tokens};
 ghost use Rattle.ar_grammar.specs.Results.{Takes, Finds, Halts, Spans, anything, ends_body, ends_members, ends_section};
 
 use crate::begins::{begins_body, begins_later, begins_member, begins_section};
 use crate::cursor::{Parser, no_room};
 use crate::lexeme::Refusal;
 use crate::lists::put;
-use ar_base::{NameId, Place, Span};
+use ar_base::{NameId, Place};
 use ar_lexer::{TokenKind, signs, words};
 use ar_syntax::{Member, Path, RawExpr, TypeName, Unit};
 
@@ -79,23 +79,6 @@ impl<'a> Parser<'a> {
         Ok((of_type, name, at, value))
     }
 
-    /// Takes "Real" name "=" Kept ";".
-    fn kept_value(&mut self, left: u32) -> Result<(NameId, Place, Span), Refusal>
-        ensures found { Takes (λ x. token (Reserved REAL) ▸ ReadsPlacedName (x.0, x.1)
-            ▸ between (Sign EQUALS) (Sign SEMICOLON) (covering x.2 (kept left))) result
-            self.old.rest.now self.new.rest.now }
-        ensures only { Finds kept_value_tokens anything left result self.old.rest.now
-            self.new.rest.now }
-        ensures stuck { Halts kept_value_tokens left result self.old.rest.now self.new.rest.now }
-    {
-        self.expect(TokenKind::Reserved(words::REAL))?;
-        let (name, at) = self.placed_name()?;
-        self.expect(TokenKind::Sign(signs::EQUALS))?;
-        let span = self.kept(left)?;
-        self.expect(TokenKind::Sign(signs::SEMICOLON))?;
-        Ok((name, at, span))
-    }
-
     /// Takes a clause that begins with a reserved word and makes one member.
     fn single(&mut self, left: u32) -> Result<Member, Refusal>
         ensures found { Takes (ReadsSingle left) result self.old.rest.now self.new.rest.now }
@@ -136,7 +119,11 @@ impl<'a> Parser<'a> {
     {
         self.expect(TokenKind::Reserved(words::PARAMETER))?;
         if self.is_at(TokenKind::Reserved(words::REAL)) {
-            let (kept_name, at, span) = self.kept_value(left)?;
+            self.expect(TokenKind::Reserved(words::REAL))?;
+            let (kept_name, at) = self.placed_name()?;
+            self.expect(TokenKind::Sign(signs::EQUALS))?;
+            let span = self.kept(left)?;
+            self.expect(TokenKind::Sign(signs::SEMICOLON))?;
             return Ok(Member::Kept(kept_name, at, span));
         }
         let (of_type, name, at, value) = self.valued(left)?;

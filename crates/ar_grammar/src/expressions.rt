@@ -1,6 +1,6 @@
 //! Expressions.
 
-ghost use Rattle.std.specs.Prelude.{◌≡◌, ◌≢◌, ◌++◌, ◌∷◌, ℕ, length, IfOk, true, false};
+ghost use Rattle.std.specs.Prelude.{◌≡◌, ◌≢◌, ◌++◌, IfOk, true, false};
 ghost use Rattle.ar_lexer.specs.declared.token.TokenKind.TheVariants.{Sign, Reserved, End};
 ghost use Rattle.ar_lexer.specs.declared.signs.TheConstants.{COMMA};
 ghost use Rattle.ar_lexer.specs.declared.words.TheConstants.{CASE};
@@ -8,14 +8,14 @@ ghost use Rattle.ar_grammar.specs.Words.{token, deep, ◌▸◌, between, each, 
 ghost use Rattle.ar_grammar.specs.Expressions.{Node, ReadsExpr, ReadsNot, ReadsMinus, ReadsProduct, ReadsSum, ReadsTerm, ReadsCompare, ReadsPrimary, ReadsIf, ReadsSwitch, ReadsCase, ReadsOperands};
 ghost use Rattle.ar_grammar.specs.Chains.{separator_of, operand_form, chain_form, ends_operand, ends_chain};
 ghost use Rattle.ar_grammar.specs.Texts.{expr_tokens, not_tokens, minus_tokens, if_tokens, compare_tokens, sum_tokens, product_tokens, primary_tokens, operands_tokens, switch_tokens};
-ghost use Rattle.ar_grammar.specs.Results.{kind_at, Takes, Finds, Halts, Spans, anything, ends_path, ends_product, ends_sum, ends_not, ends_expr, ends_list, ends_cases, begins_term};
+ghost use Rattle.ar_grammar.specs.Results.{kind_at, Takes, Finds, Halts, Spans, anything, ends_path, ends_sum, ends_not, ends_expr, ends_list, ends_cases, begins_term};
 ghost use Rattle.ar_grammar.specs.Parts.{operand_tokens, chain_tokens, term_tokens, case_tokens};
 
 use crate::begins::{begins_expr, begins_minus, begins_not};
 use crate::cursor::{Parser, no_room};
 use crate::lexeme::Refusal;
 use crate::lists::{in_box, list_of, put};
-use crate::terms::{Chain, call_of, chain_of, separator_of};
+use crate::terms::{Chain, call_at, call_of, chain_of, constant_of, separator_of};
 use ar_lexer::{TokenKind, signs, words};
 use ar_syntax::{RawExpr, RawForm};
 
@@ -102,8 +102,9 @@ impl<'a> Parser<'a> {
         )?;
         self.expect(TokenKind::Reserved(words::ELSE))?;
         let other = self.expr(left)?;
-        let form = self.one_case(case, other)?;
-        Ok(self.node(start, form))
+        let cases = list_of(self.alloc, case)?;
+        let boxed = in_box(self.alloc, other)?;
+        Ok(self.node(start, RawForm::Choose(cases, boxed)))
     }
 
     /// Takes operands with one separator between them; one operand alone is itself.
@@ -279,7 +280,8 @@ impl<'a> Parser<'a> {
             self.new.rest.now }
     {
         let start = self.rest;
-        if let Some(form) = self.eat_constant() {
+        if let Some(form) = constant_of(self.kind()) {
+            self.skip();
             return Ok(self.node(start, form));
         }
         if self.is_at(TokenKind::Sign(signs::OPEN_PARENTHESIS)) {
@@ -288,12 +290,13 @@ impl<'a> Parser<'a> {
                 TokenKind::Sign(signs::CLOSE_PARENTHESIS),
                 left,
             )?;
-            return Ok(self.bracketed(start, inner));
+            return Ok(self.node(start, inner.form));
         }
         if self.is_at(TokenKind::Reserved(words::SWITCH)) {
             return self.switch(left);
         }
-        if let Some(call) = self.eat_call() {
+        if let Some(call) = call_at(self.kind()) {
+            self.skip();
             let operands = self.operands(left)?;
             return Ok(self.node(start, call_of(call, operands)));
         }

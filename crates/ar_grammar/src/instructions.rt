@@ -1,13 +1,11 @@
 //! Instructions.
 
-ghost use Rattle.std.specs.Prelude.{◌≡◌, ◌++◌, ℕ, IfOk, IfErr};
-ghost use Rattle.ar_lexer.specs.declared.token.TokenKind.TheVariants.{Sign, Reserved};
-ghost use Rattle.ar_lexer.specs.declared.signs.TheConstants.{SEMICOLON, TIE};
-ghost use Rattle.ar_grammar.specs.Words.{token, deep, ◌▸◌, between, each, many};
-ghost use Rattle.ar_grammar.specs.Paths.{ReadsPath};
+ghost use Rattle.std.specs.Prelude.{◌≡◌, ◌++◌, IfOk, IfErr};
+ghost use Rattle.ar_lexer.specs.declared.token.TokenKind.TheVariants.{Reserved};
+ghost use Rattle.ar_grammar.specs.Words.{token, deep, ◌▸◌, each, many};
 ghost use Rattle.ar_grammar.specs.Instructions.{ReadsInstr, ReadsElse, ReadsConditional, ReadsGroup, ReadsSimple};
 ghost use Rattle.ar_lexer.specs.declared.words.TheConstants.{ELSE};
-ghost use Rattle.ar_grammar.specs.Texts.{path_tokens, expr_tokens, instr_tokens, conditional_tokens, else_tokens, group_tokens, simple_tokens};
+ghost use Rattle.ar_grammar.specs.Texts.{expr_tokens, instr_tokens, conditional_tokens, else_tokens, group_tokens, simple_tokens};
 ghost use Rattle.ar_grammar.specs.Results.{kind_at, Takes, Finds, Halts, Spans, anything, ends_group};
 
 use crate::begins::begins_instr;
@@ -15,7 +13,7 @@ use crate::cursor::{Parser, no_room};
 use crate::lexeme::Refusal;
 use crate::lists::{in_box, put};
 use ar_lexer::{TokenKind, signs, words};
-use ar_syntax::{Instr, Path};
+use ar_syntax::Instr;
 
 impl<'a> Parser<'a> {
     /// Takes an instruction, with room for `left` open productions.
@@ -134,7 +132,9 @@ impl<'a> Parser<'a> {
         }
         let path = self.path()?;
         if self.is_at(TokenKind::Sign(signs::TIE)) {
-            let other = self.tied()?;
+            self.expect(TokenKind::Sign(signs::TIE))?;
+            let other = self.path()?;
+            self.expect(TokenKind::Sign(signs::SEMICOLON))?;
             return Ok(Instr::Tie(path, other));
         }
         let value = self.enclosed(
@@ -143,20 +143,5 @@ impl<'a> Parser<'a> {
             left,
         )?;
         Ok(Instr::Assign(path, value))
-    }
-
-    /// Takes ":=:" Path ";".
-    fn tied(&mut self) -> Result<Path, Refusal>
-        ensures found { Takes (λ p. between (Sign TIE) (Sign SEMICOLON) (ReadsPath p)) result
-            self.old.rest.now self.new.rest.now }
-        ensures only { (left : ℕ) → Finds (λ _. between (Sign TIE) (Sign SEMICOLON) path_tokens)
-            anything left result self.old.rest.now self.new.rest.now }
-        ensures stuck { (left : ℕ) → Halts (λ _. between (Sign TIE) (Sign SEMICOLON) path_tokens) left
-            result self.old.rest.now self.new.rest.now }
-    {
-        self.expect(TokenKind::Sign(signs::TIE))?;
-        let path = self.path()?;
-        self.expect(TokenKind::Sign(signs::SEMICOLON))?;
-        Ok(path)
     }
 }

@@ -2,14 +2,12 @@
 
 ghost use Rattle.std.specs.Prelude.{◌≡◌, ◌++◌, ℕ, IfOk, if◌then◌else◌};
 ghost use Rattle.ar_lexer.specs.declared.token.TokenKind.TheVariants.{Name, Sign, Reserved};
-ghost use Rattle.ar_lexer.specs.declared.signs.TheConstants.{COMMA, SEMICOLON, DOT, ARROW, AMPERSAND, EXCLAMATION, QUESTION};
+ghost use Rattle.ar_lexer.specs.declared.signs.TheConstants.{COMMA, SEMICOLON, DOT, AMPERSAND, EXCLAMATION, QUESTION};
 ghost use Rattle.ar_lexer.specs.declared.words.TheConstants.{EVENT, HIDE};
 ghost use Rattle.ar_grammar.specs.Words.{token, deep, ◌▸◌, between, each, many, separated_by};
-ghost use Rattle.ar_grammar.specs.Expressions.{Node, ReadsExpr};
-ghost use Rattle.ar_grammar.specs.Instructions.{ReadsInstr};
 ghost use Rattle.ar_grammar.specs.Members.{ReadsType, ReadsWord, ReadsSetting, ReadsSettings, ReadsDeclared, ReadsEvent, ReadsHidden, ReadsPart, ReadsTransition, ReadsAssertion};
 ghost use Rattle.ar_grammar.specs.Texts.{one_of, list_of, path_tokens, is_type, is_target_word, expr_tokens, setting_tokens, settings_tokens, declared_rest, instr_tokens, is_part};
-ghost use Rattle.ar_grammar.specs.Parts.{event_tokens, part_tokens, parts_tokens, guarded_tokens, transition_of};
+ghost use Rattle.ar_grammar.specs.Parts.{event_tokens, part_tokens, parts_tokens, transition_of};
 ghost use Rattle.ar_grammar.specs.Results.{kind_at, Takes, Finds, Halts, Spans, anything, ends_path, ends_expr, ends_list, ends_attribute, ends_semicolon, ends_target, ends_transitions, ends_assertions, begins_part};
 
 use crate::begins::begins_instr;
@@ -17,7 +15,7 @@ use crate::cursor::Parser;
 use crate::lexeme::Refusal;
 use crate::lists::{list_of, put};
 use ar_lexer::{TokenKind, signs, words};
-use ar_syntax::{Instr, Member, Part, RawExpr, Setting, TypeForm, TypeName, Word};
+use ar_syntax::{Member, Part, Setting, TypeForm, TypeName, Word};
 
 impl<'a> Parser<'a> {
     /// Takes a type: "Boolean" | "Integer" | name.
@@ -327,19 +325,6 @@ impl<'a> Parser<'a> {
         Ok(parts)
     }
 
-    /// Takes Expr "->" Instr.
-    fn guarded(&mut self, left: u32) -> Result<(RawExpr, Instr), Refusal>
-        ensures found { Takes (λ x. Node (ReadsExpr left) x.0 ▸ token (Sign ARROW) ▸ ReadsInstr left x.1)
-            result self.old.rest.now self.new.rest.now }
-        ensures only { Finds guarded_tokens anything left result self.old.rest.now self.new.rest.now }
-        ensures stuck { Halts guarded_tokens left result self.old.rest.now self.new.rest.now }
-    {
-        let guard = self.expr(left)?;
-        self.expect(TokenKind::Sign(signs::ARROW))?;
-        let action = self.instr(left)?;
-        Ok((guard, action))
-    }
-
     /// Whether the next token begins a part.
     fn is_at_part(&self) -> bool
         ensures { result ≡ begins_part (kind_at self.now.rest.now) }
@@ -361,7 +346,9 @@ impl<'a> Parser<'a> {
             let parts = self.parts()?;
             return Ok(Member::Sync(name, at, parts));
         }
-        let (guard, action) = self.guarded(left)?;
+        let guard = self.expr(left)?;
+        self.expect(TokenKind::Sign(signs::ARROW))?;
+        let action = self.instr(left)?;
         Ok(Member::Local(name, at, guard, action))
     }
 

@@ -1,10 +1,9 @@
 //! Domains, items and models.
 
-ghost use Rattle.std.specs.Prelude.{◌≡◌, ◌++◌, ℕ, Ok, IfOk, IfErr, IfSome};
-ghost use Rattle.ar_lexer.specs.declared.token.TokenKind.TheVariants.{End, Sign};
-ghost use Rattle.ar_lexer.specs.declared.signs.TheConstants.{SEMICOLON};
-ghost use Rattle.ar_grammar.specs.Words.{token, deep, nothing, ◌∣◌, each, many, ReadsSome};
-ghost use Rattle.ar_grammar.specs.Texts.{maybe, whole_tokens, bound_tokens, domain_tokens, item_tokens, model_tokens};
+ghost use Rattle.std.specs.Prelude.{◌≡◌, ◌++◌, ℕ, IfOk, IfErr};
+ghost use Rattle.ar_lexer.specs.declared.token.TokenKind.TheVariants.{End};
+ghost use Rattle.ar_grammar.specs.Words.{deep, each, many, ReadsSome};
+ghost use Rattle.ar_grammar.specs.Texts.{whole_tokens, bound_tokens, domain_tokens, item_tokens, model_tokens};
 ghost use Rattle.ar_grammar.specs.Parts.{domain_body_tokens};
 ghost use Rattle.ar_grammar.specs.Items.{ReadsWhole, ReadsBound, ReadsDomainBody, ReadsDomain, ReadsItem, ReadsItems};
 ghost use Rattle.ar_grammar.specs.Results.{Takes, Finds, Halts, Spans, Gets, Plain, AreUnsigned, IsRefusedAs, anything, ends_item, is_end};
@@ -70,16 +69,6 @@ impl<'a> Parser<'a> {
         Ok(DomainBody::Range(low, high))
     }
 
-    /// Takes the semicolon that may stand behind a domain.
-    fn skip_semicolon(&mut self)
-        ensures found { Spans (nothing ∣ token (Sign SEMICOLON)) self.old.rest.now
-            self.new.rest.now }
-        ensures only { (left : ℕ) → Finds {A = Unit {0}} (λ _. maybe (token (Sign SEMICOLON)))
-            ends_item left (Ok tt) self.old.rest.now self.new.rest.now }
-    {
-        self.eat(TokenKind::Sign(signs::SEMICOLON));
-    }
-
     /// Takes "domain" name DomainBody [ ";" ].
     fn domain(&mut self) -> Result<DomainDecl, Refusal>
         requires { AreUnsigned self.old.rest.now }
@@ -92,7 +81,8 @@ impl<'a> Parser<'a> {
         self.expect(TokenKind::Reserved(words::DOMAIN))?;
         let (name, at) = self.placed_name()?;
         let body = self.domain_body()?;
-        self.skip_semicolon();
+        // A semicolon may stand behind it.
+        self.eat(TokenKind::Sign(signs::SEMICOLON));
         Ok(DomainDecl { name, at, body })
     }
 

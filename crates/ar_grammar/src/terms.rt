@@ -1,12 +1,11 @@
 //! The parts of expressions that are one token long, and the forms of those that are longer.
 
-ghost use Rattle.std.specs.Prelude.{◌≡◌, ◌≢◌, ◌++◌, ◌∷◌, ℕ, length, Option, IfOk, IfErr, IfSome, IfNone, true, false, Some};
-ghost use Rattle.ar_lexer.specs.declared.token.TokenKind.TheVariants.{Sign, Reserved, End};
-ghost use Rattle.ar_lexer.specs.declared.signs.TheConstants.{COMMA, OPEN_PARENTHESIS, CLOSE_PARENTHESIS, PLUS, MINUS};
-ghost use Rattle.ar_grammar.specs.Words.{StandsAt, IsSpanOf, token, ◌▸◌, between, each, many, ReadsSome};
-ghost use Rattle.ar_grammar.specs.Expressions.{Node, ReadsExpr, ReadsNot, ReadsMinus, ReadsOr, ReadsAnd, ReadsProduct, ReadsSum, ReadsTerm, ReadsCompare, ReadsPrimary, ReadsIf, ReadsSwitch, ReadsCase, ReadsOperands, sign_of};
-ghost use Rattle.ar_grammar.specs.Chains.{separator_of, operand_form, chain_form, chain_of, ends_operand, ends_chain, IsConstant, word_of, call_of, IsComparison, IsOneCase};
-ghost use Rattle.ar_grammar.specs.Results.{kind_at, Takes, Finds, Spans, Eats, anything, is_relation, begins_term, ends_path, ends_names, ends_product, ends_sum, ends_not, ends_expr};
+ghost use Rattle.std.specs.Prelude.{◌≡◌, ◌≢◌, Option, IfOk, IfErr, IfSome, IfNone, true, false, Some};
+ghost use Rattle.ar_lexer.specs.declared.token.TokenKind.TheVariants.{Sign, End};
+ghost use Rattle.ar_lexer.specs.declared.signs.TheConstants.{PLUS, MINUS};
+ghost use Rattle.ar_grammar.specs.Expressions.{sign_of};
+ghost use Rattle.ar_grammar.specs.Chains.{separator_of, chain_of, IsConstant, word_of, call_of, IsComparison};
+ghost use Rattle.ar_grammar.specs.Results.{kind_at, Eats, is_relation, begins_term};
 ghost use Rattle.ar_grammar.specs.declared.lexeme.Refusal.TheVariants.{Memory};
 ghost use Rattle.ar_grammar.specs.Texts.{begins_constant, begins_call};
 
@@ -101,8 +100,8 @@ fn relation_of(kind: TokenKind) -> Option<RawRelation>
     None
 }
 
-// The constant that a token is.
-fn constant_of(kind: TokenKind) -> Option<RawForm>
+/// The constant that a token is.
+pub(crate) fn constant_of(kind: TokenKind) -> Option<RawForm>
     ensures found { IfSome result (λ f. IsConstant f kind) }
     ensures none { IfNone result (begins_constant kind ≡ false) }
 {
@@ -122,8 +121,8 @@ fn constant_of(kind: TokenKind) -> Option<RawForm>
     }
 }
 
-// The call that a token begins.
-fn call_at(kind: TokenKind) -> Option<Call>
+/// The call that a token begins.
+pub(crate) fn call_at(kind: TokenKind) -> Option<Call>
     ensures found { IfSome result (λ c. kind ≡ word_of c) }
     ensures none { IfNone result (begins_call kind ≡ false) }
 {
@@ -165,29 +164,6 @@ impl<'a> Parser<'a> {
         Some(relation)
     }
 
-    /// Takes a constant.
-    pub(crate) fn eat_constant(&mut self) -> Option<RawForm>
-        ensures taken { IfSome result (λ f. (k : _) × Eats k self.old.rest.now self.new.rest.now
-            × IsConstant f k) }
-        ensures left { IfNone result (self.new.rest.now ≡ self.old.rest.now) }
-        ensures other { IfNone result (begins_constant (kind_at self.old.rest.now) ≡ false) }
-    {
-        let form = constant_of(self.kind())?;
-        self.skip();
-        Some(form)
-    }
-
-    /// Takes the word of a call.
-    pub(crate) fn eat_call(&mut self) -> Option<Call>
-        ensures taken { IfSome result (λ c. Eats (word_of c) self.old.rest.now self.new.rest.now) }
-        ensures left { IfNone result (self.new.rest.now ≡ self.old.rest.now) }
-        ensures other { IfNone result (begins_call (kind_at self.old.rest.now) ≡ false) }
-    {
-        let call = call_at(self.kind())?;
-        self.skip();
-        Some(call)
-    }
-
     /// Takes `+` or `-`: true for `+`.
     pub(crate) fn eat_plus(&mut self) -> Option<bool>
         ensures plus { result ≡ Some true → Eats (Sign PLUS) self.old.rest.now self.new.rest.now }
@@ -212,21 +188,6 @@ impl<'a> Parser<'a> {
         self.is_at(TokenKind::Sign(signs::PLUS)) || self.is_at(TokenKind::Sign(signs::MINUS))
     }
 
-    /// The expression in brackets, from the one bracket to the other.
-    pub(crate) fn bracketed(&self, start: &[Lexeme], inner: RawExpr) -> RawExpr
-        ensures form { result.form ≡ inner.form }
-        ensures there { (t : _) (ts : _) → start.now ≡ (t ∷ ts) ++ self.now.rest.now
-            → StandsAt result.at (t ∷ ts) }
-        ensures span { (ts : _) → start.now ≡ ts ++ self.now.rest.now → IsSpanOf result.span ts }
-    {
-        let RawExpr {
-            at: _,
-            span: _,
-            form,
-        } = inner;
-        self.node(start, form)
-    }
-
     /// The form of a comparison.
     pub(crate) fn compared(
         &self,
@@ -240,19 +201,5 @@ impl<'a> Parser<'a> {
         let first = in_box(self.alloc, first)?;
         let second = in_box(self.alloc, second)?;
         Ok(RawForm::Compare(relation, first, second))
-    }
-
-    /// The form of a choice with one case.
-    pub(crate) fn one_case(
-        &self,
-        case: (RawExpr, RawExpr),
-        other: RawExpr,
-    ) -> Result<RawForm, Refusal>
-        ensures made { IfOk result (IsOneCase case.0 case.1 other) }
-        ensures err { IfErr result (λ e. e ≡ Memory) }
-    {
-        let cases = list_of(self.alloc, case)?;
-        let other = in_box(self.alloc, other)?;
-        Ok(RawForm::Choose(cases, other))
     }
 }

@@ -8,7 +8,7 @@ ghost use Rattle.hierarchy.specs.Models.{RootedModel};
 ghost use Rattle.hierarchy.specs.Units.{UnitPath};
 ghost use Rattle.hierarchy.specs.Tie.{IsTreeOf};
 ghost use Rattle.bind_scopes.specs.Scopes.{HasScopes};
-ghost use Rattle.bind_rules.specs.Breaking.{IsNoEvent, HasNoEvent, IsNoOwnEvent, MisnamesEvent, BreaksEvent};
+ghost use Rattle.bind_rules.specs.Breaking.{IsNoEvent, HasNoEvent, IsNoOwnEvent, BreaksEvent};
 
 use crate::rules::Rule;
 use ar_base::{NameId, Place, UnitId};
@@ -60,25 +60,6 @@ fn no_own_event(scopes: &Scopes<'_>, unit: UnitId, name: NameId, at: Place) -> O
     }
 }
 
-// The earliest place at which the member names no event where an event is needed.
-fn misnamed_event(scopes: &Scopes<'_>, unit: UnitId, member: &Member) -> Option<Place>
-    requires scopes { HasScopes scopes.now }
-    requires in_range { unit.n < length scopes.now.tree.now.units.items }
-    ensures { (m : RootedModel) (units : List UnitPath) (u : UnitPath)
-        → IsTreeOf m units scopes.now.tree.now → Stands units unit.n u
-        → IsEarliest (MisnamesEvent m u (out-Member member.now)) result }
-{
-    match member {
-        Member::Hide(path) => no_event(scopes, unit, path),
-        Member::Sync(name, at, parts) => earliest(
-            no_own_event(scopes, unit, *name, *at),
-            no_event_in(scopes, unit, parts),
-        ),
-        Member::Local(name, at, _, _) => no_own_event(scopes, unit, *name, *at),
-        _ => None,
-    }
-}
-
 /// The earliest place at which the member breaks the rule by a name of an event.
 pub(crate) fn in_event(
     scopes: &Scopes<'_>,
@@ -93,7 +74,15 @@ pub(crate) fn in_event(
         → IsEarliest (BreaksEvent m rule u (out-Member member.now)) result }
 {
     match rule {
-        Rule::Names => misnamed_event(scopes, unit, member),
+        Rule::Names => match member {
+            Member::Hide(path) => no_event(scopes, unit, path),
+            Member::Sync(name, at, parts) => earliest(
+                no_own_event(scopes, unit, *name, *at),
+                no_event_in(scopes, unit, parts),
+            ),
+            Member::Local(name, at, _, _) => no_own_event(scopes, unit, *name, *at),
+            _ => None,
+        },
         Rule::Kinds => None,
         Rule::Targets => None,
     }

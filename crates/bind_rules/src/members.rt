@@ -45,20 +45,6 @@ fn in_member<'a>(scopes: &'a Scopes<'a>, rule: Rule, unit: UnitId, member: &Memb
     }
 }
 
-// The earliest place at which a member that is no block breaks the rule.
-fn in_owned<'a>(scopes: &'a Scopes<'a>, rule: Rule, unit: UnitId, owned: &Owned) -> Option<Place>
-    requires scopes { HasScopes scopes.now }
-    requires in_range { unit.n < length scopes.now.tree.now.units.items }
-    ensures { (m : RootedModel) (units : List UnitPath) (u : UnitPath)
-        → AreScopes m units scopes.now → Stands units unit.n u
-        → IsEarliest (BreaksOneMember m rule u (form_of (Some owned.now))) result }
-{
-    match owned {
-        Owned::Nested(_, _, _) => None,
-        Owned::Plain(member) => in_member(scopes, rule, unit, member),
-    }
-}
-
 // The earliest place at which the member at a site breaks the rule.
 fn in_site<'a>(
     scopes: &'a Scopes<'a>,
@@ -75,7 +61,8 @@ fn in_site<'a>(
 {
     match owned_at(&scopes.tree.classes.bodies, site) {
         None => None,
-        Some(owned) => in_owned(scopes, rule, unit, owned),
+        Some(Owned::Nested(_, _, _)) => None,
+        Some(Owned::Plain(member)) => in_member(scopes, rule, unit, member),
     }
 }
 

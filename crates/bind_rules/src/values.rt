@@ -1,7 +1,7 @@
 //! The values of variables and parameters and the expressions of observers, and where they break a
 //! rule.
 
-ghost use Rattle.std.specs.Prelude.{◌≡◌, IsTrue, IfSome, List, Some, option_map};
+ghost use Rattle.std.specs.Prelude.{◌≡◌, IfSome, List, Some, option_map};
 ghost use Rattle.ar_base.specs.Lists.{Along, Stands};
 ghost use Rattle.class_table.specs.Declaring.{Declared};
 ghost use Rattle.class_table.specs.Members.{owned_at as declared_at};
@@ -77,13 +77,6 @@ fn tested<'a>(scopes: &'a Scopes<'a>, rule: Rule, kind: ValueKind, value: Attrib
     (value, kind, place)
 }
 
-// Whether this is the test of the value, of which this kind is wanted.
-fn is_of(test: Tested, kind: ValueKind, value: Attribute) -> bool
-    ensures { IsTrue result → (test.0 ≡ value) × (test.1 ≡ kind) }
-{
-    is_same_value(test.0, value) && is_same_kind(test.1, kind)
-}
-
 // The test of the value of a variable, which is the last one where that was of the same value.
 fn in_variable<'a>(
     scopes: &'a Scopes<'a>,
@@ -100,7 +93,7 @@ fn in_variable<'a>(
     let Some(test) = last else {
         return tested(scopes, rule, kind, node.value);
     };
-    if is_of(test, kind, node.value) {
+    if is_same_value(test.0, node.value) && is_same_kind(test.1, kind) {
         test
     } else {
         tested(scopes, rule, kind, node.value)
@@ -137,25 +130,15 @@ fn in_parameter<'a>(scopes: &'a Scopes<'a>, rule: Rule, place: u32, node: &ParNo
     )
 }
 
-// The type and the expression of an observer.
-fn observed(owned: &Owned) -> Option<(TypeForm, &RawExpr)>
-    ensures { option_map (λ o. (o.0, o.1.now)) result ≡ observed_in (Some owned.now) }
-{
-    match owned {
-        Owned::Plain(Member::Observer(type_name, _, _, expr)) => Some((type_name.form, expr)),
-        _ => None,
-    }
-}
-
 /// The type and the expression of the observer that stands there, where one does. Takes no memory.
 pub fn observed_at(classes: &Classes, source: Source) -> Option<(TypeForm, &RawExpr)>
     ensures { (d : Declared) → Along IsBodyOf classes.now.bodies.items d.bodies
         → option_map (λ o. (o.0, o.1.now)) result
         ≡ observed_in (declared_at d (site_of (source.body, source.member))) }
 {
-    match owned_at(&classes.bodies, (source.body, source.member)) {
-        None => None,
-        Some(owned) => observed(owned),
+    match owned_at(&classes.bodies, (source.body, source.member))? {
+        Owned::Plain(Member::Observer(type_name, _, _, expr)) => Some((type_name.form, expr)),
+        _ => None,
     }
 }
 

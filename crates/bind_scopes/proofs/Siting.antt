@@ -277,6 +277,11 @@ module _ (m : RootedModel) where
       by None n f = cc
       by (Some g) n f = let w = last g (target_in g.name g.kind) f in (g, n, w.0, w.1)
 
+-- where nothing stands, nothing is written
+pub nothing_written : (setting : Option ℕ) (o : Option Owned) → None ≡ o → None ≡ written_of setting o
+nothing_written None o e = ap (written_of None) e
+nothing_written (Some k) o e = ap (written_of (Some k)) e
+
 -- what the table says of the value of a thing
 pub attribute_written : (m : RootedModel) (c : Classes) (units : List UnitPath) (t : Thing) (b : tree.Attribute)
     (source : Source) → IsRootedTable m c → b.source ≡ source → HasAttribute m units t b

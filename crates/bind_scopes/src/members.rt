@@ -1,13 +1,13 @@
 //! The names of members of units, by the units' bodies.
 
-ghost use Rattle.std.specs.Prelude.{◌≡◌, ◌+◌, ℕ, List, [], ◌∷◌, map, length, OnOk, IfOk, Some};
-ghost use Rattle.ar_base.specs.Lists.{Along, Stands};
+ghost use Rattle.std.specs.Prelude.{◌≡◌, List, [], ◌∷◌, map, length, OnOk, IfOk, Some};
+ghost use Rattle.ar_base.specs.Lists.{Along};
 ghost use Rattle.class_table.specs.Declaring.{Declared};
-ghost use Rattle.class_table.specs.Members.{Site, MemberKind, NamedMember, names_of, named_at, all_named, owned_at as declared_at};
+ghost use Rattle.class_table.specs.Members.{Site, MemberKind, NamedMember, names_of, named_at, all_named};
 ghost use Rattle.class_table.specs.Shown.{IsDeclaredBy};
 ghost use Rattle.class_table.specs.Tables.{HoldsDeclared, IsNamedType, site_of};
 ghost use Rattle.hierarchy.specs.Models.{RootedModel};
-ghost use Rattle.hierarchy.specs.Tie.{IsTreeOf, IsUnitNode};
+ghost use Rattle.hierarchy.specs.Tie.{IsTreeOf};
 ghost use Rattle.hierarchy.specs.Units.{UnitPath};
 ghost use Rattle.unit_rules.specs.Typing.{KnowsPlaces};
 ghost use Rattle.bind_scopes.specs.Members.{AddsNames, HasFirst};
@@ -16,7 +16,7 @@ use crate::sites::members_of;
 use ar_base::{BodyId, Memory, NameId, Place};
 use ar_syntax::{Member, TypeForm};
 use class_table::{Classes, Owned, TypeBody, owned_at};
-use hierarchy::{Tree, UnitNode};
+use hierarchy::Tree;
 use std::alloc::Global;
 use std::collections::HashSet;
 use unit_rules::TypePlaces;
@@ -95,24 +95,6 @@ fn add_member(
     }
 }
 
-// Adds the names that the member at a site gives for the body.
-fn add_site(
-    names: &mut Names,
-    body: BodyId,
-    classes: &Classes,
-    places: &TypePlaces,
-    site: (BodyId, u32),
-) -> Result<(), Memory>
-    ensures { (d : Declared) → HoldsDeclared d classes.now → KnowsPlaces classes.now.types.items places.now
-        → OnOk result (AddsNames body.n
-        (names_of d (site_of site) (declared_at d (site_of site))) names.old names.new) }
-{
-    match owned_at(&classes.bodies, site) {
-        None => Ok(()),
-        Some(owned) => add_member(names, body, owned, &classes.types, places),
-    }
-}
-
 // Adds the names of the members at these sites for the body.
 fn add_sites(
     names: &mut Names,
@@ -125,25 +107,11 @@ fn add_sites(
         → OnOk result (AddsNames body.n (named_at d (map site_of sites.now)) names.old names.new) }
 {
     for site in sites {
-        add_site(names, body, classes, places, *site)?;
+        if let Some(owned) = owned_at(&classes.bodies, *site) {
+            add_member(names, body, owned, &classes.types, places)?;
+        }
     }
     Ok(())
-}
-
-// Adds the names of the members of a unit, for the unit's body.
-fn add_unit(
-    names: &mut Names,
-    tree: &Tree,
-    places: &TypePlaces,
-    node: &UnitNode,
-) -> Result<(), Memory>
-    ensures { (m : RootedModel) (units : List UnitPath) (u : UnitPath) (n : ℕ)
-        → IsTreeOf m units tree.now → KnowsPlaces tree.now.classes.types.items places.now
-        → Stands units n u → IsUnitNode m units u node.now → HasFirst m units n names.old
-        → OnOk result (HasFirst m units (n + 1) names.new) }
-{
-    let sites = members_of(&tree.classes, node.body);
-    add_sites(names, node.body, &tree.classes, places, sites)
 }
 
 /// The names of the members of all units, inherited ones included, by the units' bodies.
@@ -154,7 +122,8 @@ pub(crate) fn names_of_members(alloc: Global, tree: &Tree) -> Result<Names, Memo
     let places = TypePlaces::new(alloc, &tree.classes.types)?;
     let mut names = HashSet::new(alloc);
     for node in &tree.units {
-        add_unit(&mut names, tree, &places, node)?;
+        let sites = members_of(&tree.classes, node.body);
+        add_sites(&mut names, node.body, &tree.classes, &places, sites)?;
     }
     Ok(names)
 }

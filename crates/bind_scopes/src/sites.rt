@@ -1,8 +1,7 @@
 //! What stands where the nodes of a tree say.
 
-ghost use Rattle.std.specs.Prelude.{◌≡◌, ℕ, List, [], map, Some, option_copied, slice_get, unwrap_or};
-ghost use Rattle.class_table.specs.Declaring.{Declared};
-ghost use Rattle.class_table.specs.Tables.{HoldsDeclared, site_of};
+ghost use Rattle.std.specs.Prelude.{◌≡◌, List, [], map, Some, option_copied, slice_get, unwrap_or};
+ghost use Rattle.class_table.specs.Tables.{site_of};
 ghost use Rattle.hierarchy.specs.Models.{RootedModel, IsRootedTable};
 ghost use Rattle.hierarchy.specs.Units.{UnitPath, Thing};
 ghost use Rattle.hierarchy.specs.Settings.{Attribute as Value, in_force};
@@ -87,13 +86,6 @@ pub fn written<'a>(classes: &'a Classes, source: Source) -> Option<&'a RawExpr>
         → IsRootedTable m classes.now → b.source ≡ source → HasAttribute m units t b
         → (a : Value) × (in_force m t ≡ Some a) × IsAttribute units a b
         × (option_copied result ≡ Some a.value) }
-{
-    found(classes, source)
-}
-
-// The expression at a place, as the table tells it.
-fn found<'a>(classes: &'a Classes, source: Source) -> Option<&'a RawExpr>
-    ensures { option_copied result ≡ written_of source.setting (owned_in classes.now source) }
 {
     match owned_at(classes, source) {
         Some(owned) => written_in(owned, source.setting),

@@ -3,12 +3,12 @@
 ghost use Rattle.std.specs.Prelude.{◌≡◌, ◌↔◌, IsTrue, IfOk};
 ghost use Rattle.class_table.specs.Earliest.{IsEarliest};
 ghost use Rattle.class_table.specs.Rules.{item_name, item_place, IsNoDomain, BreaksItems};
-ghost use Rattle.class_table.specs.Items.{IsNoDomainItem, HasNoDomain, IsNoRange, AreNoSymbols, IsNoneAt};
+ghost use Rattle.class_table.specs.Items.{IsNoDomainItem, HasNoDomain, IsNoRange, AreNoSymbols};
 
 use crate::earliest::earliest;
 use crate::repeats::Repeats;
 use ar_base::{Memory, NameId, Place};
-use ar_syntax::{DomainBody, DomainDecl, Item};
+use ar_syntax::{DomainBody, Item};
 use std::alloc::Global;
 
 /// The greatest number of values of a domain.
@@ -20,31 +20,22 @@ pub(crate) fn first_wrong_item(alloc: Global, items: &[Item]) -> Result<Option<P
 {
     let mut names = Repeats::new(alloc);
     for item in items {
-        names.add(name_of(item), place_of(item))?;
+        let (name, at) = named(item);
+        names.add(name, at)?;
     }
     let wrong = first_no_domain(alloc, items)?;
     Ok(earliest(names.found, wrong))
 }
 
-// The name of an item.
-fn name_of(item: &Item) -> NameId
-    ensures { result ≡ item_name item.now }
+// The name of an item, and where it stands.
+fn named(item: &Item) -> (NameId, Place)
+    ensures name { result.0 ≡ item_name item.now }
+    ensures place { result.1 ≡ item_place item.now }
 {
     match item {
-        Item::Domain(domain) => domain.name,
-        Item::Class(unit) => unit.name,
-        Item::Block(unit) => unit.name,
-    }
-}
-
-// Where the name of an item stands.
-fn place_of(item: &Item) -> Place
-    ensures { result ≡ item_place item.now }
-{
-    match item {
-        Item::Domain(domain) => domain.at,
-        Item::Class(unit) => unit.at,
-        Item::Block(unit) => unit.at,
+        Item::Domain(domain) => (domain.name, domain.at),
+        Item::Class(unit) => (unit.name, unit.at),
+        Item::Block(unit) => (unit.name, unit.at),
     }
 }
 
@@ -64,19 +55,15 @@ fn no_domain(alloc: Global, item: &Item) -> Result<Option<Place>, Memory>
     ensures { IfOk result (IsEarliest (IsNoDomainItem item.now)) }
 {
     match item {
-        Item::Domain(domain) => place_of_none(alloc, domain),
+        Item::Domain(domain) => {
+            if is_no_domain(alloc, &domain.body)? {
+                Ok(Some(domain.at))
+            } else {
+                Ok(None)
+            }
+        }
         Item::Class(_) => Ok(None),
         Item::Block(_) => Ok(None),
-    }
-}
-
-fn place_of_none(alloc: Global, domain: &DomainDecl) -> Result<Option<Place>, Memory>
-    ensures { IfOk result (IsEarliest (IsNoneAt domain.now)) }
-{
-    if is_no_domain(alloc, &domain.body)? {
-        Ok(Some(domain.at))
-    } else {
-        Ok(None)
     }
 }
 

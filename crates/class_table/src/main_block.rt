@@ -25,22 +25,10 @@ pub(crate) fn main_block(
 {
     match main {
         None => blocks.last().copied(),
-        Some(text) => main_named(names, bodies, blocks, text),
-    }
-}
-
-// The top-level block of this name.
-fn main_named(names: &Names, bodies: &[Body], blocks: &[BodyId], text: &str) -> Option<BodyId>
-    ensures some { (d : Declared) → Along IsBodyOf bodies.now d.bodies
-        → map (λ b. b.n) blocks.now ≡ d.blocks
-        → IfSome result (λ b. IsMain names.now d (Some text.now) b.n) }
-    ensures none { (d : Declared) → Along IsBodyOf bodies.now d.bodies
-        → map (λ b. b.n) blocks.now ≡ d.blocks
-        → IfNone result ((b : ℕ) → IsMain names.now d (Some text.now) b → ⊥) }
-{
-    match names.find(text) {
-        None => None,
-        Some(name) => block_named(bodies, blocks, name),
+        Some(text) => match names.find(text) {
+            None => None,
+            Some(name) => block_named(bodies, blocks, name),
+        },
     }
 }
 

@@ -5,7 +5,7 @@ ghost use Rattle.class_table.specs.Declaring.{Declared};
 ghost use Rattle.class_table.specs.Members.{Members, Inherits, own_at, sites_from, extended as declared_extended};
 ghost use Rattle.class_table.specs.Tables.{site_of};
 ghost use Rattle.class_table.specs.Shown.{Shows, IsListed};
-ghost use Rattle.class_table.specs.Listing.{ListsDone, IsDone, AreDone, CanList, IsOfClass, AddsClass, InheritsMore};
+ghost use Rattle.class_table.specs.Listing.{ListsDone, IsDone, AreDone, CanList, IsOfClass, InheritsMore};
 
 use crate::tables::{Body, MOST_MEMBERS, Owned};
 use crate::types::TypeKinds;
@@ -74,8 +74,13 @@ fn count_members(bodies: &[Body], types: &TypeKinds, own: &[Owned]) -> usize
 // How many members a member brings of the class that it extends, if it extends one.
 // Takes no memory.
 fn count_inherited(bodies: &[Body], types: &TypeKinds, owned: &Owned) -> usize {
-    let class = extended(owned).and_then(|name| types.class(name));
-    match class.and_then(|class| bodies.get(class.n as usize)) {
+    let Some(name) = extended(owned) else {
+        return 0;
+    };
+    let Some(class) = types.class(name) else {
+        return 0;
+    };
+    match bodies.get(class.n as usize) {
         Some(body) => body.all.len(),
         None => 0,
     }
@@ -119,7 +124,10 @@ fn inherit(
 {
     match extended(owned) {
         None => Ok(()),
-        Some(name) => inherit_class(all, bodies, types, name),
+        Some(name) => {
+            all.extend_from_slice(listed_of(bodies, types, name))?;
+            Ok(())
+        }
     }
 }
 
@@ -131,24 +139,6 @@ pub(crate) fn extended(owned: &Owned) -> Option<NameId>
         Owned::Plain(Member::Extends(name, _)) => Some(*name),
         _ => None,
     }
-}
-
-// Adds the members of the class of this name.
-fn inherit_class(
-    all: &mut Vec<(BodyId, u32)>,
-    bodies: &[Body],
-    types: &TypeKinds,
-    name: NameId,
-) -> Result<(), Memory>
-    requires { (d : Declared) × (done : List ℕ) × ListsDone d done bodies.now types.now
-        × IsDone d done name.n }
-    ensures { (d : Declared) (done : List ℕ) → ListsDone d done bodies.now types.now
-        → IsDone d done name.n
-        → OnOk result (AddsClass d name.n (map site_of all.old.items) (map site_of all.new.items)) }
-{
-    let more = listed_of(bodies, types, name);
-    all.extend_from_slice(more)?;
-    Ok(())
 }
 
 // The members of the class of this name, which are listed.

@@ -1,6 +1,6 @@
 //! An order of bodies in which each comes after those inside it.
 
-ghost use Rattle.std.specs.Prelude.{◌≡◌, ◌<◌, ◌+◌, ◌⊎◌, ◌^◌, ℕ, true, Vec, List, [], ◌∷◌, length, IfOk, OnOk, IfSome, IfNone};
+ghost use Rattle.std.specs.Prelude.{◌≡◌, ◌<◌, ◌⊎◌, ◌^◌, ℕ, true, Vec, List, [], ◌∷◌, length, IfOk, OnOk, IfSome, IfNone};
 ghost use Rattle.std.specs.Global.{Global};
 ghost use Rattle.ar_base.specs.Lists.{Stands, IsOneOf};
 ghost use Rattle.class_table.specs.Searching.{IsSeen, OpensOne};
@@ -129,18 +129,6 @@ impl Sorting {
         Ok(())
     }
 
-    // Settles the bodies that wait for the one at this place of the order.
-    fn release(&mut self, alloc: Global, next: usize) -> Result<(), Memory>
-        requires sorts { Sorts self.old next [] }
-        requires there { next < length self.old.order.items }
-        ensures { (rows : List (Vec ℕ Global)) → IsSorting rows self.old next []
-            → OnOk result (IsSorting rows self.new (next + 1) []) }
-    {
-        let place = self.order[next] as usize;
-        let waiting = mem::replace(&mut self.waiting[place], Vec::new(alloc));
-        self.settle_all(&waiting)
-    }
-
     // Settles the bodies that wait for those in the order, as long as there are any.
     fn release_all(&mut self, alloc: Global) -> Result<(), Memory>
         requires { Sorts self.old 0 [] }
@@ -151,7 +139,9 @@ impl Sorting {
             if next >= self.order.len() {
                 return Ok(());
             }
-            self.release(alloc, next)?;
+            let place = self.order[next] as usize;
+            let waiting = mem::replace(&mut self.waiting[place], Vec::new(alloc));
+            self.settle_all(&waiting)?;
         }
         Ok(())
     }

@@ -1,9 +1,8 @@
 //! Symbols, numbered in the order of their first appearance in declarations of domains.
 
-ghost use Rattle.std.specs.Prelude.{◌≡◌, ◌∷◌, [], ℕ, List, map, OnOk, IfOk, None, nat_eq};
+ghost use Rattle.std.specs.Prelude.{◌≡◌, ◌∷◌, [], map, IfOk};
 ghost use Rattle.std.specs.HashMap.{get};
 ghost use Rattle.ar_base.specs.Lists.{Along, Stands};
-ghost use Rattle.ar_base.specs.Numbers.{NameId as Name};
 ghost use Rattle.ar_base.specs.declared.places.Place.{Place};
 ghost use Rattle.class_table.specs.Declaring.{symbols_in, DomainType};
 ghost use Rattle.class_table.specs.Tables.{IsTypeOf};
@@ -43,21 +42,13 @@ impl Symbols {
     {
         match self.numbers.get(&name.n).copied() {
             Some(number) => Ok(number),
-            None => self.next_number(name),
+            None => {
+                let number = self.list.len() as u32;
+                self.numbers.insert(name.n, number)?;
+                self.list.push(name)?;
+                Ok(number)
+            }
         }
-    }
-
-    // The next number for a new symbol.
-    fn next_number(&mut self, name: NameId) -> Result<u32, Memory>
-        requires numbered { AreNumbered self.old }
-        requires is_new { get nat_eq self.old.numbers name.n ≡ None }
-        ensures { IfOk result (λ n. UsesMore (name.n ∷ []) self.old self.new
-            × Stands (list_of self.new) n name.n) }
-    {
-        let number = self.list.len() as u32;
-        self.numbers.insert(name.n, number)?;
-        self.list.push(name)?;
-        Ok(number)
     }
 
     // The numbers of the symbols of a declaration.

@@ -6,14 +6,13 @@ ghost use Rattle.ar_base.specs.Breach.{AreKept};
 ghost use Rattle.ar_base.specs.Stages.{Keeps, Meets};
 ghost use Rattle.class_table.specs.Tabling.{Tabulates};
 ghost use Rattle.std.specs.Prelude.{IfOk};
-ghost use Rattle.class_table.specs.Declaring.{Declared as Declaration, IsDeclared};
+ghost use Rattle.class_table.specs.Declaring.{Declared as Declaration};
 ghost use Rattle.class_table.specs.Testing.{TakesApart, AreAsDeclared};
 ghost use Rattle.ar_syntax.specs.declared.items.Model.{Model as Tree};
 ghost use Rattle.class_table.specs.Earliest.{IsEarliest};
 ghost use Rattle.class_table.specs.Rules.{BreaksContainment, BreaksTextRule};
 ghost use Rattle.class_table.specs.Rows.{AreInside};
 ghost use Rattle.class_table.specs.Ordering.{IsOrder};
-ghost use Rattle.class_table.specs.Listing.{CanList};
 ghost use Rattle.class_table.specs.Shown.{Shows, IsListed};
 
 use crate::containment::first_contained;
@@ -60,23 +59,6 @@ fn taken_apart(alloc: Global, items: Vec<Item>) -> Result<Declared, RuleFault>
     Ok(declared)
 }
 
-// An order of the bodies in which their members can be listed, where rules L2 and L3 are kept.
-fn ordered(alloc: Global, bodies: &[Body], kinds: &TypeKinds) -> Result<Vec<u32>, RuleFault>
-    requires few { length bodies.now ≤ 16777216 }
-    requires shown { (model : Tree) × (d : Declaration) × IsDeclared model d
-        × Shows d bodies.now kinds.now }
-    ensures { (model : Tree) (main : Option (List ℕ)) (d : Declaration) → IsDeclared model d
-        → Shows d bodies.now kinds.now → AreKept (1 ∷ []) (BreaksTextRule model main d)
-        → Meets (Keeps (1 ∷ 2 ∷ 3 ∷ []) (BreaksTextRule model main))
-        (λ d order. CanList d order.items) d result }
-{
-    keep(2, first_misnamed(bodies, kinds))?;
-    let rows = all_inside(alloc, bodies, kinds)?;
-    let order = put_in_order(alloc, rows)?;
-    keep(3, first_inside_itself(alloc, bodies, kinds, &order)?)?;
-    Ok(order)
-}
-
 // Lists the members of the bodies, where rules L2 to L4 are kept.
 fn list_all(
     alloc: Global,
@@ -94,7 +76,10 @@ fn list_all(
         (λ d _. IsListed d bodies.new) d result }
 {
     let kinds = TypeKinds::new(alloc, types)?;
-    let order = ordered(alloc, bodies, &kinds)?;
+    keep(2, first_misnamed(bodies, &kinds))?;
+    let rows = all_inside(alloc, bodies, &kinds)?;
+    let order = put_in_order(alloc, rows)?;
+    keep(3, first_inside_itself(alloc, bodies, &kinds, &order)?)?;
     list_members(alloc, bodies, &kinds, &order)?;
     keep(4, first_named_twice(alloc, bodies, &kinds)?)
 }

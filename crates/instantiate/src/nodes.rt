@@ -5,7 +5,7 @@ ghost use Rattle.std.specs.List.{flat_map};
 ghost use Rattle.ar_base.specs.Lists.{Along};
 ghost use Rattle.ar_syntax.specs.declared.members.Member.{out-Member};
 ghost use Rattle.class_table.specs.Declaring.{Declared};
-ghost use Rattle.class_table.specs.Members.{names_of, named_at, owned_at as declared_at};
+ghost use Rattle.class_table.specs.Members.{names_of, named_at};
 ghost use Rattle.class_table.specs.Tables.{HoldsDeclared, site_of};
 ghost use Rattle.hierarchy.specs.Models.{RootedModel, IsRootedTable};
 ghost use Rattle.hierarchy.specs.Units.{UnitPath, body_of, names_at};
@@ -126,26 +126,6 @@ fn add_member(
     }
 }
 
-// Adds the nodes of what the member at a site gives of the kind.
-fn add_site(
-    nodes: &mut Vec<MemNode>,
-    unit: UnitId,
-    site: (BodyId, u32),
-    classes: &Classes,
-    places: &TypePlaces,
-    listed: Listed,
-) -> Result<(), Memory>
-    ensures { (d : Declared) → HoldsDeclared d classes.now → KnowsPlaces classes.now.types.items places.now
-        → OnOk result (nodes.new.items ≡ nodes.old.items
-        ++ nodes_of unit (test_of listed)
-        (names_of d (site_of site) (declared_at d (site_of site)))) }
-{
-    match owned_at(&classes.bodies, site) {
-        None => Ok(()),
-        Some(owned) => add_member(nodes, unit, site, owned, classes, places, listed),
-    }
-}
-
 // Adds the nodes of what the members at these sites give of the kind.
 fn add_sites(
     nodes: &mut Vec<MemNode>,
@@ -160,7 +140,9 @@ fn add_sites(
         ++ nodes_of unit (test_of listed) (named_at d (map site_of sites.now))) }
 {
     for site in sites {
-        add_site(nodes, unit, *site, classes, places, listed)?;
+        if let Some(owned) = owned_at(&classes.bodies, *site) {
+            add_member(nodes, unit, *site, owned, classes, places, listed)?;
+        }
     }
     Ok(())
 }

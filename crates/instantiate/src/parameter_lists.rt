@@ -2,13 +2,12 @@
 
 ghost use Rattle.std.specs.Prelude.{◌≡◌, ◌<◌, ◌^◌, List, IfOk, None, Some, length};
 ghost use Rattle.ar_base.specs.Lists.{Along};
-ghost use Rattle.ar_syntax.specs.declared.expressions.RawExpr.{RawExpr};
-ghost use Rattle.class_table.specs.Members.{NamedMember, Parameter};
+ghost use Rattle.class_table.specs.Members.{Parameter};
 ghost use Rattle.hierarchy.specs.Models.{RootedModel};
 ghost use Rattle.hierarchy.specs.Units.{UnitPath, Thing};
 ghost use Rattle.hierarchy.specs.Walks.{is_parameter};
 ghost use Rattle.hierarchy.specs.Listing.{parameters as parameters_of};
-ghost use Rattle.hierarchy.specs.Tie.{IsNode, IsParameterNode};
+ghost use Rattle.hierarchy.specs.Tie.{IsParameterNode};
 ghost use Rattle.hierarchy.specs.Tie.{AreOutlines};
 ghost use Rattle.unit_rules.specs.Typing.{KnowsPlaces};
 ghost use Rattle.instantiate.specs.Nodes.{IsNodeSo};
@@ -38,34 +37,6 @@ fn type_of(owned: &Owned) -> Option<Option<TypeForm>>
             _ => None,
         },
     }
-}
-
-// The parameter of a node, of this type.
-fn typed(
-    alloc: Global,
-    classes: &Classes,
-    places: &TypePlaces,
-    settings: &SettingPlaces,
-    outlines: &[Outline],
-    node: MemNode,
-    form: TypeForm,
-) -> Result<ParNode, Memory>
-    ensures { (m : RootedModel) (units : List UnitPath) (t : Thing) (g : NamedMember)
-        (value : RawExpr)
-        → AreOutlines m units classes.now outlines.now
-        → KnowsPlaces classes.now.types.items places.now → TellsSettings m settings.now
-        → IsNode m units t g node → g.kind ≡ Parameter form value
-        → IfOk result (IsParameterNode m units t) }
-{
-    let domain = domain_of(classes, places, form)?;
-    let mut target = Vec::new(alloc);
-    target.push(Word::Name(node.name))?;
-    let value = value_of(alloc, settings, outlines, node, target, None)?;
-    Ok(ParNode {
-        node,
-        domain,
-        value,
-    })
 }
 
 // The parameter of a node that has no type, whose value has no meaning.
@@ -108,7 +79,17 @@ fn parameter(
     match type_of(owned) {
         None => Ok(untyped(node)),
         Some(None) => Ok(untyped(node)),
-        Some(Some(form)) => typed(alloc, classes, places, settings, outlines, node, form),
+        Some(Some(form)) => {
+            let domain = domain_of(classes, places, form)?;
+            let mut target = Vec::new(alloc);
+            target.push(Word::Name(node.name))?;
+            let value = value_of(alloc, settings, outlines, node, target, None)?;
+            Ok(ParNode {
+                node,
+                domain,
+                value,
+            })
+        }
     }
 }
 

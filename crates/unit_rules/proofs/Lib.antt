@@ -4,6 +4,7 @@ pub mod Entries
 pub mod Forms
 pub mod Found
 pub mod Joined
+pub mod Kept
 pub mod Keeping
 pub mod Leading
 pub mod Limited

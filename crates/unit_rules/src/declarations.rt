@@ -1,13 +1,12 @@
 //! The first declaration of variables that breaks rule L8.
 
-ghost use Rattle.std.specs.Prelude.{◌≡◌, [], List, map, IfOk, Some, Option, unwrap_or, slice_get};
+ghost use Rattle.std.specs.Prelude.{◌≡◌, List, map, IfOk, Some, Option};
 ghost use Rattle.ar_base.specs.Lists.{Along};
 ghost use Rattle.class_table.specs.Declaring.{Declared};
 ghost use Rattle.class_table.specs.Earliest.{IsEarliest};
-ghost use Rattle.class_table.specs.Members.{owned_at as declared_at};
 ghost use Rattle.class_table.specs.Tables.{HoldsDeclared, site_of};
 ghost use Rattle.class_table.specs.declared.tables.Classes.{Classes as Table};
-ghost use Rattle.hierarchy.specs.Models.{RootedModel, IsRootedTable};
+ghost use Rattle.hierarchy.specs.Models.{RootedModel};
 ghost use Rattle.hierarchy.specs.Units.{UnitPath};
 ghost use Rattle.hierarchy.specs.Listing.{form_of};
 ghost use Rattle.hierarchy.specs.Settings.{is_state as says_state, is_flow as says_flow};
@@ -70,17 +69,6 @@ fn wrong(owned: &Owned, classes: &Classes, places: &TypePlaces) -> Option<Place>
     }
 }
 
-// The place of a wrong declaration at a site.
-fn wrong_at(classes: &Classes, places: &TypePlaces, site: (BodyId, u32)) -> Option<Place>
-    ensures { (d : Declared) → HoldsDeclared d classes.now → KnowsPlaces classes.now.types.items places.now
-        → IsEarliest (BreaksOne d (form_of (declared_at d (site_of site)))) result }
-{
-    match owned_at(&classes.bodies, site) {
-        None => None,
-        Some(owned) => wrong(owned, classes, places),
-    }
-}
-
 // The earliest place of a wrong declaration at these sites.
 fn wrong_in(classes: &Classes, places: &TypePlaces, sites: &[(BodyId, u32)]) -> Option<Place>
     ensures { (d : Declared) → HoldsDeclared d classes.now → KnowsPlaces classes.now.types.items places.now
@@ -88,7 +76,9 @@ fn wrong_in(classes: &Classes, places: &TypePlaces, sites: &[(BodyId, u32)]) -> 
 {
     let mut found = None;
     for site in sites {
-        found = earliest(found, wrong_at(classes, places, *site));
+        if let Some(owned) = owned_at(&classes.bodies, *site) {
+            found = earliest(found, wrong(owned, classes, places));
+        }
     }
     found
 }
@@ -109,19 +99,6 @@ fn of_bodies(
     Ok(firsts)
 }
 
-// The earliest place of a wrong declaration of a body.
-fn of_body(firsts: &[Option<Place>], body: BodyId) -> Option<Place>
-    ensures { (m : RootedModel) (classes : Table) → IsRootedTable m classes
-        → Along (IsFirstIn m.declared) classes.bodies.items firsts.now
-        → IsEarliest (BreaksOne m.declared
-        (forms_of m.declared (unwrap_or (slice_get m.members body.n) []))) result }
-{
-    match firsts.get(body.n as usize) {
-        Some(found) => *found,
-        None => None,
-    }
-}
-
 // The earliest place of a wrong declaration of all units, by those of their bodies.
 fn of_units(firsts: &[Option<Place>], outlines: &[Outline]) -> Option<Place>
     ensures { (m : RootedModel) (units : List UnitPath) (classes : Table)
@@ -131,7 +108,9 @@ fn of_units(firsts: &[Option<Place>], outlines: &[Outline]) -> Option<Place>
 {
     let mut found = None;
     for outline in outlines {
-        found = earliest(found, of_body(firsts, outline.body));
+        if let Some(first) = firsts.get(outline.body.n as usize) {
+            found = earliest(found, *first);
+        }
     }
     found
 }

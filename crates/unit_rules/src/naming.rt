@@ -6,13 +6,12 @@ ghost use Rattle.ar_base.specs.Lists.{Stands, Along};
 ghost use Rattle.ar_base.specs.declared.places.Place.{Place as PlaceOf};
 ghost use Rattle.ar_base.specs.Numbers.{NameId as Name};
 ghost use Rattle.class_table.specs.Declaring.{Declared};
-ghost use Rattle.class_table.specs.Members.{owned_at as declared_at};
 ghost use Rattle.class_table.specs.Tables.{IsBodyOf, site_of};
 ghost use Rattle.hierarchy.specs.Models.{RootedModel, IsKeptTable};
 ghost use Rattle.hierarchy.specs.Units.{UnitPath, body_of, members_at};
 ghost use Rattle.hierarchy.specs.Tie.{AreOutlines, IsOutline, IsUnitNode};
 ghost use Rattle.unit_walks.specs.Settling.{AreOutcomes};
-ghost use Rattle.unit_rules.specs.Naming.{Entry, AddsName, AddsNames, instance_names, inner_names, alias_names, names_if, names_at_sites};
+ghost use Rattle.unit_rules.specs.Naming.{Entry, AddsNames, instance_names, inner_names, alias_names, names_at_sites};
 
 use ar_base::{BodyId, Memory, NameId, Place, UnitId};
 use ar_syntax::{Member, TypeForm};
@@ -27,8 +26,8 @@ type Entries = Vec<(NameId, UnitId)>;
 fn add(entries: &mut Entries, walks: &Walks, unit: UnitId, name: NameId) -> Result<(), Memory>
     ensures { (m : RootedModel) (units : List UnitPath) (u : UnitPath)
         → AreOutcomes m units walks.now
-        → Stands units unit.n u → OnOk result
-        (AddsName m units u name.n entries.old.items entries.new.items) }
+        → Stands units unit.n u
+        → OnOk result (AddsNames m units u entries.old.items (name.n ∷ []) entries.new.items) }
 {
     match walks.outcome(unit, name) {
         Led::Unit(found) => entries.push((name, found))?,
@@ -78,16 +77,6 @@ fn add_declared(
     }
 }
 
-// Adds the unit of one name to a list that gets no other.
-fn add_one(entries: &mut Entries, walks: &Walks, unit: UnitId, name: NameId) -> Result<(), Memory>
-    ensures { (m : RootedModel) (units : List UnitPath) (u : UnitPath)
-        → AreOutcomes m units walks.now
-        → Stands units unit.n u
-        → OnOk result (AddsNames m units u entries.old.items (name.n ∷ []) entries.new.items) }
-{
-    add(entries, walks, unit, name)
-}
-
 // Adds the units in the unit that the names of a member lead to.
 fn add_inner(inner: &mut Entries, walks: &Walks, unit: UnitId, owned: &Owned) -> Result<(), Memory>
     ensures { (m : RootedModel) (units : List UnitPath) (u : UnitPath)
@@ -97,7 +86,7 @@ fn add_inner(inner: &mut Entries, walks: &Walks, unit: UnitId, owned: &Owned) ->
         inner.new.items) }
 {
     let member = match owned {
-        Owned::Nested(name, _, _) => return add_one(inner, walks, unit, *name),
+        Owned::Nested(name, _, _) => return add(inner, walks, unit, *name),
         Owned::Plain(member) => member,
     };
     match member {
@@ -108,7 +97,7 @@ fn add_inner(inner: &mut Entries, walks: &Walks, unit: UnitId, owned: &Owned) ->
             type_name.form,
             names,
         ),
-        Member::Clones(_, name, _) => add_one(inner, walks, unit, *name),
+        Member::Clones(_, name, _) => add(inner, walks, unit, *name),
         Member::Extends(_, _) => Ok(()),
         Member::Block(_) => Ok(()),
         Member::Embeds(_, _, _) => Ok(()),
@@ -120,26 +109,6 @@ fn add_inner(inner: &mut Entries, walks: &Walks, unit: UnitId, owned: &Owned) ->
         Member::Local(_, _, _, _) => Ok(()),
         Member::Sync(_, _, _) => Ok(()),
         Member::Assert(_) => Ok(()),
-    }
-}
-
-// The same of the member at a site.
-fn add_inner_at(
-    inner: &mut Entries,
-    bodies: &[Body],
-    walks: &Walks,
-    unit: UnitId,
-    site: (BodyId, u32),
-) -> Result<(), Memory>
-    ensures { (d : Declared) (m : RootedModel) (units : List UnitPath) (u : UnitPath)
-        → Along IsBodyOf bodies.now d.bodies
-        → AreOutcomes m units walks.now → Stands units unit.n u
-        → OnOk result (AddsNames m units u inner.old.items
-        (names_if inner_names (declared_at d (site_of site))) inner.new.items) }
-{
-    match owned_at(bodies, site) {
-        None => Ok(()),
-        Some(owned) => add_inner(inner, walks, unit, owned),
     }
 }
 
@@ -161,7 +130,7 @@ fn add_alias(
         Owned::Plain(member) => member,
     };
     match member {
-        Member::Embeds(_, name, _) => add_one(aliases, walks, unit, *name),
+        Member::Embeds(_, name, _) => add(aliases, walks, unit, *name),
         Member::Extends(_, _) => Ok(()),
         Member::Declare(_, _, _) => Ok(()),
         Member::Block(_) => Ok(()),
@@ -174,26 +143,6 @@ fn add_alias(
         Member::Local(_, _, _, _) => Ok(()),
         Member::Sync(_, _, _) => Ok(()),
         Member::Assert(_) => Ok(()),
-    }
-}
-
-// The same of the member at a site.
-fn add_alias_at(
-    aliases: &mut Entries,
-    bodies: &[Body],
-    walks: &Walks,
-    unit: UnitId,
-    site: (BodyId, u32),
-) -> Result<(), Memory>
-    ensures { (d : Declared) (m : RootedModel) (units : List UnitPath) (u : UnitPath)
-        → Along IsBodyOf bodies.now d.bodies
-        → AreOutcomes m units walks.now → Stands units unit.n u
-        → OnOk result (AddsNames m units u aliases.old.items
-        (names_if alias_names (declared_at d (site_of site))) aliases.new.items) }
-{
-    match owned_at(bodies, site) {
-        None => Ok(()),
-        Some(owned) => add_alias(aliases, walks, unit, owned),
     }
 }
 
@@ -213,7 +162,9 @@ fn inner_of(
 {
     let mut inner = Vec::new(alloc);
     for site in all {
-        add_inner_at(&mut inner, bodies, walks, unit, *site)?;
+        if let Some(owned) = owned_at(bodies, *site) {
+            add_inner(&mut inner, walks, unit, owned)?;
+        }
     }
     Ok(inner)
 }
@@ -234,7 +185,9 @@ fn aliases_of(
 {
     let mut aliases = Vec::new(alloc);
     for site in all {
-        add_alias_at(&mut aliases, bodies, walks, unit, *site)?;
+        if let Some(owned) = owned_at(bodies, *site) {
+            add_alias(&mut aliases, walks, unit, owned)?;
+        }
     }
     Ok(aliases)
 }

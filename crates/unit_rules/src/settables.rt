@@ -6,10 +6,10 @@ ghost use Rattle.ar_base.specs.Numbers.{NameId as Name};
 ghost use Rattle.ar_base.specs.declared.places.Place.{Place as PlaceOf};
 ghost use Rattle.class_table.specs.Declaring.{Declared};
 ghost use Rattle.ar_syntax.specs.declared.members.Member.{out-Member};
-ghost use Rattle.class_table.specs.Members.{Site, names_of, names_of_form, named_at, declared_kind, owned_at as declared_at};
+ghost use Rattle.class_table.specs.Members.{Site, names_of, names_of_form, named_at, declared_kind};
 ghost use Rattle.class_table.specs.Tables.{HoldsDeclared, site_of};
-ghost use Rattle.hierarchy.specs.Models.{RootedModel, IsRootedTable};
-ghost use Rattle.hierarchy.specs.Units.{UnitPath, names_in};
+ghost use Rattle.hierarchy.specs.Models.{RootedModel};
+ghost use Rattle.hierarchy.specs.Units.{UnitPath};
 ghost use Rattle.hierarchy.specs.Tie.{AreOutlines};
 ghost use Rattle.unit_rules.specs.Typing.{KnowsPlaces};
 ghost use Rattle.unit_rules.specs.Settables.{settable_of, variable_of, one_entry, entries_of, kept_at, Adds, AreSettables};
@@ -164,26 +164,6 @@ impl Settables {
         }
     }
 
-    // Keeps what the names of the member at a site are.
-    fn add_site(
-        &mut self,
-        body: BodyId,
-        site: (BodyId, u32),
-        classes: &Classes,
-        places: &TypePlaces,
-    ) -> Result<(), Memory>
-        ensures { (d : Declared)
-            → HoldsDeclared d classes.now → KnowsPlaces classes.now.types.items places.now
-            → OnOk result (Adds body.n
-            (entries_of (names_of d (site_of site) (declared_at d (site_of site))))
-            self.old self.new) }
-    {
-        match owned_at(&classes.bodies, site) {
-            None => Ok(()),
-            Some(owned) => self.add_member(body, owned, classes, places),
-        }
-    }
-
     // Keeps what the names of the members at these sites are.
     fn add_sites(
         &mut self,
@@ -198,26 +178,11 @@ impl Settables {
             self.old self.new) }
     {
         for site in sites {
-            self.add_site(body, *site, classes, places)?;
+            if let Some(owned) = owned_at(&classes.bodies, *site) {
+                self.add_member(body, owned, classes, places)?;
+            }
         }
         Ok(())
-    }
-
-    // Keeps what the names of a body are, inherited ones included.
-    fn add_body(
-        &mut self,
-        body: BodyId,
-        classes: &Classes,
-        places: &TypePlaces,
-    ) -> Result<(), Memory>
-        ensures { (m : RootedModel)
-            → IsRootedTable m classes.now → KnowsPlaces classes.now.types.items places.now
-            → OnOk result (Adds body.n (entries_of (names_in m body.n)) self.old self.new) }
-    {
-        match classes.bodies.get(body.n as usize) {
-            None => Ok(()),
-            Some(found) => self.add_sites(body, &found.all, classes, places),
-        }
     }
 
     /// What may be set in these units. Takes memory linear in the names of their bodies.
@@ -235,7 +200,9 @@ impl Settables {
             kept: HashMap::new(alloc),
         };
         for outline in outlines {
-            settables.add_body(outline.body, classes, &places)?;
+            if let Some(body) = classes.bodies.get(outline.body.n as usize) {
+                settables.add_sites(outline.body, &body.all, classes, &places)?;
+            }
         }
         Ok(settables)
     }

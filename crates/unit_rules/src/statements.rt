@@ -3,7 +3,6 @@
 ghost use Rattle.std.specs.Prelude.{◌≡◌, ◌<◌, ◌^◌, List, length, map};
 ghost use Rattle.ar_base.specs.Lists.{Stands, Along};
 ghost use Rattle.class_table.specs.Earliest.{IsEarliest};
-ghost use Rattle.class_table.specs.Members.{owned_at as declared_at};
 ghost use Rattle.class_table.specs.Tables.{IsBodyOf, site_of};
 ghost use Rattle.hierarchy.specs.Models.{RootedModel, IsKeptTable};
 ghost use Rattle.hierarchy.specs.Units.{UnitPath, body_of};
@@ -11,7 +10,7 @@ ghost use Rattle.hierarchy.specs.Walks.{Nothing, Loops};
 ghost use Rattle.hierarchy.specs.Tie.{AreOutlines};
 ghost use Rattle.unit_walks.specs.Settling.{AreOutcomes};
 ghost use Rattle.unit_rules.specs.Statements.{WalkEnds, EndsIn};
-ghost use Rattle.unit_rules.specs.Naming.{statement_of, statement_found, EndsSo, SiteEndsSo, SitesEndSo, broken_so};
+ghost use Rattle.unit_rules.specs.Naming.{statement_of, statement_found, EndsSo, SitesEndSo, broken_so};
 
 use ar_base::{BodyId, NameId, Place, UnitId};
 use ar_syntax::{Member, Path};
@@ -60,26 +59,6 @@ fn broken_at(owned: &Owned, walks: &Walks, unit: UnitId, looping: bool) -> Optio
     }
 }
 
-// The same of the member at a site.
-fn broken_at_site(
-    bodies: &[Body],
-    walks: &Walks,
-    unit: UnitId,
-    site: (BodyId, u32),
-    looping: bool,
-) -> Option<Place>
-    ensures { (m : RootedModel) (units : List UnitPath) (u : UnitPath)
-        → Along IsBodyOf bodies.now m.declared.bodies
-        → AreOutcomes m units walks.now → Stands units unit.n u
-        → IsEarliest (SiteEndsSo m u (broken_so looping) (declared_at m.declared (site_of site)))
-        result }
-{
-    match owned_at(bodies, site) {
-        None => None,
-        Some(owned) => broken_at(owned, walks, unit, looping),
-    }
-}
-
 // The earliest such place among the members at these sites.
 fn broken_among(
     bodies: &[Body],
@@ -95,7 +74,9 @@ fn broken_among(
 {
     let mut found = None;
     for site in all {
-        found = earliest(found, broken_at_site(bodies, walks, unit, *site, looping));
+        if let Some(owned) = owned_at(bodies, *site) {
+            found = earliest(found, broken_at(owned, walks, unit, looping));
+        }
     }
     found
 }

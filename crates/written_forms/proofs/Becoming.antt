@@ -1,5 +1,5 @@
 -- What written expressions become, form by form and item by item.
-use Rattle.std.proofs.Common.{◌≡◌, ℕ, ◌+◌, ◌<◌, ◌≤◌, ℤ, pos, Bool, false, List, [], ◌∷◌, ◌++◌, take, length, get_or, Vec, Box, Global, sym, ap, ◌∙◌, subst}
+use Rattle.std.proofs.Common.{◌≡◌, ℕ, ◌+◌, ◌<◌, ◌≤◌, ℤ, pos, Bool, List, [], ◌∷◌, ◌++◌, take, length, get_or, Vec, Box, Global, sym, ap, ◌∙◌, subst}
 use Rattle.std.proofs.lemmas.List.{take_more, take_all}
 use Rattle.ar_base.specs.Numbers.{VarId}
 use Rattle.ar_syntax.specs.declared.expressions.RawExpr.{RawExpr}
@@ -32,9 +32,9 @@ module _ (leaves : Path → Leaf) where
   truth_becomes r b i = as_one r _ (raw.Truth b) (form.Constant (value.Truth b)) (opened.form-truth _ _ i)
       (opened-constant (value.Truth b)) t.truth
 
-  pub whole_becomes : (r : RawExpr) (n : ℤ) (e : Expr VarId) → r.form ≡ written.Whole n
-      → out-Expr VarId e ≡ form.Constant (value.Whole n) → BecomesBy leaves r e
-  whole_becomes r n e i h = as_one r e (raw.Whole n) (form.Constant (value.Whole n)) (opened.form-whole _ _ i) h t.whole
+  pub whole_becomes : (r : RawExpr) (n : ℤ) → r.form ≡ written.Whole n → BecomesBy leaves r (Constant (value.Whole n))
+  whole_becomes r n i = as_one r _ (raw.Whole n) (form.Constant (value.Whole n)) (opened.form-whole _ _ i)
+      (opened-constant (value.Whole n)) t.whole
 
   pub real_becomes : (r : RawExpr) → r.form ≡ written.Real → BecomesBy leaves r (Constant (value.Whole (pos 0)))
   real_becomes r i = as_one r _ raw.Real (form.Constant (value.Whole (pos 0))) (opened.form-real _ i)

@@ -1,11 +1,11 @@
 -- The kinds of forms, and of what paths name in a table.
-use Rattle.std.proofs.Common.{◌≡◌, List, [], ◌∷◌, Option, Some, None, Box, Vec, Global, sym, subst}
+use Rattle.std.proofs.Common.{◌≡◌, List, [], ◌∷◌, Option, Some, None, Box, Vec, Global, slice_get, sym, subst}
 use Rattle.ar_syntax.specs.declared.expressions.RawExpr.{RawExpr}
 use Rattle.ar_syntax.specs.declared.expressions.RawForm.TheOpen as raw
 use Rattle.ar_syntax.specs.declared.paths.Path.{Path}
 use Rattle.typed_expr.specs.declared.expr.ValueKind.{ValueKind}
 use Rattle.written_forms.specs.Operands.{RawLevel, level_of, first_branch}
-use Rattle.written_forms.specs.Forms.{own_kind, HasForm, IsFormOf, IsFirstKind}
+use Rattle.written_forms.specs.Forms.{own_kind, HasForm, IsFormOf}
 use Rattle.written_forms.specs.Forms as form
 use Rattle.written_forms.specs.Wrong.{NamesKind}
 
@@ -42,16 +42,18 @@ module _ (names : Path → ValueKind → Type 0) where
   choice_same cases other None n = λ k h. n k (choice_only cases other k h)
   choice_same cases other (Some k) h = form.choice h
 
-  at_first : (cases : List (RawExpr × RawExpr)) (other : RawExpr) (kind : Option ValueKind)
-      → IsFirstKind names cases (Some kind) → IsFormOf names (level_of (first_branch cases other)) kind
-  at_first [] other kind h = cc
-  at_first (c ∷ cases) other kind h = h
+  at_first : (cases : List (RawExpr × RawExpr)) (other : RawExpr) (c : RawExpr × RawExpr) (kind : Option ValueKind)
+      → Some c ≡ slice_get cases 0 → IsFormOf names (level_of c.1) kind
+      → IsFormOf names (level_of (first_branch cases other)) kind
+  at_first [] other c kind e h = absurd (cc)
+  at_first (d ∷ cases) other c kind e h =
+      let same : c ≡ d = cc in subst (λ (z : RawExpr × RawExpr). IsFormOf names (level_of z.1) kind) same h
 
   at_last : (cases : List (RawExpr × RawExpr)) (other : RawExpr) (kind : Option ValueKind)
-      → IsFirstKind names cases None → IsFormOf names (level_of other) kind
+      → None ≡ slice_get cases 0 → IsFormOf names (level_of other) kind
       → IsFormOf names (level_of (first_branch cases other)) kind
-  at_last [] other kind h k = k
-  at_last (c ∷ cases) other kind h k = absurd h
+  at_last [] other kind e k = k
+  at_last (c ∷ cases) other kind e k = absurd (cc)
 
   pub choice_answer : (e : RawExpr) (cases : Vec (RawExpr × RawExpr) Global) (other : Box RawExpr Global)
       (found : Option ValueKind) → level_of e ≡ raw.Choose cases other
@@ -60,15 +62,16 @@ module _ (names : Path → ValueKind → Type 0) where
       subst (λ (z : RawLevel). IsFormOf names z found) (sym i) (choice_same cases other found h)
 
   pub first_answer : (e : RawExpr) (cases : Vec (RawExpr × RawExpr) Global) (other : Box RawExpr Global)
-      (kind : Option ValueKind) → level_of e ≡ raw.Choose cases other
-      → IsFirstKind names cases.items (Some kind) → IsFormOf names (level_of e) kind
-  first_answer e cases other kind i h = choice_answer e cases other kind i (at_first cases.items other.value kind h)
+      (c : RawExpr × RawExpr) (kind : Option ValueKind) → level_of e ≡ raw.Choose cases other
+      → Some c ≡ slice_get cases.items 0 → IsFormOf names (level_of c.1) kind → IsFormOf names (level_of e) kind
+  first_answer e cases other c kind i f h =
+      choice_answer e cases other kind i (at_first cases.items other.value c kind f h)
 
   pub last_answer : (e : RawExpr) (cases : Vec (RawExpr × RawExpr) Global) (other : Box RawExpr Global)
       (kind : Option ValueKind) → level_of e ≡ raw.Choose cases other
-      → IsFirstKind names cases.items None → IsFormOf names (level_of other.value) kind
+      → None ≡ slice_get cases.items 0 → IsFormOf names (level_of other.value) kind
       → IsFormOf names (level_of e) kind
-  last_answer e cases other kind i h k = choice_answer e cases other kind i (at_last cases.items other.value kind h k)
+  last_answer e cases other kind i f k = choice_answer e cases other kind i (at_last cases.items other.value kind f k)
 
   -- the kind of a choice is that of its first branch
   pub first_of_choice : (e : RawExpr) (cases : Vec (RawExpr × RawExpr) Global) (other : Box RawExpr Global)

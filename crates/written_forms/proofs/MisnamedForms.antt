@@ -59,6 +59,10 @@ module _ (may : Path → Type 0) where
       there (record { path = q; is_in = in_form.itself; not = n; place = refl })
       (λ p b m. not_before p q.at b (m.place ∙ ap (λ (z : Path). z.at) (only_path q m.path m.is_in)))
 
+  pub path_at : (e : RawExpr) (q : Path) (f : Option Place) → level_of e ≡ raw.Path q
+      → IsEarliest (IsMisnamed may (raw.Path q)) f → IsEarliest (IsMisnamed may (level_of e)) f
+  path_at e q f i h = subst (λ (z : RawLevel). IsEarliest (IsMisnamed may z) f) (sym i) h
+
   -- the sides of a comparison, whatever is wanted of them
   pub misnamed_sides : (e : RawExpr) (r : RawRelation) (a b : Box RawExpr Global) (f g h : Option Place)
       → level_of e ≡ raw.Compare r a b → IsEarliest (IsMisnamed may (level_of a.value)) f

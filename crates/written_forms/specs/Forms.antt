@@ -1,5 +1,5 @@
 -- The kinds of written expressions by their forms.
-use Rattle.std.specs.Prelude.{◌≡◌, List, [], ◌∷◌, Option, Some, None, Box, Vec}
+use Rattle.std.specs.Prelude.{◌≡◌, Option, Some, None, Box, Vec}
 use Rattle.std.specs.Global.{Global}
 use Rattle.ar_syntax.specs.declared.expressions.RawExpr.{RawExpr}
 use Rattle.ar_syntax.specs.declared.expressions.RawForm.TheOpen as raw
@@ -38,9 +38,3 @@ pub data HasForm (names : Path → ValueKind → Type 0) : RawLevel → ValueKin
 abbrev pub IsFormOf : (Path → ValueKind → Type 0) → RawLevel → Option ValueKind → Type 0
 IsFormOf names l None = (k : ValueKind) → HasForm names l k → ⊥
 IsFormOf names l (Some k) = HasForm names l k
-
--- the answer is the kind of the value of the first case, where there is a case
-abbrev pub IsFirstKind : (Path → ValueKind → Type 0) → List (RawExpr × RawExpr) → Option (Option ValueKind) → Type 0
-IsFirstKind names [] answer = answer ≡ None
-IsFirstKind names (c ∷ cases) None = ⊥
-IsFirstKind names (c ∷ cases) (Some kind) = IsFormOf names (level_of c.1) kind

@@ -1,6 +1,6 @@
 //! The bound instructions that written ones become.
 
-ghost use Rattle.std.specs.Prelude.{◌≡◌, IfOk};
+ghost use Rattle.std.specs.Prelude.{IfOk};
 ghost use Rattle.ar_syntax.specs.declared.instructions.Instr.{out-Instr};
 ghost use Rattle.ar_syntax.specs.declared.instructions.Instr.TheOpen.{Assign as AssignForm, Tie as TieForm};
 ghost use Rattle.written_forms.specs.Acting.{ActsAs, All_act, SetsTo, SetsBoth, IsConditional};
@@ -115,16 +115,8 @@ fn conditional<L: Leaves>(
     requires { L.is_sound leaves.now }
     ensures { IfOk result (IsConditional (L.leaf_at leaves.now) test.now first second) }
 {
-    let (here, there) = boxed(alloc, first, second)?;
-    let bound = translated(alloc, test, leaves)?;
-    Ok(Act::If(bound, here, there))
-}
-
-// The two branches, each in a box of its own.
-fn boxed(alloc: Global, first: Act, second: Act) -> Result<(Box<Act>, Box<Act>), Memory>
-    ensures { IfOk result (λ boxes. (boxes.0.value ≡ first) × (boxes.1.value ≡ second)) }
-{
     let here = Box::new(alloc, first)?;
     let there = Box::new(alloc, second)?;
-    Ok((here, there))
+    let bound = translated(alloc, test, leaves)?;
+    Ok(Act::If(bound, here, there))
 }

@@ -1,8 +1,7 @@
 //! The kinds of expressions by their forms.
 
-ghost use Rattle.std.specs.Prelude.{◌≡◌};
 ghost use Rattle.written_forms.specs.Operands.{level_of};
-ghost use Rattle.written_forms.specs.Forms.{IsFormOf, IsFirstKind};
+ghost use Rattle.written_forms.specs.Forms.{IsFormOf};
 ghost use Rattle.written_forms.specs.Wrong.{NamesKind};
 
 use crate::naming::Naming;
@@ -19,8 +18,8 @@ pub fn form_kind<N: Naming>(expr: &RawExpr, naming: &N) -> Option<ValueKind>
 {
     match &expr.form {
         RawForm::Path(path) => naming.kind(path),
-        RawForm::Choose(cases, other) => match first_kind(cases, naming) {
-            Some(kind) => kind,
+        RawForm::Choose(cases, other) => match cases.first() {
+            Some((_, value)) => form_kind(value, naming),
             None => form_kind(other, naming),
         },
         RawForm::Truth(_) => Some(ValueKind::Truth),
@@ -36,17 +35,5 @@ pub fn form_kind<N: Naming>(expr: &RawExpr, naming: &N) -> Option<ValueKind>
         RawForm::Least(_) => Some(ValueKind::Whole),
         RawForm::Greatest(_) => Some(ValueKind::Whole),
         RawForm::Count(_) => Some(ValueKind::Whole),
-    }
-}
-
-// The kind of the value of the first case, where there is one.
-#[cycle(form_kind)]
-fn first_kind<N: Naming>(cases: &[(RawExpr, RawExpr)], naming: &N) -> Option<Option<ValueKind>>
-    requires { N.is_sound naming.now }
-    ensures { IsFirstKind (NamesKind (N.kind_at naming.now)) cases.now result }
-{
-    match cases {
-        [] => None,
-        [(_, value), ..] => Some(form_kind(value, naming)),
     }
 }

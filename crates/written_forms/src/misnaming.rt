@@ -2,14 +2,13 @@
 
 ghost use Rattle.std.specs.Prelude.{◌++◌};
 ghost use Rattle.ar_syntax.specs.declared.expressions.RawExpr.{RawExpr};
-ghost use Rattle.ar_syntax.specs.declared.expressions.RawForm.TheOpen.{Path as PathForm};
 ghost use Rattle.class_table.specs.Earliest.{IsEarliest};
 ghost use Rattle.written_forms.specs.Operands.{level_of, Demand, each_wanting, terms, tests, branches};
 ghost use Rattle.written_forms.specs.Wrong.{IsMisnamed, IsNamedPath, Among, MisnamedOperand};
 
 use crate::naming::Naming;
 use ar_base::Place;
-use ar_syntax::{Path, RawExpr, RawForm};
+use ar_syntax::{RawExpr, RawForm};
 use class_table::earliest::earliest;
 
 /// The earliest place of a path in the expression that names nothing that it may name. Takes no
@@ -23,7 +22,10 @@ pub fn first_misnamed<N: Naming>(expr: &RawExpr, naming: &N) -> Option<Place>
         RawForm::Truth(_) => None,
         RawForm::Whole(_) => None,
         RawForm::Real => None,
-        RawForm::Path(path) => unnamed(path, naming),
+        RawForm::Path(path) => match naming.kind(path) {
+            Some(_) => None,
+            None => Some(path.at),
+        },
         RawForm::Not(a) => first_misnamed(a, naming),
         RawForm::Minus(a) => first_misnamed(a, naming),
         RawForm::All(es) => misnamed_in(es, naming),
@@ -37,17 +39,6 @@ pub fn first_misnamed<N: Naming>(expr: &RawExpr, naming: &N) -> Option<Place>
         RawForm::Choose(cases, other) => {
             earliest(misnamed_cases(cases, naming), first_misnamed(other, naming))
         }
-    }
-}
-
-// The place of the path, where it names nothing that it may name.
-fn unnamed<N: Naming>(path: &Path, naming: &N) -> Option<Place>
-    requires { N.is_sound naming.now }
-    ensures { IsEarliest (IsMisnamed (IsNamedPath (N.kind_at naming.now)) (PathForm path.now)) result }
-{
-    match naming.kind(path) {
-        Some(_) => None,
-        None => Some(path.at),
     }
 }
 

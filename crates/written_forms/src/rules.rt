@@ -5,7 +5,7 @@ ghost use Rattle.ar_syntax.specs.declared.instructions.Instr.{out-Instr};
 ghost use Rattle.ar_syntax.specs.declared.paths.Path.{Path};
 ghost use Rattle.class_table.specs.Earliest.{IsEarliest};
 ghost use Rattle.written_forms.specs.Wrong.{IsNamedPath, NamesKind};
-ghost use Rattle.written_forms.specs.Breaches.{IsSort, IsTarget, IsNoTargetAt, AreOtherKinds, IsSortAt, MisnamesItself, MistypesItself, MisplacedInAction, MisplacedInAssertion};
+ghost use Rattle.written_forms.specs.Breaches.{IsSort, IsTarget, IsNoTargetAt, IsSortAt, MisnamesItself, MistypesItself, MisplacedInAction, MisplacedInAssertion};
 
 use crate::{Naming, differ, first_misnamed, first_mistyped};
 use ar_base::Place;
@@ -72,21 +72,15 @@ pub fn mistyped_itself<T: Targets>(instr: &Instr, targets: &T) -> Option<Place>
             None => None,
             Some(kind) => first_mistyped(value, Some(kind), targets),
         },
-        Instr::Tie(left, right) => other_kind(left, right, targets),
+        Instr::Tie(left, right) => {
+            if differ(targets.kind(right), targets.kind(left)) {
+                Some(right.at)
+            } else {
+                None
+            }
+        }
         Instr::If(test, _, _) => first_mistyped(test, Some(ValueKind::Truth), targets),
         Instr::All(_) => None,
-    }
-}
-
-// The place of the right path, where its kind is not that of the left one.
-fn other_kind<T: Targets>(left: &Path, right: &Path, targets: &T) -> Option<Place>
-    requires { T.is_sound targets.now }
-    ensures { IsEarliest (AreOtherKinds (NamesKind (T.kind_at targets.now)) left.now right.now) result }
-{
-    if differ(targets.kind(right), targets.kind(left)) {
-        Some(right.at)
-    } else {
-        None
     }
 }
 

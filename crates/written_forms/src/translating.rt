@@ -2,11 +2,8 @@
 
 ghost use Rattle.std.specs.Prelude.{◌≡◌, IfOk};
 ghost use Rattle.ar_base.specs.Numbers.{VarId};
-ghost use Rattle.domains.specs.declared.Value.TheVariants.{Whole as WholeValue};
 ghost use Rattle.typed_expr.specs.declared.expr.Expr.{out-Expr};
-ghost use Rattle.typed_expr.specs.declared.expr.Expr.TheOpen.{Constant as ConstantForm};
 ghost use Rattle.written_forms.specs.Translating.{leaf_level, BecomesBy, All_become_by, Parts_become_by, Cases_become_by};
-ghost use Rattle.written_forms.specs.Translating.{IsOpposite, IsNegative, IsComparison, IsChoice};
 ghost use Rattle.written_forms.specs.Relations.{relation_of};
 
 use crate::naming::{Leaf, Leaves};
@@ -32,23 +29,28 @@ pub fn translated<L: Leaves>(
 {
     match &expr.form {
         RawForm::Truth(b) => Ok(Expr::Constant(Value::Truth(*b))),
-        RawForm::Whole(n) => Ok(whole_expression(n)),
+        RawForm::Whole(n) => Ok(Expr::Constant(Value::Whole(*n))),
         RawForm::Real => Ok(Expr::Constant(Value::Whole(0))),
         RawForm::Path(path) => Ok(leaf_expression(leaves.leaf(path))),
         RawForm::Not(a) => {
             let operand = translated(alloc, a, leaves)?;
-            opposite(alloc, operand)
+            let boxed = Box::new(alloc, operand)?;
+            Ok(Expr::Not(boxed))
         }
         RawForm::Minus(a) => {
             let operand = translated(alloc, a, leaves)?;
-            negative(alloc, operand)
+            let mut parts = Vec::new(alloc);
+            parts.push((false, operand))?;
+            Ok(Expr::Sum(parts))
         }
         RawForm::All(es) => Ok(Expr::All(all_translated(alloc, es, leaves)?)),
         RawForm::Any(es) => Ok(Expr::Any(all_translated(alloc, es, leaves)?)),
         RawForm::Compare(relation, a, b) => {
             let first = translated(alloc, a, leaves)?;
             let second = translated(alloc, b, leaves)?;
-            compared(alloc, relation_by(*relation), first, second)
+            let left = Box::new(alloc, first)?;
+            let right = Box::new(alloc, second)?;
+            Ok(Expr::Compare(relation_by(*relation), left, right))
         }
         RawForm::Sum(parts) => Ok(Expr::Sum(terms_translated(alloc, parts, leaves)?)),
         RawForm::Product(es) => Ok(Expr::Product(all_translated(alloc, es, leaves)?)),
@@ -58,52 +60,10 @@ pub fn translated<L: Leaves>(
         RawForm::Choose(choices, other) => {
             let cases = cases_translated(alloc, choices, leaves)?;
             let last = translated(alloc, other, leaves)?;
-            chosen(alloc, cases, last)
+            let boxed = Box::new(alloc, last)?;
+            Ok(Expr::Choose(cases, boxed))
         }
     }
-}
-
-// The negation of the operand.
-fn opposite(alloc: Global, operand: Expr<VarId>) -> Result<Expr<VarId>, Memory>
-    ensures { IfOk result (IsOpposite operand) }
-{
-    let boxed = Box::new(alloc, operand)?;
-    Ok(Expr::Not(boxed))
-}
-
-// The sum of the operand alone, taken away.
-fn negative(alloc: Global, operand: Expr<VarId>) -> Result<Expr<VarId>, Memory>
-    ensures { IfOk result (IsNegative operand) }
-{
-    let mut parts = Vec::new(alloc);
-    parts.push((false, operand))?;
-    Ok(Expr::Sum(parts))
-}
-
-// The comparison of two operands.
-fn compared(
-    alloc: Global,
-    relation: Relation,
-    first: Expr<VarId>,
-    second: Expr<VarId>,
-) -> Result<Expr<VarId>, Memory>
-    ensures { IfOk result (IsComparison relation first second) }
-{
-    let left = Box::new(alloc, first)?;
-    let right = Box::new(alloc, second)?;
-    Ok(Expr::Compare(relation, left, right))
-}
-
-// The choice of the cases, and of the last value where no test holds.
-fn chosen(
-    alloc: Global,
-    cases: Vec<(Expr<VarId>, Expr<VarId>)>,
-    last: Expr<VarId>,
-) -> Result<Expr<VarId>, Memory>
-    ensures { IfOk result (IsChoice cases last) }
-{
-    let other = Box::new(alloc, last)?;
-    Ok(Expr::Choose(cases, other))
 }
 
 // What operands become.
@@ -159,13 +119,6 @@ fn cases_translated<L: Leaves>(
         out.push((test, value))?;
     }
     Ok(out)
-}
-
-// The expression of a whole number.
-fn whole_expression(n: &i64) -> Expr<VarId>
-    ensures { out-Expr VarId result ≡ ConstantForm (WholeValue n.now) }
-{
-    Expr::Constant(Value::Whole(*n))
 }
 
 // The expression of a leaf.

@@ -5,12 +5,10 @@ use Rattle.hierarchy.specs.declared.tree.Attribute.{Attribute}
 use Rattle.bind_rules.specs.Testing.{IsTested}
 use Rattle.bind_rules.proofs.values.in_variable.Goals as goal
 
-pub returns-then-is_of : goal.returns-then-is_of
-returns-then-is_of c =
-    let same = c.is_of.ensures c.if-is_of.true in
-    record {
-      tested = λ h. subst (λ (o : Option (Attribute × ValueKind × Option Place)). IfSome o
-          (IsTested c.args.scopes.now c.args.rule)) c.in-Some.is h;
-      value = same.0;
-      kind = same.1 ∙ c.kind_of_domain-kind.ensures;
-    }
+pub returns-then-is_same_kind : goal.returns-then-is_same_kind
+returns-then-is_same_kind c = record {
+  tested = λ h. subst (λ (o : Option (Attribute × ValueKind × Option Place)). IfSome o
+      (IsTested c.args.scopes.now c.args.rule)) c.in-Some.is h;
+  value = c.is_same_value.ensures c.if-is_same_value.true;
+  kind = c.is_same_kind.ensures c.if-is_same_kind.true ∙ c.kind_of_domain-kind.ensures;
+}

@@ -11,7 +11,7 @@ use Rattle.class_table.proofs.items.first_wrong_item.Goals as goal
 pub loop-item-preserved : goal.loop-item-preserved
 loop-item-preserved c =
     let s = item_stands c.args.items.now c.loop-item.item-index c.item-item.result (omega arith) c.item-item.is in
-    met_next item_pair _ c.args.items.now _ _ _ _ s (ap (λ n. n.n) c.name_of.ensures) c.place_of.ensures
+    met_next item_pair _ c.args.items.now _ _ _ _ s (ap (λ n. n.n) c.named.ensures.name) c.named.ensures.place
     (c.in_ok-add.ensures _ c.loop-item.invariant)
 
 pub returns : goal.returns

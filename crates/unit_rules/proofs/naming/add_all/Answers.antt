@@ -4,7 +4,8 @@ use Rattle.ar_base.specs.Numbers.{NameId}
 use Rattle.ar_base.specs.declared.places.Place.{Place}
 use Rattle.ar_base.proofs.Standing.{stands_get}
 use Rattle.class_table.proofs.Taken.{map_next}
-use Rattle.unit_rules.specs.Naming.{AddsNames, none, one_more}
+use Rattle.unit_rules.specs.Naming.{AddsNames, none}
+use Rattle.unit_rules.proofs.Adding.{adds_more}
 use Rattle.unit_rules.proofs.naming.add_all.Goals as goal
 
 pub loop-name-init : goal.loop-name-init
@@ -16,7 +17,7 @@ loop-name-preserved c = λ m units u a s.
     let e = map_next (λ (n : NameId × Place). n.0.n) c.args.names.now c.loop-name.name-index _
     (stands_get c.args.names.now c.loop-name.name-index first c.loop-name-test.true) in
     subst (λ (xs : List ℕ). AddsNames m units u c.args.entries.now.items xs c.add.new.entries.items) (sym e)
-    (one_more (c.loop-name.invariant m units u a s) (c.in_ok-add.ensures m units u a s))
+    (adds_more _ (c.loop-name.invariant m units u a s) (c.in_ok-add.ensures m units u a s))
 
 pub returns : goal.returns
 returns c = λ m units u a s.

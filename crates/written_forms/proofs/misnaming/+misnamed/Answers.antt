@@ -1,4 +1,4 @@
-use Rattle.std.proofs.Common.{◌++◌, ◌∷◌, [], List, Bool, arith, subst}
+use Rattle.std.proofs.Common.{◌++◌, ◌∷◌, [], List, Bool, arith, sym, ◌∙◌, subst}
 use Rattle.ar_syntax.specs.declared.expressions.RawExpr.{RawExpr}
 use Rattle.ar_syntax.specs.declared.expressions.RawForm.TheOpen as raw
 use Rattle.ar_syntax.proofs.Opened as opened
@@ -33,6 +33,18 @@ first_misnamed-returns-in-Real g t c =
     let may = (IsNamedPath (g.N.Naming.kind_at c.args.naming.now)) in
     misnamed.misnamed_inside may c.args.expr.now raw.Real _ (opened.form-real _ c.in-Real.is) (λ p e. cc)
     (none_among (MisnamedOperand may))
+
+pub first_misnamed-returns-in-Some : goal.first_misnamed-returns-in-Some
+first_misnamed-returns-in-Some g t c =
+    let may = (IsNamedPath (g.N.Naming.kind_at c.args.naming.now)) in
+    misnamed.path_at may c.args.expr.now c.in-Path.path _ (opened.form-path _ _ c.in-Path.is)
+    (misnamed.path_named may c.in-Path.path (c.in-Some.field-0, sym c.kind.ensures ∙ c.in-Some.is))
+
+pub first_misnamed-returns-in-None : goal.first_misnamed-returns-in-None
+first_misnamed-returns-in-None g t c =
+    let may = (IsNamedPath (g.N.Naming.kind_at c.args.naming.now)) in
+    misnamed.path_at may c.args.expr.now c.in-Path.path _ (opened.form-path _ _ c.in-Path.is)
+    (misnamed.path_unnamed may c.in-Path.path (λ h. let e = h.1 in let d = c.kind.ensures in let i = c.in-None.is in cc))
 
 pub first_misnamed-returns-in-Not : goal.first_misnamed-returns-in-Not
 first_misnamed-returns-in-Not g t c =

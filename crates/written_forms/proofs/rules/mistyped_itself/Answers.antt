@@ -22,9 +22,16 @@ returns-in-Some g c = form.assign_mistyped (g.T.Naming.kind_at c.args.targets.no
     c.in-Assign.value c.in-Some.kind _ (opened.instr-assign _ _ _ c.in-Assign.is) (sym c.kind.ensures ∙ c.in-Some.is)
     c.first_mistyped.ensures
 
-pub returns-in-Tie : goal.returns-in-Tie
-returns-in-Tie g c = form.tie_mistyped (g.T.Naming.kind_at c.args.targets.now) c.args.instr.now c.in-Tie.left
-    c.in-Tie.right _ (opened.instr-tie _ _ _ c.in-Tie.is) c.other_kind.ensures
+pub returns-then-differ : goal.returns-then-differ
+returns-then-differ g c = form.tie_mistyped (g.T.Naming.kind_at c.args.targets.now) c.args.instr.now c.in-Tie.left
+    c.in-Tie.right _ (opened.instr-tie _ _ _ c.in-Tie.is)
+    (form.kinds_other (g.T.Naming.kind_at c.args.targets.now) c.in-Tie.left c.in-Tie.right c.kind-in-Tie.result
+    c.kind-in-Tie-2.result c.kind-in-Tie.ensures c.kind-in-Tie-2.ensures (c.differ.ensures.0 c.if-differ.true))
+
+pub returns-else-differ : goal.returns-else-differ
+returns-else-differ g c = form.tie_mistyped (g.T.Naming.kind_at c.args.targets.now) c.args.instr.now c.in-Tie.left
+    c.in-Tie.right _ (opened.instr-tie _ _ _ c.in-Tie.is)
+    (form.kinds_same (g.T.Naming.kind_at c.args.targets.now) c.in-Tie.left c.in-Tie.right c.kind-in-Tie.result c.kind-in-Tie-2.result c.kind-in-Tie.ensures c.kind-in-Tie-2.ensures (λ h. let t = c.differ.ensures.1 h in let f = c.if-differ.false in cc))
 
 pub returns-in-If : goal.returns-in-If
 returns-in-If g c = form.if_mistyped (g.T.Naming.kind_at c.args.targets.now) c.args.instr.now c.in-If.test _ _ _

@@ -1,6 +1,7 @@
-use Rattle.std.proofs.Common.{List, Bool, subst}
-use Rattle.ar_base.proofs.Results.{ok_map}
+use Rattle.std.proofs.Common.{◌++◌, ◌∷◌, [], List, Bool, false, ap, ◌∙◌, subst, rules, w64, SFits}
+use Rattle.std.proofs.lemmas.Int.{to_z-of_z}
 use Rattle.ar_syntax.specs.declared.expressions.RawExpr.{RawExpr}
+use Rattle.typed_expr.specs.declared.expr.Expr.TheViews as view
 use Rattle.written_forms.specs.Translating.{BecomesBy, All_become_by, Parts_become_by, Cases_become_by}
 use Rattle.written_forms.proofs.Becoming as becoming
 use Rattle.typed_expr.proofs.Shrinking as falls
@@ -16,8 +17,8 @@ translated-returns-in-Truth g t c =
 pub translated-returns-in-Whole : goal.translated-returns-in-Whole
 translated-returns-in-Whole g t c =
     let leaves = (g.L.Leaves.leaf_at c.args.leaves.now) in
-    becoming.whole_becomes leaves c.args.expr.now c.in-Whole.n c.whole_expression.result c.in-Whole.is
-    c.whole_expression.ensures
+    let f : SFits w64 c.in-Whole.n = search rules in
+    simp to_z-of_z (becoming.whole_becomes leaves c.args.expr.now c.in-Whole.n c.in-Whole.is)
 
 pub translated-returns-in-Real : goal.translated-returns-in-Real
 translated-returns-in-Real g t c =
@@ -30,29 +31,33 @@ translated-returns-in-Path g t c =
     becoming.path_becomes leaves c.args.expr.now c.in-Path.path c.leaf.result c.leaf_expression.result c.in-Path.is
     c.leaf.ensures c.leaf_expression.ensures
 
-pub translated-returns-in_ok-operand-in-Not : goal.translated-returns-in_ok-operand-in-Not
-translated-returns-in_ok-operand-in-Not g t c =
+pub translated-returns-in_ok-boxed-in-Not : goal.translated-returns-in_ok-boxed-in-Not
+translated-returns-in_ok-boxed-in-Not g t c =
     let leaves = (g.L.Leaves.leaf_at c.args.leaves.now) in
     let k : BecomesBy leaves c.in-Not.a.value c.in_ok-operand-in-Not.operand =
     subst (λ z. BecomesBy leaves z c.in_ok-operand-in-Not.operand) c.deref.ensures
     c.in_ok-operand-in-Not.ensures in
-    ok_map c.opposite.result
-    (λ e o. becoming.not_becomes leaves c.args.expr.now c.in-Not.a c.in_ok-operand-in-Not.operand e c.in-Not.is k o)
-    c.opposite.ensures
+    becoming.not_becomes leaves c.args.expr.now c.in-Not.a c.in_ok-operand-in-Not.operand _ c.in-Not.is k (record {
+      operand = c.in_ok-boxed-in-Not.boxed;
+      is = view.outs-Not c.in_ok-boxed-in-Not.boxed;
+      is_operand = c.in_ok-boxed-in-Not.ensures.ok;
+    })
 
-pub translated-returns-in_ok-operand-in-Minus : goal.translated-returns-in_ok-operand-in-Minus
-translated-returns-in_ok-operand-in-Minus g t c =
+pub translated-returns-in_ok-push-in-Minus : goal.translated-returns-in_ok-push-in-Minus
+translated-returns-in_ok-push-in-Minus g t c =
     let leaves = (g.L.Leaves.leaf_at c.args.leaves.now) in
     let k : BecomesBy leaves c.in-Minus.a.value c.in_ok-operand-in-Minus.operand =
     subst (λ z. BecomesBy leaves z c.in_ok-operand-in-Minus.operand) c.deref-in-Minus.ensures
     c.in_ok-operand-in-Minus.ensures in
-    ok_map c.negative.result
-    (λ e o. becoming.minus_becomes leaves c.args.expr.now c.in-Minus.a c.in_ok-operand-in-Minus.operand e c.in-Minus.is
-    k o)
-    c.negative.ensures
+    becoming.minus_becomes leaves c.args.expr.now c.in-Minus.a c.in_ok-operand-in-Minus.operand _ c.in-Minus.is k (record {
+      parts = c.push.new.self;
+      is = view.outs-Sum c.push.new.self;
+      are = c.in_ok-push-in-Minus.ensures.items
+          ∙ ap (λ l. l ++ (false, c.in_ok-operand-in-Minus.operand) ∷ []) c.new-parts.ensures.items;
+    })
 
-pub translated-returns-in_ok-second-in-Compare : goal.translated-returns-in_ok-second-in-Compare
-translated-returns-in_ok-second-in-Compare g t c =
+pub translated-returns-in_ok-right-in-Compare : goal.translated-returns-in_ok-right-in-Compare
+translated-returns-in_ok-right-in-Compare g t c =
     let leaves = (g.L.Leaves.leaf_at c.args.leaves.now) in
     let k : BecomesBy leaves c.in-Compare.a.value c.in_ok-first-in-Compare.first =
     subst (λ z. BecomesBy leaves z c.in_ok-first-in-Compare.first) c.deref-in-Compare.ensures
@@ -60,11 +65,15 @@ translated-returns-in_ok-second-in-Compare g t c =
     let l : BecomesBy leaves c.in-Compare.b.value c.in_ok-second-in-Compare.second =
     subst (λ z. BecomesBy leaves z c.in_ok-second-in-Compare.second) c.deref-in-Compare-2.ensures
     c.in_ok-second-in-Compare.ensures in
-    ok_map c.compared.result
-    (λ e o. becoming.compare_becomes leaves c.args.expr.now c.in-Compare.relation c.relation_by.result c.in-Compare.a
-    c.in-Compare.b c.in_ok-first-in-Compare.first c.in_ok-second-in-Compare.second e c.in-Compare.is
-    c.relation_by.ensures k l o)
-    c.compared.ensures
+    becoming.compare_becomes leaves c.args.expr.now c.in-Compare.relation c.relation_by.result c.in-Compare.a
+    c.in-Compare.b c.in_ok-first-in-Compare.first c.in_ok-second-in-Compare.second _ c.in-Compare.is
+    c.relation_by.ensures k l (record {
+      left = c.in_ok-left-in-Compare.left;
+      right = c.in_ok-right-in-Compare.right;
+      is = view.outs-Compare c.relation_by.result c.in_ok-left-in-Compare.left c.in_ok-right-in-Compare.right;
+      is_left = c.in_ok-left-in-Compare.ensures.ok;
+      is_right = c.in_ok-right-in-Compare.ensures.ok;
+    })
 
 pub translated-returns-in_ok-terms_translated-in-Sum : goal.translated-returns-in_ok-terms_translated-in-Sum
 translated-returns-in_ok-terms_translated-in-Sum g t c =
@@ -73,8 +82,8 @@ translated-returns-in_ok-terms_translated-in-Sum g t c =
     (subst (λ (z : List (Bool × RawExpr)). Parts_become_by leaves z c.in_ok-terms_translated-in-Sum.field-0.items)
     c.deref-in-Sum.ensures.value c.in_ok-terms_translated-in-Sum.ensures) c.in-Sum.is
 
-pub translated-returns-in_ok-last-in-Choose : goal.translated-returns-in_ok-last-in-Choose
-translated-returns-in_ok-last-in-Choose g t c =
+pub translated-returns-in_ok-boxed-in-Choose : goal.translated-returns-in_ok-boxed-in-Choose
+translated-returns-in_ok-boxed-in-Choose g t c =
     let leaves = (g.L.Leaves.leaf_at c.args.leaves.now) in
     let k : BecomesBy leaves c.in-Choose.other.value c.in_ok-last-in-Choose.last =
     subst (λ z. BecomesBy leaves z c.in_ok-last-in-Choose.last) c.deref-in-Choose-2.ensures
@@ -82,10 +91,12 @@ translated-returns-in_ok-last-in-Choose g t c =
     let cases =
     subst (λ (z : List (RawExpr × RawExpr)). Cases_become_by leaves z c.in_ok-cases-in-Choose.cases.items)
     c.deref-in-Choose.ensures.value c.in_ok-cases-in-Choose.ensures in
-    ok_map c.chosen.result
-    (λ e o. becoming.choice_becomes leaves c.args.expr.now c.in-Choose.choices c.in-Choose.other
-    c.in_ok-cases-in-Choose.cases c.in_ok-last-in-Choose.last e cases k c.in-Choose.is o)
-    c.chosen.ensures
+    becoming.choice_becomes leaves c.args.expr.now c.in-Choose.choices c.in-Choose.other
+    c.in_ok-cases-in-Choose.cases c.in_ok-last-in-Choose.last _ cases k c.in-Choose.is (record {
+      other = c.in_ok-boxed-in-Choose.boxed;
+      is = view.outs-Choose c.in_ok-cases-in-Choose.cases c.in_ok-boxed-in-Choose.boxed;
+      is_other = c.in_ok-boxed-in-Choose.ensures.ok;
+    })
 
 pub translated-returns-in_ok-all_translated-in-All : goal.translated-returns-in_ok-all_translated-in-All
 translated-returns-in_ok-all_translated-in-All g t c =

@@ -5,9 +5,9 @@ use Rattle.ar_syntax.specs.declared.expressions.RawExpr.{RawExpr}
 use Rattle.ar_grammar.specs.declared.terms.Chain.{Chain}
 use Rattle.ar_grammar.specs.declared.terms.Chain.TheVariants.{Any}
 use Rattle.ar_grammar.specs.Expressions.{Node, ReadsExpr, ReadsNot, ReadsMinus, ReadsProduct, ReadsSum, ReadsCompare, ReadsPrimary, ReadsIf, ReadsSwitch}
-use Rattle.ar_grammar.specs.Chains.{chain_form, ends_chain, ends_operand}
+use Rattle.ar_grammar.specs.Chains.{IsConstant, chain_form, ends_chain, ends_operand}
 use Rattle.ar_grammar.specs.Results.{kind_at, Finds, begins_term, begins_expr, begins_not, begins_minus, ends_list, ends_cases, ends_sum, is_relation}
-use Rattle.ar_grammar.proofs.Finding.{finds_then, finds_fails, finds_given, finds_plain, finds_err, finds_ok, finds_memory, finds_inside, finds_no_room, finds_syntax, finds_nothing, finds_token, finds_from, finds_at, loops_start, loops_stop, loops_fail, loops_next, gathers_push, spans_then, spans_token, spans_expected, spans_from, spans_at, spans_map, takes_map, takes_from, err_memory, eats_as, eats_kind, then_kind, follows_token, follows_then, follows_any}
+use Rattle.ar_grammar.proofs.Finding.{finds_then, finds_fails, finds_given, finds_plain, finds_err, finds_ok, finds_memory, finds_inside, finds_no_room, finds_syntax, finds_nothing, finds_token, finds_from, finds_at, loops_start, loops_stop, loops_fail, loops_next, gathers_push, spans_then, spans_token, spans_expected, spans_at, spans_map, takes_map, takes_from, err_memory, eats_as, eats_kind, then_kind, follows_token, follows_then, follows_any}
 use Rattle.ar_grammar.proofs.PathForms.{pushed_more}
 use Rattle.ar_grammar.proofs.ExpressionForms.{and_left}
 use Rattle.ar_grammar.proofs.ExpressionParts.{expr_choice_in, expr_plain_in, if_made, sep_open, chain_made, not_plain_in, not_made, compare_made, compare_one, relation_ends, term_sign, term_eats, term_open, sum_one, sum_made, minus_plain_in, minus_made}
@@ -88,11 +88,21 @@ choice-returns-in_err-other-clause-only t c =
     (finds_err c.in_err-other.ensures.only c.from_residual-in_err-other.ensures.1) follows_any) (follows_then refl))
     (λ n next ts h s k. (then_unassoc h, s))
 
-pub choice-returns-in_err-form-clause-only : goal.choice-returns-in_err-form-clause-only
-choice-returns-in_err-form-clause-only t c = let f = finds_then c.in_ok-case.ensures.only (finds_then (c.in_ok-expect.ensures.only _) c.in_ok-other.ensures.only follows_any) (follows_then refl) in finds_memory f.front f.passed (err_memory _ _ c.from_residual-in_err-form.ensures.1 c.in_err-form.ensures.err)
+pub choice-returns-in_err-cases-clause-only : goal.choice-returns-in_err-cases-clause-only
+choice-returns-in_err-cases-clause-only t c = let f = finds_then c.in_ok-case.ensures.only (finds_then (c.in_ok-expect.ensures.only _) c.in_ok-other.ensures.only follows_any) (follows_then refl) in finds_memory f.front f.passed (err_memory _ _ c.from_residual-in_err-cases.ensures.1 c.in_err-cases.ensures.err)
+
+pub choice-returns-in_err-boxed-clause-only : goal.choice-returns-in_err-boxed-clause-only
+choice-returns-in_err-boxed-clause-only t c = let f = finds_then c.in_ok-case.ensures.only (finds_then (c.in_ok-expect.ensures.only _) c.in_ok-other.ensures.only follows_any) (follows_then refl) in finds_memory f.front f.passed (err_memory _ _ c.from_residual-in_err-boxed.ensures.1 c.in_err-boxed.ensures.err)
 
 pub choice-returns-clause-found : goal.choice-returns-clause-found
-choice-returns-clause-found t c = if_made _ _ _ _ _ _ c.in_ok-form.ensures.made
+choice-returns-clause-found t c = if_made _ c.in_ok-case.case.0 c.in_ok-case.case.1 c.in_ok-other.other _ _
+    (record {
+      cases = c.in_ok-cases.cases;
+      d = c.in_ok-boxed.boxed;
+      is = refl;
+      one = c.in_ok-cases.ensures.items;
+      other_is = c.in_ok-boxed.ensures.ok;
+    })
     (record { form = c.node.ensures.form; there = c.node.ensures.there; span = c.node.ensures.span })
     c.in_ok-case.ensures.found (spans_expected c.in_ok-expect.ensures.found) c.in_ok-other.ensures.found
 
@@ -366,101 +376,90 @@ operands-returns-clause-only t c = finds_given
     operands_follow) follows_any) (λ n next ts h s k. (h, s))
 
 pub primary-returns-in-Some-clause-found : goal.primary-returns-in-Some-clause-found
-primary-returns-in-Some-clause-found t c = let t = c.in-Some.ensures.taken in constant_made _ _ t.0 _ t.2 (record { form = c.node.ensures.form; there = c.node.ensures.there; span = c.node.ensures.span }) (spans_token t.1)
+primary-returns-in-Some-clause-found t c = constant_made _ _ _ _ (subst (IsConstant c.in-Some.form) c.kind.ensures c.in-Some.ensures.found)
+    (record { form = c.node.ensures.form; there = c.node.ensures.there; span = c.node.ensures.span })
+    (spans_token c.skip.ensures)
 
 pub primary-returns-in-Some-clause-only : goal.primary-returns-in-Some-clause-only
-primary-returns-in-Some-clause-only t c = let t = c.in-Some.ensures.taken in finds_given (finds_ok _ (finds_token t.1)) (λ n next ts h s q. (primary_constant n t.0 next ts h (q ∙ eats_kind t.1) (constant_begins _ t.0 t.2), refl))
+primary-returns-in-Some-clause-only t c = finds_given (finds_ok _ (finds_token c.skip.ensures))
+    (λ n next ts h s q. (primary_constant n _ next ts h q (constant_begins _ _ (subst (IsConstant c.in-Some.form) c.kind.ensures c.in-Some.ensures.found)), refl))
 
 pub primary-returns-in_err-inner-clause-only : goal.primary-returns-in_err-inner-clause-only
 primary-returns-in_err-inner-clause-only t c =
-    finds_from (finds_given (finds_err c.in_err-inner.ensures.only c.from_residual.ensures.1)
-    (λ n next ts h s k. (primary_brackets n next ts h (k ∙ c.if-is_at.ensures.yes), refl))) c.in_default.ensures.left
+    finds_given (finds_err c.in_err-inner.ensures.only c.from_residual.ensures.1)
+    (λ n next ts h s k. (primary_brackets n next ts h (k ∙ c.if-is_at.ensures.yes), refl))
 
 pub primary-returns-then-is_at-clause-found : goal.primary-returns-then-is_at-clause-found
 primary-returns-then-is_at-clause-found t c =
     brackets_made _ c.in_ok-inner.inner _
-    (record { form = c.bracketed.ensures.form; there = c.bracketed.ensures.there; span = c.bracketed.ensures.span })
-    (spans_from c.in_ok-inner.ensures.found (sym c.in_default.ensures.left))
+    (record { form = c.node-then-is_at.ensures.form; there = c.node-then-is_at.ensures.there; span = c.node-then-is_at.ensures.span })
+    c.in_ok-inner.ensures.found
 
 pub primary-returns-then-is_at-clause-only : goal.primary-returns-then-is_at-clause-only
 primary-returns-then-is_at-clause-only t c =
-    finds_from (finds_given (finds_ok _ c.in_ok-inner.ensures.only)
-    (λ n next ts h s k. (primary_brackets n next ts h (k ∙ c.if-is_at.ensures.yes), refl))) c.in_default.ensures.left
+    finds_given (finds_ok _ c.in_ok-inner.ensures.only)
+    (λ n next ts h s k. (primary_brackets n next ts h (k ∙ c.if-is_at.ensures.yes), refl))
 
 pub primary-returns-then-is_at-2-clause-found : goal.primary-returns-then-is_at-2-clause-found
 primary-returns-then-is_at-2-clause-found t c =
-    takes_from (Node (ReadsPrimary (ReadsExpr c.args.left))) _ _ _ _
-    (takes_map (Node (ReadsSwitch (ReadsExpr c.args.left))) (Node (ReadsPrimary (ReadsExpr c.args.left))) _ _ _
-    c.switch.ensures.found (λ e next ts h. switch_in c.args.left e next ts h)) (sym c.in_default.ensures.left)
+    takes_map (Node (ReadsSwitch (ReadsExpr c.args.left))) (Node (ReadsPrimary (ReadsExpr c.args.left))) _ _ _
+    c.switch.ensures.found (λ e next ts h. switch_in c.args.left e next ts h)
 
 pub primary-returns-then-is_at-2-clause-only : goal.primary-returns-then-is_at-2-clause-only
 primary-returns-then-is_at-2-clause-only t c =
-    finds_from (finds_given c.switch.ensures.only
-    (λ n next ts h s k. (primary_switch n next ts h (k ∙ c.if-is_at-2.ensures.yes), refl))) c.in_default.ensures.left
+    finds_given c.switch.ensures.only
+    (λ n next ts h s k. (primary_switch n next ts h (k ∙ c.if-is_at-2.ensures.yes), refl))
 
 pub primary-returns-in_err-operands-clause-only : goal.primary-returns-in_err-operands-clause-only
 primary-returns-in_err-operands-clause-only t c =
-    finds_from (finds_given (finds_then (finds_token c.in-Some-eat_call.ensures.taken)
+    let taken = eats_as c.skip-in-Some-call_at.ensures (sym c.kind-2.ensures ∙ c.in-Some-call_at.ensures.found) in
+    finds_given (finds_then (finds_token taken)
     (finds_err c.in_err-operands.ensures.only c.from_residual-in_err-operands.ensures.1) follows_any)
-    (λ n next ts h s k. (
-      primary_call n c.in-Some-eat_call.call next ts h
-          (k ∙ eats_kind c.in-Some-eat_call.ensures.taken),
-      refl,
-    ))) c.in_default.ensures.left
+    (λ n next ts h s k. (primary_call n c.in-Some-call_at.call next ts h (k ∙ eats_kind taken), refl))
 
-pub primary-returns-in-Some-eat_call-clause-found : goal.primary-returns-in-Some-eat_call-clause-found
-primary-returns-in-Some-eat_call-clause-found t c =
-    call_made _ c.in-Some-eat_call.call c.in_ok-operands.operands _
+pub primary-returns-in-Some-call_at-clause-found : goal.primary-returns-in-Some-call_at-clause-found
+primary-returns-in-Some-call_at-clause-found t c =
+    let taken = eats_as c.skip-in-Some-call_at.ensures (sym c.kind-2.ensures ∙ c.in-Some-call_at.ensures.found) in
+    call_made _ c.in-Some-call_at.call c.in_ok-operands.operands _
     (record {
-      form = c.node-in-Some-eat_call.ensures.form ∙ c.call_of.ensures;
-      there = c.node-in-Some-eat_call.ensures.there;
-      span = c.node-in-Some-eat_call.ensures.span;
+      form = c.node-in-Some-call_at.ensures.form ∙ c.call_of.ensures;
+      there = c.node-in-Some-call_at.ensures.there;
+      span = c.node-in-Some-call_at.ensures.span;
     })
-    (spans_from (spans_token c.in-Some-eat_call.ensures.taken) (sym c.in_default.ensures.left))
-    c.in_ok-operands.ensures.found
+    (spans_token taken) c.in_ok-operands.ensures.found
 
-pub primary-returns-in-Some-eat_call-clause-only : goal.primary-returns-in-Some-eat_call-clause-only
-primary-returns-in-Some-eat_call-clause-only t c =
-    finds_from (finds_given (finds_then (finds_token c.in-Some-eat_call.ensures.taken)
-    (finds_ok _ c.in_ok-operands.ensures.only) follows_any)
-    (λ n next ts h s k. (
-      primary_call n c.in-Some-eat_call.call next ts h
-          (k ∙ eats_kind c.in-Some-eat_call.ensures.taken),
-      refl,
-    ))) c.in_default.ensures.left
+pub primary-returns-in-Some-call_at-clause-only : goal.primary-returns-in-Some-call_at-clause-only
+primary-returns-in-Some-call_at-clause-only t c =
+    let taken = eats_as c.skip-in-Some-call_at.ensures (sym c.kind-2.ensures ∙ c.in-Some-call_at.ensures.found) in
+    finds_given (finds_then (finds_token taken) (finds_ok _ c.in_ok-operands.ensures.only) follows_any)
+    (λ n next ts h s k. (primary_call n c.in-Some-call_at.call next ts h (k ∙ eats_kind taken), refl))
 
 pub primary-returns-in_err-path-clause-only : goal.primary-returns-in_err-path-clause-only
 primary-returns-in_err-path-clause-only t c =
-    finds_from (finds_given (finds_err (c.in_err-path.ensures.only _) c.from_residual-in_err-path.ensures.1)
+    finds_given (finds_err (c.in_err-path.ensures.only _) c.from_residual-in_err-path.ensures.1)
     (λ n next ts h s k. (
       primary_path n next ts h
-          (ap begins_constant (k ∙ ap kind_at (c.in_default-eat_call.ensures.left ∙ c.in_default.ensures.left))
-          ∙ c.in_default.ensures.other) (λ e. c.if-is_at.ensures.no
-          (ap kind_at (sym c.in_default-eat_call.ensures.left) ∙ sym k ∙ e))
-          (λ e. c.if-is_at-2.ensures.no (ap kind_at (sym c.in_default-eat_call.ensures.left) ∙ sym k ∙ e))
-          (ap begins_call (k ∙ ap kind_at c.in_default-eat_call.ensures.left) ∙ c.in_default-eat_call.ensures.other),
+          (ap begins_constant (k ∙ sym c.kind.ensures) ∙ c.in_default.ensures.none)
+          (λ e. c.if-is_at.ensures.no (sym k ∙ e)) (λ e. c.if-is_at-2.ensures.no (sym k ∙ e))
+          (ap begins_call (k ∙ sym c.kind-2.ensures) ∙ c.in_default-call_at.ensures.none),
       s,
-    )))
-    (c.in_default-eat_call.ensures.left ∙ c.in_default.ensures.left)
+    ))
 
 pub primary-returns-clause-found : goal.primary-returns-clause-found
 primary-returns-clause-found t c = path_made_primary _ c.in_ok-path.path _
     (record { form = c.node-2.ensures.form; there = c.node-2.ensures.there; span = c.node-2.ensures.span })
-    (spans_from c.in_ok-path.ensures.found (sym (c.in_default-eat_call.ensures.left ∙ c.in_default.ensures.left)))
+    c.in_ok-path.ensures.found
 
 pub primary-returns-clause-only : goal.primary-returns-clause-only
-primary-returns-clause-only t c = finds_from
-    (finds_given (finds_ok _ (c.in_ok-path.ensures.only _))
+primary-returns-clause-only t c =
+    finds_given (finds_ok _ (c.in_ok-path.ensures.only _))
     (λ n next ts h s k. (
       primary_path n next ts h
-          (ap begins_constant (k ∙ ap kind_at (c.in_default-eat_call.ensures.left ∙ c.in_default.ensures.left))
-          ∙ c.in_default.ensures.other) (λ e. c.if-is_at.ensures.no
-          (ap kind_at (sym c.in_default-eat_call.ensures.left) ∙ sym k ∙ e))
-          (λ e. c.if-is_at-2.ensures.no (ap kind_at (sym c.in_default-eat_call.ensures.left) ∙ sym k ∙ e))
-          (ap begins_call (k ∙ ap kind_at c.in_default-eat_call.ensures.left) ∙ c.in_default-eat_call.ensures.other),
+          (ap begins_constant (k ∙ sym c.kind.ensures) ∙ c.in_default.ensures.none)
+          (λ e. c.if-is_at.ensures.no (sym k ∙ e)) (λ e. c.if-is_at-2.ensures.no (sym k ∙ e))
+          (ap begins_call (k ∙ sym c.kind-2.ensures) ∙ c.in_default-call_at.ensures.none),
       s,
-    )))
-    (c.in_default-eat_call.ensures.left ∙ c.in_default.ensures.left)
+    ))
 
 pub sum-returns-in_err-first-clause-only : goal.sum-returns-in_err-first-clause-only
 sum-returns-in_err-first-clause-only t c =
@@ -697,26 +696,22 @@ operands-returns-in_err-expect-2-clause-stuck t c = halts_err _ _ c.from_residua
 pub primary-returns-in_err-inner-clause-stuck : goal.primary-returns-in_err-inner-clause-stuck
 primary-returns-in_err-inner-clause-stuck t c =
     halts_err _ _ c.from_residual.ensures.1
-    (refuses_from (refuses_map c.in_err-inner.ensures.stuck (λ m next ts h. text.brackets h))
-    (sym c.in_default.ensures.left))
+    (refuses_map c.in_err-inner.ensures.stuck (λ m next ts h. text.brackets h))
 
 pub primary-returns-then-is_at-2-clause-stuck : goal.primary-returns-then-is_at-2-clause-stuck
 primary-returns-then-is_at-2-clause-stuck t c =
-    halts_over _ c.switch.ensures.stuck
-    (λ e r. refuses_from (refuses_map r (λ m next ts h. text.switch h)) (sym c.in_default.ensures.left))
+    halts_over _ c.switch.ensures.stuck (λ e r. refuses_map r (λ m next ts h. text.switch h))
 
 pub primary-returns-in_err-operands-clause-stuck : goal.primary-returns-in_err-operands-clause-stuck
 primary-returns-in_err-operands-clause-stuck t c =
     halts_err _ _ c.from_residual-in_err-operands.ensures.1
-    (refuses_from (refuses_map (refuses_then {P = λ m. one_of begins_call}
-    (passes_one c.in-Some-eat_call.ensures.taken (call_one c.in-Some-eat_call.call)) c.in_err-operands.ensures.stuck)
-    (λ m next ts h. text.call h)) (sym c.in_default.ensures.left))
+    (refuses_map (refuses_then {P = λ m. one_of begins_call} (passes_one (eats_as c.skip-in-Some-call_at.ensures (sym c.kind-2.ensures ∙ c.in-Some-call_at.ensures.found))
+    (call_one c.in-Some-call_at.call)) c.in_err-operands.ensures.stuck) (λ m next ts h. text.call h))
 
 pub primary-returns-in_err-path-clause-stuck : goal.primary-returns-in_err-path-clause-stuck
 primary-returns-in_err-path-clause-stuck t c =
     halts_err _ _ c.from_residual-in_err-path.ensures.1
-    (refuses_from (refuses_map (c.in_err-path.ensures.stuck _) (λ m next ts h. text.path h))
-    (sym (c.in_default-eat_call.ensures.left ∙ c.in_default.ensures.left)))
+    (refuses_map (c.in_err-path.ensures.stuck _) (λ m next ts h. text.path h))
 
 pub sum-returns-in_err-first-clause-stuck : goal.sum-returns-in_err-first-clause-stuck
 sum-returns-in_err-first-clause-stuck t c =
@@ -817,9 +812,13 @@ pub more_terms-returns-in_err-put-clause-stuck : goal.more_terms-returns-in_err-
 more_terms-returns-in_err-put-clause-stuck t c =
     halts_memory _ _ _ _ _ (err_memory _ _ c.from_residual-in_err-put.ensures.1 c.in_err-put.ensures.err)
 
-pub choice-returns-in_err-form-clause-stuck : goal.choice-returns-in_err-form-clause-stuck
-choice-returns-in_err-form-clause-stuck t c =
-    halts_memory _ _ _ _ _ (err_memory _ _ c.from_residual-in_err-form.ensures.1 c.in_err-form.ensures.err)
+pub choice-returns-in_err-cases-clause-stuck : goal.choice-returns-in_err-cases-clause-stuck
+choice-returns-in_err-cases-clause-stuck t c =
+    halts_memory _ _ _ _ _ (err_memory _ _ c.from_residual-in_err-cases.ensures.1 c.in_err-cases.ensures.err)
+
+pub choice-returns-in_err-boxed-clause-stuck : goal.choice-returns-in_err-boxed-clause-stuck
+choice-returns-in_err-boxed-clause-stuck t c =
+    halts_memory _ _ _ _ _ (err_memory _ _ c.from_residual-in_err-boxed.ensures.1 c.in_err-boxed.ensures.err)
 
 pub not-returns-in_err-boxed-clause-stuck : goal.not-returns-in_err-boxed-clause-stuck
 not-returns-in_err-boxed-clause-stuck t c =

@@ -1,7 +1,7 @@
 use Rattle.ar_grammar.proofs.Finding.{finds_then, finds_fails, finds_given, finds_ok, spans_then, spans_expected, follows_any}
 use Rattle.ar_grammar.proofs.cursor.Parser.domain.Goals as goal
 use Rattle.ar_grammar.proofs.Standing.{halts_err, refuses_fails, refuses_then, passes, passes_expected, begins_then, begins_token, begins_maybe}
-use Rattle.ar_grammar.proofs.ItemParts.{some_domain_body}
+use Rattle.ar_grammar.proofs.ItemParts.{some_domain_body, semicolon_found, semicolon_only}
 use Rattle.ar_grammar.proofs.Turning.{turns_placed}
 use Rattle.ar_lexer.specs.declared.token.TokenKind.TheVariants.{Name}
 
@@ -25,13 +25,13 @@ returns-in_err-body-clause-only c =
 
 pub returns-clause-found : goal.returns-clause-found
 returns-clause-found c = spans_then (spans_expected c.in_ok-expect.ensures.found)
-    (spans_then c.in_ok-name.ensures.found (spans_then c.in_ok-body.ensures.found c.skip_semicolon.ensures.found))
+    (spans_then c.in_ok-name.ensures.found (spans_then c.in_ok-body.ensures.found (semicolon_found _ c.eat.ensures.taken c.eat.ensures.left)))
 
 pub returns-clause-only : goal.returns-clause-only
 returns-clause-only c = λ left. finds_given
     (finds_then (c.in_ok-expect.ensures.only left)
     (finds_then (c.in_ok-name.ensures.only left)
-    (finds_then (c.in_ok-body.ensures.only left) (finds_ok _ (c.skip_semicolon.ensures.only left)) follows_any)
+    (finds_then (c.in_ok-body.ensures.only left) (finds_ok _ (semicolon_only left _ c.eat.ensures.taken c.eat.ensures.left c.eat.ensures.other)) follows_any)
     follows_any) follows_any) (λ n next ts h s k. (h, s))
 
 pub returns-in_err-expect-clause-stuck : goal.returns-in_err-expect-clause-stuck

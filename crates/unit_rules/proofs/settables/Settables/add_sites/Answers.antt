@@ -1,7 +1,7 @@
-use Rattle.std.proofs.Common.{◌<◌, ℕ, List, length, map, take, sym, ◌∙◌, ap, subst, arith}
+use Rattle.std.proofs.Common.{◌<◌, ℕ, List, length, get_or, map, take, sym, ◌∙◌, ap, subst, arith}
 use Rattle.ar_base.specs.Numbers.{BodyId}
 use Rattle.ar_base.proofs.Standing.{stands_get}
-use Rattle.class_table.specs.Members.{Site, named_at}
+use Rattle.class_table.specs.Members.{Site, names_of, named_at, owned_at}
 use Rattle.class_table.specs.Tables.{site_of}
 use Rattle.class_table.proofs.Taken.{map_next}
 use Rattle.unit_rules.specs.declared.settables.Settable.{Settable}
@@ -9,6 +9,7 @@ use Rattle.unit_rules.specs.Settables.{Adds, entries_of}
 use Rattle.unit_rules.proofs.Keeping.{adds_none, adds_more}
 use Rattle.unit_rules.proofs.Entries.{sites_next}
 use Rattle.unit_rules.proofs.settables.Settables.add_sites.Goals as goal
+use Rattle.unit_rules.proofs.settables.Settables.add_sites.Goals.{in-Some+in_ok-add_member, in_default}
 
 pub loop-site-init : goal.loop-site-init
 loop-site-init c = λ d holds known. adds_none _ _
@@ -20,6 +21,17 @@ loop-site-preserved c = λ d holds known.
     let s = stands_get c.args.sites.now c.loop-site.site-index none l in
     let e = map_next site_of c.args.sites.now c.loop-site.site-index _ s in
     let before = map site_of (take c.loop-site.site-index c.args.sites.now) in
-    subst (λ (es : List (ℕ × Settable)). Adds c.args.body.n es c.args.self.now c.add_site.new.self)
+    let site = site_of (get_or c.args.sites.now c.loop-site.site-index none) in
+    let added : Adds c.args.body.n (entries_of (names_of d site (owned_at d site))) c.loop-site.self
+    c.match-owned_at.self =
+    elim c.match-owned_at.branch [
+      | in-Some+in_ok-add_member w ↦
+          (let o = rw c.deref.ensures.value at (w.in-Some.ensures d) in
+          rw (← o holds.bodies, w.self-is) (w.in_ok-add_member.ensures d site holds known))
+      | in_default w ↦
+          (let o = rw c.deref.ensures.value at (w.in_default.ensures d) in
+          rw (← o holds.bodies, w.self-is) (adds_none c.args.body.n c.loop-site.self))
+    ] in
+    subst (λ (es : List (ℕ × Settable)). Adds c.args.body.n es c.args.self.now c.match-owned_at.self)
     (sym (ap (λ (ss : List Site). entries_of (named_at d ss)) e ∙ sites_next d before _))
-    (adds_more c.args.body.n _ _ _ _ _ (c.loop-site.invariant d holds known) (c.in_ok-add_site.ensures d holds known))
+    (adds_more c.args.body.n _ _ _ _ _ (c.loop-site.invariant d holds known) added)

@@ -1,8 +1,14 @@
-use Rattle.std.proofs.Common.{◌<◌, length, None, arith}
+use Rattle.std.proofs.Common.{◌<◌, List, length, get_or, None, sym, subst, arith}
 use Rattle.ar_base.proofs.Standing.{stands_get, stands_within, along_back, along_length}
 use Rattle.hierarchy.specs.declared.outline.Outline.{Outline}
-use Rattle.unit_rules.proofs.Keeping.{settables_next, settables_all}
+use Rattle.class_table.specs.Members.{Site, named_at}
+use Rattle.class_table.proofs.Taken.{item_stands}
+use Rattle.hierarchy.specs.Units.{names_in}
+use Rattle.unit_rules.specs.Settables.{Adds, entries_of}
+use Rattle.unit_rules.proofs.Entries.{members_there, members_past}
+use Rattle.unit_rules.proofs.Keeping.{adds_none, settables_next, settables_all}
 use Rattle.unit_rules.proofs.settables.Settables.new.Goals as goal
+use Rattle.unit_rules.proofs.settables.Settables.new.Goals.{in-Some+in_ok-add_sites, in_default}
 
 pub loop-outline-preserved : goal.loop-outline-preserved
 loop-outline-preserved c = λ m units h.
@@ -16,8 +22,24 @@ loop-outline-preserved c = λ m units h.
     let s = stands_get c.args.outlines.now c.loop-outline.outline-index none l in
     let w = along_back units c.args.outlines.now h.along c.loop-outline.outline-index _ s in
     let known = rw c.deref.ensures.value at c.in_ok-places.ensures in
-    settables_next m units c.loop-outline.outline-index _ w.0 _ _ w.1 w.2.body (c.loop-outline.invariant m units h)
-    (c.in_ok-add_body.ensures m h.table.table known)
+    let body = (get_or c.args.outlines.now c.loop-outline.outline-index none).body.n in
+    let added : Adds body (entries_of (names_in m body)) c.loop-outline.settables c.match-get.settables =
+    elim c.match-get.branch [
+      | in-Some+in_ok-add_sites v ↦
+          (let l = rw c.deref-in-loop-outline.ensures.value at v.in-Some.ensures.lookup.3.0 in
+          let i = rw c.deref-in-loop-outline.ensures.value at v.in-Some.ensures.lookup.1 in
+          let s = item_stands c.args.classes.now.bodies.items body v.in-Some.body.now l i in
+          let e = members_there m c.args.classes.now h.table.table body v.in-Some.body.now s in
+          let a = rw v.deref-in-Some.ensures.value at (v.in_ok-add_sites.ensures m.declared h.table.table.holds known) in
+          rw v.settables-is (subst (λ (ss : List Site). Adds body (entries_of (named_at m.declared ss))
+          c.loop-outline.settables v.add_sites.new.self) e a))
+      | in_default v ↦
+          (let l = rw c.deref-in-loop-outline.ensures.value at v.in_default.ensures.lookup.3 in
+          rw v.settables-is (subst (λ (ss : List Site). Adds body (entries_of (named_at m.declared ss))
+          c.loop-outline.settables c.loop-outline.settables) (sym (members_past m c.args.classes.now h.table.table body l))
+          (adds_none body c.loop-outline.settables)))
+    ] in
+    settables_next m units c.loop-outline.outline-index _ w.0 _ _ w.1 w.2.body (c.loop-outline.invariant m units h) added
 
 pub returns : goal.returns
 returns c = λ m units h.

@@ -1,15 +1,32 @@
-use Rattle.std.proofs.Common.{◌++◌, ◌∙◌, ap, sym, map, codes, List, ℕ, true, rules, SFits, w64}
+use Rattle.std.proofs.Common.{ap, sym, map, codes, List, ℕ, true, rules, SFits, w64}
 use Rattle.ar_base.specs.Texts.{text_at, separated}
-use Rattle.ar_io.proofs.Writing.{writes_as}
+use Rattle.ar_io.proofs.Writing.{writes_on, writes_front, writes_exit, writes_as}
 use Rattle.gts_core.specs.Printed.{domain_text}
 use Rattle.std.proofs.lemmas.Int.{to_z-of_z}
 use Rattle.gts_core.proofs.print.domain.Goals as goal
 
-pub returns-in-Symbols : goal.returns-in-Symbols
-returns-in-Symbols g c =
-    writes_as _ _ (ap (λ (ks : List ℕ). codes "{" ++ separated true (codes ", ")
-    (map (text_at c.args.parts.now.symbols.items) ks) ++ codes "}") c.deref.ensures.value
-    ∙ ap (domain_text c.args.parts.now) (sym c.in-Symbols.is)) c.symbol_set.ensures
+pub returns-in_err-write_text-in-Symbols : goal.returns-in_err-write_text-in-Symbols
+returns-in_err-write_text-in-Symbols g c =
+    writes_exit _ _ c.from_residual.ensures.1
+    (writes_as _ _ (ap (domain_text c.args.parts.now) (sym c.in-Symbols.is))
+    (writes_front _ _ c.in_err-write_text-in-Symbols.ensures))
+
+pub returns-in_err-symbol_names-in-Symbols : goal.returns-in_err-symbol_names-in-Symbols
+returns-in_err-symbol_names-in-Symbols g c =
+    writes_exit _ _ c.from_residual-in_err-symbol_names-in-Symbols.ensures.1
+    (writes_as _ _ (ap (domain_text c.args.parts.now) (sym c.in-Symbols.is))
+    (writes_front _ _ (writes_on c.in_ok-write_text-in-Symbols.ensures
+    (writes_as _ _ (ap (λ (ks : List ℕ). separated true (codes ", ")
+    (map (text_at c.args.parts.now.symbols.items) ks)) c.deref.ensures.value)
+    c.in_err-symbol_names-in-Symbols.ensures))))
+
+pub returns-in_ok-symbol_names-in-Symbols : goal.returns-in_ok-symbol_names-in-Symbols
+returns-in_ok-symbol_names-in-Symbols g c =
+    writes_as _ _ (ap (domain_text c.args.parts.now) (sym c.in-Symbols.is))
+    (writes_on (writes_on c.in_ok-write_text-in-Symbols.ensures
+    (writes_as _ _ (ap (λ (ks : List ℕ). separated true (codes ", ")
+    (map (text_at c.args.parts.now.symbols.items) ks)) c.deref.ensures.value)
+    c.in_ok-symbol_names-in-Symbols.ensures)) c.write_text-in-Symbols-2.ensures)
 
 pub returns-in-Range : goal.returns-in-Range
 returns-in-Range g c =

@@ -1,7 +1,6 @@
 //! The text of a flat system.
 
-ghost use Rattle.std.specs.Prelude.{true, ◌++◌, ◌<◌, ◌^◌, length, codes, map, slice_get};
-ghost use Rattle.std.specs.Fmt.{signed_decimal};
+ghost use Rattle.std.specs.Prelude.{true, ◌<◌, ◌^◌, length, codes, map, slice_get};
 ghost use Rattle.ar_base.specs.Numbers.{WayId};
 ghost use Rattle.ar_io.specs.Writing.{Writes};
 ghost use Rattle.std.specs.List.{concat};
@@ -48,20 +47,14 @@ fn domain<K: Sink>(out: &mut K, parts: &GtsParts, range: &Domain) -> Result<(), 
             symbol_names(out, parts, symbols)?;
             write_text(out, "}")
         }
-        Domain::Range(low, high) => interval(out, *low, *high),
+        Domain::Range(low, high) => {
+            write_text(out, "[")?;
+            write_signed(out, *low)?;
+            write_text(out, ", ")?;
+            write_signed(out, *high)?;
+            write_text(out, "]")
+        }
     }
-}
-
-// A range of whole numbers.
-fn interval<K: Sink>(out: &mut K, low: i64, high: i64) -> Result<(), SinkFailed>
-    ensures { Writes (K.state out.old) (K.state out.new)
-        (codes "[" ++ signed_decimal low ++ codes ", " ++ signed_decimal high ++ codes "]") result }
-{
-    write_text(out, "[")?;
-    write_signed(out, low)?;
-    write_text(out, ", ")?;
-    write_signed(out, high)?;
-    write_text(out, "]")
 }
 
 // The names of symbols.

@@ -90,16 +90,7 @@ fn between(alloc: Global, low: i64, high: i64) -> Result<Vec<Value>, Memory>
     let mut found = Vec::new(alloc);
     let count = (high - low) as u32 + 1;
     for k in 0..count {
-        found.push(number_after(low, high, k))?;
+        found.push(Value::Whole(low + i64::from(k)))?;
     }
     Ok(found)
-}
-
-// The number that is so much greater than the first, as a value.
-fn number_after(low: i64, high: i64, k: u32) -> Value
-    requires ordered { low ≤ℤ high }
-    requires below { k < nat_abs (high -ℤ low) + 1 }
-    ensures { result ≡ Whole (low +ℤ pos k) }
-{
-    Value::Whole(low + i64::from(k))
 }

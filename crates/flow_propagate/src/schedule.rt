@@ -17,8 +17,8 @@ pub(crate) struct Schedule {
     pub(crate) places: Vec<usize>,
 }
 
-// The order in which the assignments are looked at, and their places in it: by the class of the target, then by how many
-// variables they name, then by number.
+// The order in which the assignments are looked at, and their places in it. They stand by the class of the target,
+// then by how many variables they name, then by number.
 pub(crate) fn scheduled(
     alloc: Global,
     parts: &GtsParts,

@@ -1,8 +1,8 @@
 -- Numbers that differ from one another have each rank below their number once.
-use Rattle.std.proofs.Common.{◌≡◌, ◌≢◌, inl, inr, ℕ, ◌+◌, ◌-◌, ◌<◌, ◌≤◌, nat_lt, Bool, true, false, cond, List, [], ◌∷◌, length, count_by, Contains, AllPairs, find, Option, Some, None, IfSome, IfNone, IsSome, is_some, Vec, Global, nat_eq, ◌↔◌, refl, sym, ap, ◌∙◌, subst, arith}
+use Rattle.std.proofs.Common.{◌≡◌, ◌≢◌, inl, inr, ℕ, ◌+◌, ◌-◌, ◌<◌, ◌≤◌, nat_lt, cond, List, [], ◌∷◌, length, count_by, Contains, AllPairs, Option, Some, None, IfSome, IfNone, IsSome, is_some, Vec, Global, ◌↔◌, refl, sym, ◌∙◌, subst, arith}
 use Rattle.std.proofs.lemmas.Bool.Decides.{nat_tests}
 use Rattle.std.proofs.lemmas.List.Sums.{sum_by-cons, count_by-le-length}
-use Rattle.std.proofs.lemmas.Bool.{cases_order, eqb-true}
+use Rattle.std.proofs.lemmas.Bool.{cases_order}
 use Rattle.domains.specs.Domains.{IsDomain, HasMore}
 use Rattle.domains.proofs.Members.{contains-head, contains-cons, contains-cases, pairs-tail, pairs-head}
 use Rattle.domains.specs.declared.Value.{Value}
@@ -100,47 +100,6 @@ rank-small (x ∷ xs) s m =
           rw (rank-cons s x xs) (rw e (let k = count_by-le-length (λ y. nat_lt y s) xs in grind (arith, nat_tests)))
       | inr n ↦ rw (rank-cons s x xs) (let k = rank-small xs s n in grind (arith, nat_tests))
     ]
-
-find_passes : {X : Type 0} (p : X → Bool) (x : X) (xs : List X) (s : X) (b : Bool) → p x ≡ b
-    → (find p xs ≡ Some s → Contains xs s × (p s ≡ true))
-    → cond b (Some x) (find p xs) ≡ Some s → Contains (x ∷ xs) s × (p s ≡ true)
-find_passes p x xs s true i f e =
-    let k : x ≡ s = cc in
-    let P : _ → Type 0 = λ z. Contains (x ∷ xs) z × (p z ≡ true) in
-    subst P k (contains-head x xs, i)
-find_passes p x xs s false i f e = let r = f e in (contains-cons x s xs r.0, r.1)
-
--- what a search by a test finds
-pub find-passes : {X : Type 0} (p : X → Bool) (xs : List X) (s : X) → find p xs ≡ Some s → Contains xs s × (p s ≡ true)
-find-passes p [] s e = cc
-find-passes p (x ∷ xs) s e = find_passes p x xs s (p x) refl (λ i. find-passes p xs s i) e
-
-find_fails : {X : Type 0} (p : X → Bool) (x : X) (xs : List X) (s : X) (b : Bool) → p x ≡ b
-    → (find p xs ≡ None → Contains xs s → p s ≡ false)
-    → cond b (Some x) (find p xs) ≡ None → Contains (x ∷ xs) s → p s ≡ false
-find_fails p x xs s true i f e m = cc
-find_fails p x xs s false i f e m = elim (contains-cases x s xs m) [ inl k ↦ ap p (sym k) ∙ i | inr n ↦ f e n ]
-
--- where a search finds nothing, nothing passes
-pub find-none : {X : Type 0} (p : X → Bool) (xs : List X) (s : X) → find p xs ≡ None → Contains xs s → p s ≡ false
-find-none p [] s e (k, h, i) = absurd (omega (arith, h))
-find-none p (x ∷ xs) s e m = find_fails p x xs s (p x) refl (λ i n. find-none p xs s i n) e m
-
-same_false : (m n : ℕ) → nat_eq m n ≡ false → m ≢ n
-same_false m n h = grind (arith, nat_tests)
-
--- what is found has the rank
-pub ranked-found : (xs : List ℕ) (p : ℕ) (r : Option ℕ) → r ≡ find (λ s. nat_eq (rank s xs) p) xs
-    → IfSome r (λ s. Contains xs s × (rank s xs ≡ p))
-ranked-found xs p None e = tt
-ranked-found xs p (Some s) e =
-    let f = find-passes (λ s. nat_eq (rank s xs) p) xs s (sym e) in
-    (f.0, eqb-true (rank s xs) p f.1)
-
-pub ranked-none : (xs : List ℕ) (p : ℕ) (r : Option ℕ) → r ≡ find (λ s. nat_eq (rank s xs) p) xs
-    → IfNone r ((s : ℕ) → Contains xs s → rank s xs ≢ p)
-ranked-none xs p None e = λ s m. same_false (rank s xs) p (find-none (λ s. nat_eq (rank s xs) p) xs s (sym e) m)
-ranked-none xs p (Some s) e = tt
 
 -- a search by rank finds something exactly where there are more numbers
 pub ranked-some : (xs : List ℕ) (p : ℕ) (r : Option ℕ) → AllPairs (λ a b. a ≢ b) xs

@@ -1,7 +1,7 @@
 //! Values, the domains that variables have, and clamped arithmetic.
 #![tactic(auto)]
 
-ghost use Rattle.std.specs.Prelude.{true, false, ◌≡◌, ◌<◌, ◌≤◌, ◌↔◌, ◌≢◌, ◌==◌, ℕ, IsTrue, IsSome, IfOk, IfSome, IfNone, Contains, find, count_by, nat_lt, length, pos, ◌+ℤ◌, ◌-ℤ◌, ◌*ℤ◌, ◌<ℤ◌, ◌≤ℤ◌};
+ghost use Rattle.std.specs.Prelude.{true, false, ◌≡◌, ◌<◌, ◌≤◌, ◌↔◌, ◌≢◌, ◌==◌, ℕ, IsTrue, IsSome, IfOk, IfSome, IfNone, Contains, count_by, nat_lt, length, ◌+ℤ◌, ◌-ℤ◌, ◌*ℤ◌};
 ghost use Rattle.std.specs.Int.{saturate_signed, w64};
 ghost use Rattle.domains.specs.Domains.{IsDomain, Holds, IsAt, HasMore, values_of};
 ghost use Rattle.domains.specs.Same.{IsSameDomain};
@@ -152,11 +152,19 @@ impl Domain {
             Domain::Symbols(symbols) => match value {
                 Value::Truth(_) => None,
                 Value::Whole(_) => None,
-                Value::Symbol(s) => rank_of(symbols, s),
+                Value::Symbol(s) => if symbols.contains(&s) {
+                    Some(count_below(symbols, s))
+                } else {
+                    None
+                },
             },
             Domain::Range(low, high) => match value {
                 Value::Truth(_) => None,
-                Value::Whole(n) => offset_of(*low, *high, n),
+                Value::Whole(n) => if *low <= n && n <= *high {
+                    Some((n - *low) as u32)
+                } else {
+                    None
+                },
                 Value::Symbol(_) => None,
             },
         }
@@ -179,48 +187,15 @@ impl Domain {
                 Some(s) => Some(Value::Symbol(s)),
                 None => None,
             },
-            Domain::Range(low, high) => number_at(*low, *high, position),
+            Domain::Range(low, high) => {
+                let n = i64::from(position);
+                if n <= *high - *low {
+                    Some(Value::Whole(*low + n))
+                } else {
+                    None
+                }
+            }
         }
-    }
-}
-
-// How many of the symbols are below this one, where it is one of them.
-fn rank_of(symbols: &[u32], s: u32) -> Option<u32>
-    requires { length symbols.now ≤ 256 }
-    ensures found { IfSome result (λ p. p ≡ count_by (λ x. nat_lt x s) symbols.now) }
-    ensures variant { IsSome result ↔ Contains symbols.now s }
-{
-    if symbols.contains(&s) {
-        Some(count_below(symbols, s))
-    } else {
-        None
-    }
-}
-
-// How far the number is above the least one of a range, where it is in the range.
-fn offset_of(low: i64, high: i64, n: i64) -> Option<u32>
-    requires { high <ℤ (low +ℤ pos 256) }
-    ensures found { IfSome result (λ p. n ≡ (low +ℤ pos p)) }
-    ensures variant { IsSome result ↔ (low ≤ℤ n) × (n ≤ℤ high) }
-{
-    if low <= n && n <= high {
-        Some((n - low) as u32)
-    } else {
-        None
-    }
-}
-
-// The number so far above the least one of a range, where it is in the range.
-fn number_at(low: i64, high: i64, position: u32) -> Option<Value>
-    requires ends { low ≤ℤ high }
-    requires short { high <ℤ (low +ℤ pos 256) }
-    ensures found { IfSome result (λ v. v ≡ Value.Whole (low +ℤ pos position)) }
-    ensures variant { IsSome result ↔ (low +ℤ pos position) ≤ℤ high }
-{
-    if i64::from(position) <= high - low {
-        Some(Value::Whole(low + i64::from(position)))
-    } else {
-        None
     }
 }
 
@@ -238,18 +213,12 @@ fn symbol_at(symbols: &[u32], position: u32) -> Option<u32>
             return Some(*s);
         }
     }
-    first_ranked(symbols, position)
-}
-
-// The first symbol that has so many symbols below it.
-fn first_ranked(symbols: &[u32], position: u32) -> Option<u32>
-    requires { length symbols.now ≤ 256 }
-    ensures { result ≡ find (λ s. count_by (λ x. nat_lt x s) symbols.now == position) symbols.now }
-{
-    symbols
-        .iter()
-        .copied()
-        .find(|s| count_below(symbols, *s) == position)
+    for s in symbols {
+        if count_below(symbols, *s) == position {
+            return Some(*s);
+        }
+    }
+    None
 }
 
 // How many symbols are below this one.
@@ -257,5 +226,11 @@ fn count_below(symbols: &[u32], s: u32) -> u32
     requires { length symbols.now ≤ 256 }
     ensures { result ≡ count_by (λ x. nat_lt x s) symbols.now }
 {
-    symbols.iter().filter(|x| **x < s).count() as u32
+    let mut count = 0;
+    for x in symbols {
+        if *x < s {
+            count += 1;
+        }
+    }
+    count
 }

@@ -1,6 +1,6 @@
 //! The classes of mutual dependence, by their least members.
 
-ghost use Rattle.std.specs.Prelude.{◌≡◌, ◌≢◌, ℕ, ◌+◌, ◌<◌, ◌≤◌, List, [], ◌∷◌, ◌++◌, if◌then◌else◌, ◌↔◌, IsTrue, IfOk, length, slice_get};
+ghost use Rattle.std.specs.Prelude.{◌≡◌, ◌≢◌, ℕ, ◌+◌, ◌<◌, ◌≤◌, List, [], ◌∷◌, ◌↔◌, IsTrue, IfOk, length, slice_get};
 ghost use Rattle.ar_base.specs.Lists.{Stands, IsOneOf};
 ghost use Rattle.flow_blocks.specs.Blocks.{Together, IsClass};
 ghost use Rattle.flow_blocks.specs.Bits.{HasBit, AreRows, AreAllDependences};
@@ -117,30 +117,9 @@ fn add_others(
     ensures { IfOk result (λ _. IsSelection rows.now least candidates.now members.new.items) }
 {
     for number in candidates {
-        let is_member = is_other(count, rows, least, *number);
-        add_if(is_member, *number, members)?;
-    }
-    Ok(())
-}
-
-/// Whether a number is greater than `least`, and each of them depends on the other.
-fn is_other(count: u32, rows: &[Vec<u64>], least: u32, number: u32) -> bool
-    requires rows { AreRows count rows.now }
-    requires below { least < count }
-    requires number { number < count }
-    ensures { IsTrue result ↔ ((least < number) × HasBit rows.now least number
-        × HasBit rows.now number least) }
-{
-    least < number && are_mutual(count, rows, least, number)
-}
-
-/// Adds a number where it is a member.
-fn add_if(is_member: bool, number: u32, members: &mut Vec<u32>) -> Result<(), Memory>
-    ensures { IfOk result (λ _. members.new.items
-        ≡ (if is_member then members.old.items ++ number ∷ [] else members.old.items)) }
-{
-    if is_member {
-        members.push(number)?;
+        if least < *number && are_mutual(count, rows, least, *number) {
+            members.push(*number)?;
+        }
     }
     Ok(())
 }

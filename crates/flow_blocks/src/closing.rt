@@ -1,6 +1,6 @@
 //! The rows of all numbers on which each number depends.
 
-ghost use Rattle.std.specs.Prelude.{◌≡◌, ℕ, ◌≤◌, ◌<◌, ◌⊎◌, ◌↔◌, IsTrue, ◌||◌, false, IfOk};
+ghost use Rattle.std.specs.Prelude.{◌≡◌, ℕ, ◌≤◌, ◌<◌, ◌⊎◌, ◌↔◌, IsTrue, false, IfOk};
 ghost use Rattle.ar_base.specs.Lists.{IsOneOf};
 ghost use Rattle.flow_blocks.specs.Blocks.{AreBelow};
 ghost use Rattle.flow_blocks.specs.Bits.{HasBit, AreRows, AreDependences, AreClosed, AreAllDependences, room_left};
@@ -87,21 +87,9 @@ fn join_at_all(
     ensures no_more { room_left rows.new ≤ room_left rows.old }
 {
     for place in places {
-        join_at(alloc, count, rows, uses, *place);
-    }
-}
-
-/// Joins the rows by the use at a place, if there is one.
-fn join_at(alloc: Global, count: u32, rows: &mut [Vec<u64>], uses: &[(u32, u32)], place: u32)
-    requires rows { AreRows count rows.old }
-    requires below { AreBelow count uses.now }
-    ensures rows { AreRows count rows.new }
-    ensures grows { (a n : ℕ) → HasBit rows.old a n → HasBit rows.new a n }
-    ensures sound { AreDependences uses.now rows.old → AreDependences uses.now rows.new }
-    ensures no_more { room_left rows.new ≤ room_left rows.old }
-{
-    if let Some((from, to)) = uses.get(place as usize) {
-        let _ = join(alloc, count, rows, *from, *to);
+        if let Some((from, to)) = uses.get(*place as usize) {
+            let _ = join(alloc, count, rows, *from, *to);
+        }
     }
 }
 
@@ -117,17 +105,9 @@ fn pass(alloc: Global, count: u32, rows: &mut [Vec<u64>], uses: &[(u32, u32)]) -
 {
     let mut changed = false;
     for (from, to) in uses {
-        let differs = join(alloc, count, rows, *from, *to);
-        changed = either(changed, differs);
+        changed |= join(alloc, count, rows, *from, *to);
     }
     changed
-}
-
-/// Whether one of both holds.
-fn either(a: bool, b: bool) -> bool
-    ensures { result ≡ (a || b) }
-{
-    a || b
 }
 
 /// Adds the row of `to` to the row of `from`, and says whether that changed.

@@ -1,6 +1,6 @@
 //! The order in which classes are given.
 
-ghost use Rattle.std.specs.Prelude.{◌≡◌, ◌≢◌, ℕ, ◌+◌, ◌<◌, ◌≤◌, ◌⊎◌, ◌↔◌, IsTrue, true, false, List, [], ◌∷◌, IfOk, OnOk, IfSome, IfNone, length, slice_set, ◌^◌};
+ghost use Rattle.std.specs.Prelude.{◌≡◌, ◌≢◌, ℕ, ◌+◌, ◌<◌, ◌≤◌, ◌⊎◌, ◌↔◌, true, false, List, [], ◌∷◌, IfOk, OnOk, IfSome, IfNone, length, slice_set, ◌^◌};
 ghost use Rattle.std.specs.Prelude.{Vec};
 ghost use Rattle.std.specs.Global.{Global};
 ghost use Rattle.ar_base.specs.Lists.{Stands, IsOneOf};
@@ -84,21 +84,12 @@ fn next_target(targets: &mut Vec<u32>, class: u32, given: &[bool]) -> Option<u32
         → (d ≡ class) ⊎ (WasGiven given.now d ⊎ IsOneOf targets.new.items d) }
 {
     while let Some(target) = targets.last().copied() {
-        if !is_passed(target, class, given) {
+        if target != class && !given[target as usize] {
             return Some(target);
         }
         let _ = targets.pop();
     }
     None
-}
-
-/// Whether a class that is used is the class itself or was given.
-fn is_passed(target: u32, class: u32, given: &[bool]) -> bool
-    requires { target < length given.now }
-    ensures yes { IsTrue result → (target ≡ class) ⊎ WasGiven given.now target }
-    ensures no { result ≡ false → (target ≢ class) × (WasGiven given.now target → ⊥) }
-{
-    target == class || given[target as usize]
 }
 
 /// For each class the classes that its members use.

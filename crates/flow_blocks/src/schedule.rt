@@ -47,8 +47,9 @@ fn ways_back(
     let mut lists = empty_lists(alloc, count as usize)?;
     for root in order.iter().rev() {
         search.go_from(&turned, *root)?;
-        let found = mem::replace(&mut search.taken, Vec::new(alloc));
-        put(&mut lists, *root, found);
+        if let Some(list) = lists.get_mut(*root as usize) {
+            *list = mem::replace(&mut search.taken, Vec::new(alloc));
+        }
     }
     Ok(lists)
 }
@@ -60,13 +61,6 @@ fn turned(alloc: Global, uses: &[(u32, u32)]) -> Result<Vec<(u32, u32)>, Memory>
         pairs.push((*to, *from))?;
     }
     Ok(pairs)
-}
-
-/// Puts a list in the place of the list of a number.
-fn put(lists: &mut [Vec<u32>], number: u32, list: Vec<u32>) {
-    if let Some(old) = lists.get_mut(number as usize) {
-        *old = list;
-    }
 }
 
 /// Adds the list of a number at the end.

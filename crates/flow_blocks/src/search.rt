@@ -51,17 +51,18 @@ impl Search {
             let Some(number) = self.path.last().copied() else {
                 break;
             };
-            match self.next_place(number) {
+            let Some(places) = self.untried.get_mut(number as usize) else {
+                break;
+            };
+            match places.pop() {
                 Some(place) => self.take(uses, place)?,
-                None => self.leave(number)?,
+                None => {
+                    let _ = self.path.pop();
+                    self.left.push(number)?;
+                }
             }
         }
         Ok(())
-    }
-
-    /// The place of a use that was not tried from a number.
-    fn next_place(&mut self, number: u32) -> Option<u32> {
-        self.untried.get_mut(number as usize)?.pop()
     }
 
     /// Goes on by a use, if it leads to a number that was not entered.
@@ -86,12 +87,5 @@ impl Search {
         *entered = true;
         self.path.push(number)?;
         Ok(true)
-    }
-
-    /// Leaves the last number of the path.
-    fn leave(&mut self, number: u32) -> Result<(), Memory> {
-        let _ = self.path.pop();
-        self.left.push(number)?;
-        Ok(())
     }
 }

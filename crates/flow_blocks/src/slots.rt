@@ -2,7 +2,7 @@
 
 ghost use Rattle.std.specs.Prelude.{◌≡◌, ◌<◌, ◌+◌, IfOk};
 ghost use Rattle.flow_blocks.specs.Bits.{row_of, AreRows};
-ghost use Rattle.flow_blocks.specs.Slots.{mixed, sum_of, slot_of, AreSlots};
+ghost use Rattle.flow_blocks.specs.Slots.{sum_of, slot_of, AreSlots};
 
 use crate::lists::empty_lists;
 use ar_base::Memory;
@@ -39,18 +39,12 @@ pub(crate) fn slot_of(count: u32, rows: &[Vec<u64>], number: u32) -> u32
 fn sum_of(row: &[u64]) -> u64
     ensures { result ≡ sum_of 0 row.now }
 {
-    let mut sum = 0;
+    let mut sum: u64 = 0;
     for word in row {
-        sum = mixed(sum, *word);
+        sum = sum
+            .wrapping_mul(FACTOR)
+            .wrapping_add(sum >> 32)
+            .wrapping_add(*word);
     }
     sum
-}
-
-/// The sum with one word more.
-fn mixed(sum: u64, word: u64) -> u64
-    ensures { result ≡ mixed sum word }
-{
-    sum.wrapping_mul(FACTOR)
-        .wrapping_add(sum >> 32)
-        .wrapping_add(word)
 }

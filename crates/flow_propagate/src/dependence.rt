@@ -1,6 +1,6 @@
 //! How the flows depend on each other.
 
-ghost use Rattle.std.specs.Prelude.{◌≡◌, ◌<◌, ◌+◌, ◌^◌, if◌then◌else◌, length, IfOk};
+ghost use Rattle.std.specs.Prelude.{◌≡◌, ◌<◌, ◌+◌, ◌^◌, length, IfOk};
 ghost use Rattle.gts_core.specs.Sound.{IsSound};
 ghost use Rattle.ar_meaning.specs.Dependence.{IsReadBy, AreUses};
 ghost use Rattle.gts_core.specs.View.{net_of};
@@ -30,17 +30,11 @@ pub(crate) fn flow_places(alloc: Global, variables: &[Variable]) -> Result<FlowP
     let mut count = 0;
     for variable in variables {
         before.push(count)?;
-        count = next_count(count, variable.is_state);
+        if !variable.is_state {
+            count += 1;
+        }
     }
     Ok(FlowPlaces { before, count })
-}
-
-// One more where the variable is a flow.
-fn next_count(count: u32, is_state: bool) -> u32
-    requires { count + 1 < 2 ^ 32 }
-    ensures { result ≡ count + (if is_state then 0 else 1) }
-{
-    if is_state { count } else { count + 1 }
 }
 
 // The flows with their dependences.

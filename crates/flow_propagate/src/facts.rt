@@ -1,6 +1,6 @@
 //! The facts that follow from a state.
 
-ghost use Rattle.std.specs.Prelude.{true, false, [], ◌∷◌, if◌then◌else◌, ◌≡◌, ◌⊎◌, ◌<◌, length, IfOk};
+ghost use Rattle.std.specs.Prelude.{true, false, [], ◌∷◌, if◌then◌else◌, ◌≡◌, ◌<◌, length, IfOk};
 ghost use Rattle.ar_base.specs.Lists.{IsOneOf};
 ghost use Rattle.domains.specs.Domains.{IsDomain};
 ghost use Rattle.gts_core.specs.Sound.{IsSound};
@@ -48,17 +48,9 @@ fn put_all(
     let mut changed = false;
     for v in values {
         let more = put(table, domain, target, *v)?;
-        changed = either(changed, more);
+        changed |= more;
     }
     Ok(changed)
-}
-
-// Whether one of the two is true.
-fn either(a: bool, b: bool) -> bool
-    ensures none { result ≡ false → (a ≡ false) × (b ≡ false) }
-    ensures one { result ≡ true → (a ≡ true) ⊎ (b ≡ true) }
-{
-    a || b
 }
 
 // What a look at an assignment found: whether the table changed, and whether a value was yielded that is outside the domain

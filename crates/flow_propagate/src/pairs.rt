@@ -1,6 +1,6 @@
 //! Pairs of a variable and an assignment.
 
-ghost use Rattle.std.specs.Prelude.{◌≡◌, ◌+◌, ◌<◌, ◌^◌, ◌≤◌, ℕ, length, IfOk};
+ghost use Rattle.std.specs.Prelude.{◌≡◌, ◌+◌, ◌<◌, ◌≤◌, ℕ, length, IfOk};
 ghost use Rattle.std.specs.List.Sorted.{IsNonDecreasingBy};
 ghost use Rattle.ar_base.specs.Lists.{IsOneOf, Stands};
 ghost use Rattle.flow_propagate.specs.Runs.{Reader, IsStart, AreRuns};
@@ -34,23 +34,12 @@ pub fn pairs_of(runs: &Runs, variable: u32) -> &[(VarId, AssignId)]
     &runs.pairs[runs.starts[place]..runs.starts[place + 1]]
 }
 
-// Ascending pairs of variables below a count, and where those of each variable stand.
-pub(crate) fn with_starts(
-    alloc: Global,
-    pairs: Vec<(VarId, AssignId)>,
-    count: usize,
-) -> Result<Runs, Memory>
-    requires ascending { IsNonDecreasingBy (λ r. r.0.n) pairs.items }
-    requires below { (r : Reader) → IsOneOf pairs.items r → r.0.n < count }
-    requires few { count < 2 ^ 32 }
-    ensures { IfOk result (λ runs. runs.pairs.items ≡ pairs.items) }
-{
-    let starts = starts_of(alloc, &pairs, count + 1)?;
-    Ok(Runs { pairs, starts })
-}
-
 // Where the pairs of each of the first so many variables begin.
-fn starts_of(alloc: Global, pairs: &[(VarId, AssignId)], count: usize) -> Result<Vec<usize>, Memory>
+pub(crate) fn starts_of(
+    alloc: Global,
+    pairs: &[(VarId, AssignId)],
+    count: usize,
+) -> Result<Vec<usize>, Memory>
     requires { IsNonDecreasingBy (λ r. r.0.n) pairs.now }
     ensures long { IfOk result (λ starts. length starts.items ≡ count) }
     ensures each { IfOk result (λ starts. (x start : ℕ) → Stands starts.items x start

@@ -1,8 +1,8 @@
 //! The plan of a system's flows.
 
-ghost use Rattle.std.specs.Prelude.{◌≡◌, map, IfOk};
+ghost use Rattle.std.specs.Prelude.{map, IfOk};
 ghost use Rattle.gts_core.specs.Sound.{IsSound};
-ghost use Rattle.flow_propagate.specs.Plan.{AreBlocks, AreReaders, AreGivers, IsPlan, plain_pair};
+ghost use Rattle.flow_propagate.specs.Plan.{AreBlocks, AreReaders, IsPlan};
 
 use crate::dependence::{dependences, flow_places};
 use crate::pairs::Runs;
@@ -37,18 +37,13 @@ pub struct Plan {
 pub fn make_plan(alloc: Global, gts: &Gts) -> Result<Plan, Memory>
     ensures { IfOk result (λ plan. IsPlan gts.now plan) }
 {
-    plan_of(alloc, gts.parts())
-}
-
-// The plan of a sound system, by its parts.
-fn plan_of(alloc: Global, parts: &GtsParts) -> Result<Plan, Memory>
-    requires { IsSound parts.now }
-    ensures { IfOk result (λ plan. IsPlan parts.now plan) }
-{
+    let parts = gts.parts();
+    let count = parts.variables.len();
     let pairs = readers(alloc, parts)?;
     let blocks = classes(alloc, parts, &pairs)?;
-    let readers = reader_runs(alloc, parts, &pairs)?;
-    let givers = giver_runs(alloc, parts)?;
+    let readers = in_runs(alloc, &pairs, count)?;
+    let given = givers(alloc, parts)?;
+    let givers = in_runs(alloc, &given, count)?;
     let Schedule { order, places } = scheduled(alloc, parts, &blocks, &readers.pairs)?;
     Ok(Plan {
         blocks,
@@ -69,22 +64,4 @@ fn classes(alloc: Global, parts: &GtsParts, pairs: &[(u32, u32)]) -> Result<Vec<
     let flows = flow_places(alloc, &parts.variables)?;
     let graph = dependences(alloc, parts, &flows, pairs)?;
     blocks(alloc, &graph)
-}
-
-// The pairs of a variable and an assignment that names it, and where those of each variable stand.
-fn reader_runs(alloc: Global, parts: &GtsParts, pairs: &[(u32, u32)]) -> Result<Runs, Memory>
-    requires sound { IsSound parts.now }
-    requires readers { AreReaders parts.now pairs.now }
-    ensures { IfOk result (λ runs. map plain_pair runs.pairs.items ≡ pairs.now) }
-{
-    in_runs(alloc, pairs, parts.variables.len())
-}
-
-// The pairs of a variable and an assignment to it, and where those of each variable stand.
-fn giver_runs(alloc: Global, parts: &GtsParts) -> Result<Runs, Memory>
-    requires { IsSound parts.now }
-    ensures { IfOk result (λ runs. AreGivers parts.now (map plain_pair runs.pairs.items)) }
-{
-    let pairs = givers(alloc, parts)?;
-    in_runs(alloc, &pairs, parts.variables.len())
 }

@@ -1,13 +1,13 @@
 //! Which assignments read which variable, and which give it a value.
 
-ghost use Rattle.std.specs.Prelude.{◌≡◌, ◌<◌, ◌^◌, ℕ, length, map, IfOk};
+ghost use Rattle.std.specs.Prelude.{◌≡◌, ◌<◌, ◌^◌, ℕ, map, IfOk};
 ghost use Rattle.ar_base.specs.Lists.{IsOneOf, Stands};
 ghost use Rattle.gts_core.specs.Sound.{IsSound};
 ghost use Rattle.flow_propagate.specs.Plan.{ComesBefore, AreReaders, AreGivers, plain_pair};
-ghost use Rattle.flow_propagate.specs.Named.{AreNamed, AreTargets, Ascend};
+ghost use Rattle.flow_propagate.specs.Named.{Ascend};
 
 use crate::naming::add_readers;
-use crate::pairs::{Runs, with_starts};
+use crate::pairs::{Runs, starts_of};
 use ar_base::{AssignId, Memory, VarId};
 use gts_core::GtsParts;
 use std::alloc::Global;
@@ -17,7 +17,11 @@ pub(crate) fn readers(alloc: Global, parts: &GtsParts) -> Result<Vec<(u32, u32)>
     requires { IsSound parts.now }
     ensures { IfOk result (λ pairs. AreReaders parts.now pairs.items) }
 {
-    let pairs = all_named(alloc, parts)?;
+    let mut names = Vec::new(alloc);
+    let mut pairs = Vec::new(alloc);
+    for (place, assign) in parts.assigns.iter().enumerate() {
+        add_readers(assign, place as u32, &mut names, &mut pairs)?;
+    }
     Ok(ascending(pairs))
 }
 
@@ -26,7 +30,10 @@ pub(crate) fn givers(alloc: Global, parts: &GtsParts) -> Result<Vec<(u32, u32)>,
     requires { IsSound parts.now }
     ensures { IfOk result (λ pairs. AreGivers parts.now pairs.items) }
 {
-    let pairs = all_targets(alloc, parts)?;
+    let mut pairs = Vec::new(alloc);
+    for (place, assign) in parts.assigns.iter().enumerate() {
+        pairs.push((assign.target.n, place as u32))?;
+    }
     Ok(ascending(pairs))
 }
 
@@ -40,33 +47,6 @@ fn ascending(pairs: Vec<(u32, u32)>) -> Vec<(u32, u32)>
     pairs
 }
 
-// The pair of each assignment's target and the assignment, by the assignments' numbers.
-fn all_targets(alloc: Global, parts: &GtsParts) -> Result<Vec<(u32, u32)>, Memory>
-    requires { IsSound parts.now }
-    ensures { IfOk result (λ pairs. AreTargets parts.now (length parts.now.assigns.items)
-        pairs.items) }
-{
-    let mut pairs = Vec::new(alloc);
-    for (place, assign) in parts.assigns.iter().enumerate() {
-        pairs.push((assign.target.n, place as u32))?;
-    }
-    Ok(pairs)
-}
-
-// The same in any order, and as often as the assignments name them.
-fn all_named(alloc: Global, parts: &GtsParts) -> Result<Vec<(u32, u32)>, Memory>
-    requires { IsSound parts.now }
-    ensures { IfOk result (λ pairs. AreNamed parts.now (length parts.now.assigns.items)
-        pairs.items) }
-{
-    let mut names = Vec::new(alloc);
-    let mut pairs = Vec::new(alloc);
-    for (place, assign) in parts.assigns.iter().enumerate() {
-        add_readers(assign, place as u32, &mut names, &mut pairs)?;
-    }
-    Ok(pairs)
-}
-
 // Ascending pairs of variables below a count by typed numbers, and where those of each variable stand.
 pub(crate) fn in_runs(alloc: Global, pairs: &[(u32, u32)], count: usize) -> Result<Runs, Memory>
     requires ascending { (j k : ℕ) (q r : ℕ × ℕ) → j < k → Stands pairs.now j q
@@ -75,8 +55,9 @@ pub(crate) fn in_runs(alloc: Global, pairs: &[(u32, u32)], count: usize) -> Resu
     requires few { count < 2 ^ 32 }
     ensures { IfOk result (λ runs. map plain_pair runs.pairs.items ≡ pairs.now) }
 {
-    let typed = typed_pairs(alloc, pairs)?;
-    with_starts(alloc, typed, count)
+    let pairs = typed_pairs(alloc, pairs)?;
+    let starts = starts_of(alloc, &pairs, count + 1)?;
+    Ok(Runs { pairs, starts })
 }
 
 // The pairs by typed numbers.

@@ -17,7 +17,8 @@ pub(crate) struct Schedule {
     pub(crate) places: Vec<usize>,
 }
 
-// The order in which the assignments are looked at, and their places in it.
+// The order in which the assignments are looked at, and their places in it. They stand by the class of the target,
+// then by how many variables they name, then by number.
 pub(crate) fn scheduled(
     alloc: Global,
     parts: &GtsParts,
@@ -27,26 +28,13 @@ pub(crate) fn scheduled(
     requires { IsSound parts.now }
     ensures { IfOk result (λ made. IsSchedule parts.now made.order.items made.places.items) }
 {
-    let order = in_order(alloc, parts, blocks, readers)?;
-    let places = places_in(alloc, &order, parts.assigns.len())?;
-    Ok(Schedule { order, places })
-}
-
-// The assignments by the class of the target, then by how many variables they name, then by number.
-fn in_order(
-    alloc: Global,
-    parts: &GtsParts,
-    blocks: &[Block],
-    readers: &[(VarId, AssignId)],
-) -> Result<Vec<u32>, Memory>
-    requires { IsSound parts.now }
-    ensures { IfOk result (λ order. IsOrder (length parts.now.assigns.items) order.items) }
-{
-    let widths = widths(alloc, parts.assigns.len(), readers)?;
+    let count = parts.assigns.len();
+    let widths = widths(alloc, count, readers)?;
     let ranks = ranks(alloc, parts, blocks)?;
-    let mut order = numbers_below(alloc, parts.assigns.len())?;
+    let mut order = numbers_below(alloc, count)?;
     order.sort_by_key(|n| (place_of(&ranks, *n), place_of(&widths, *n)))?;
-    Ok(order)
+    let places = places_in(alloc, &order, count)?;
+    Ok(Schedule { order, places })
 }
 
 // The place of each number below the count in an order of them.

@@ -1,12 +1,11 @@
 //! Total valuations.
 
 ghost use Rattle.std.specs.Prelude.{[], ◌∷◌, ◌≡◌, ◌<◌, ◌≤◌, ℕ, List, length, IfOk};
-ghost use Rattle.ar_base.specs.Lists.{Stands};
 ghost use Rattle.domains.specs.declared.Value.{Value};
 ghost use Rattle.ar_meaning.specs.Found.{IsAnswer, IsFirstOrNone};
 ghost use Rattle.gts_core.specs.Sound.{IsSound};
 ghost use Rattle.typed_expr.specs.Rows.{row_at};
-ghost use Rattle.flow_propagate.specs.Totals.{Completed, completed_value, AreMarks, has_some, Breaks};
+ghost use Rattle.flow_propagate.specs.Totals.{Completed, completed_value, AreMarks, Breaks};
 
 use crate::table::Table;
 use ar_base::Memory;
@@ -58,16 +57,9 @@ pub(crate) fn marks(alloc: Global, table: &Table) -> Result<Vec<bool>, Memory>
 {
     let mut marks = Vec::new(alloc);
     for row in &table.rows {
-        marks.push(has_some(row))?;
+        marks.push(!row.is_empty())?;
     }
     Ok(marks)
-}
-
-// Whether a row has a value.
-fn has_some(row: &[Value]) -> bool
-    ensures { result ≡ has_some row.now }
-{
-    !row.is_empty()
 }
 
 // The least assignment that is reached under a total valuation and has another value than its target.
@@ -91,15 +83,8 @@ fn is_broken(assign: &Assign, total: &[Value]) -> bool
         return false;
     }
     let value = value_in(total, &assign.value);
-    !has_value(total, assign.target.n, value)
-}
-
-// Whether the variable of this number has this value.
-fn has_value(total: &[Value], n: u32, v: Value) -> bool
-    ensures { IsAnswer result (Stands total.now n v) }
-{
-    match total.get(n as usize) {
-        Some(w) => *w == v,
-        None => false,
+    match total.get(assign.target.n as usize) {
+        Some(own) => *own != value,
+        None => true,
     }
 }

@@ -24,7 +24,11 @@ pub(crate) fn expression<K: Sink>(
     match expr {
         Expr::Constant(v) => write_value(out, parts, *v),
         Expr::Variable(x) => write_text(out, variable_path(parts, x.n)),
-        Expr::Not(a) => opposite(out, parts, a),
+        Expr::Not(a) => {
+            write_text(out, "(not ")?;
+            expression(out, parts, a)?;
+            write_text(out, ")")
+        }
         Expr::All(es) => listed(out, parts, "(", es, " and "),
         Expr::Any(es) => listed(out, parts, "(", es, " or "),
         Expr::Compare(relation, a, b) => {
@@ -34,7 +38,11 @@ pub(crate) fn expression<K: Sink>(
             expression(out, parts, b)?;
             write_text(out, ")")
         }
-        Expr::Sum(terms) => sum(out, parts, terms),
+        Expr::Sum(all) => {
+            write_text(out, "(")?;
+            terms(out, parts, all)?;
+            write_text(out, ")")
+        }
         Expr::Product(es) => listed(out, parts, "(", es, " * "),
         Expr::Least(es) => listed(out, parts, "min(", es, ", "),
         Expr::Greatest(es) => listed(out, parts, "max(", es, ", "),
@@ -46,17 +54,6 @@ pub(crate) fn expression<K: Sink>(
             write_text(out, either(one, ")", "}"))
         }
     }
-}
-
-// The opposite of an expression.
-#[cycle(expression)]
-fn opposite<K: Sink>(out: &mut K, parts: &GtsParts, a: &Expr<VarId>) -> Result<(), SinkFailed>
-    ensures { Writes (K.state out.old) (K.state out.new)
-        (codes "(not " ++ expr_text parts.now a.now ++ codes ")") result }
-{
-    write_text(out, "(not ")?;
-    expression(out, parts, a)?;
-    write_text(out, ")")
 }
 
 // The cases of a choice between what stands round them, in the form for one or for another number
@@ -113,22 +110,6 @@ fn operands<K: Sink>(
         first = false;
     }
     Ok(())
-}
-
-// A sum.
-#[cycle(expression)]
-fn sum<K: Sink>(
-    out: &mut K,
-    parts: &GtsParts,
-    all: &[(bool, Expr<VarId>)],
-) -> Result<(), SinkFailed>
-    ensures { Writes (K.state out.old) (K.state out.new)
-        (codes "(" ++ summed true (map (λ p. (p.0, expr_text parts.now p.1)) all.now) ++ codes ")")
-        result }
-{
-    write_text(out, "(")?;
-    terms(out, parts, all)?;
-    write_text(out, ")")
 }
 
 // The terms of a sum, each with what stands before it.

@@ -5,7 +5,7 @@ ghost use Rattle.ar_io.specs.Writing.{Writes};
 ghost use Rattle.gts_core.specs.Printed.{flat_text};
 ghost use Rattle.gts_core.specs.Sound.{IsSound};
 
-use crate::print::system;
+use crate::print::{asserts, events, observers, variables};
 use crate::system::GtsParts;
 use ar_io::{Sink, SinkFailed};
 use std::marker::Model;
@@ -57,6 +57,10 @@ impl Gts {
     pub fn print<K: Sink>(&self, out: &mut K) -> Result<(), SinkFailed>
         ensures { Writes (K.state out.old) (K.state out.new) (flat_text self.now) result }
     {
-        system(out, &self.parts)
+        let parts = &self.parts;
+        variables(out, parts, &parts.variables)?;
+        events(out, parts, &parts.events)?;
+        asserts(out, parts, &parts.assigns)?;
+        observers(out, parts, &parts.observers)
     }
 }

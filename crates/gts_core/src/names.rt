@@ -1,6 +1,6 @@
 //! The variables that expressions and conditions name.
 
-ghost use Rattle.std.specs.Prelude.{◌≡◌, ◌++◌, ◌∷◌, [], IfOk};
+ghost use Rattle.std.specs.Prelude.{IfOk};
 ghost use Rattle.typed_expr.specs.Mentions.{Mentions, Some_mentions, Parts_mention, Cases_mention};
 ghost use Rattle.typed_expr.specs.declared.expr.Expr.{out-Expr};
 ghost use Rattle.ar_base.specs.Numbers.{VarId as Numbered};
@@ -18,7 +18,10 @@ pub fn add_named(expr: &Expr<VarId>, found: &mut Vec<VarId>) -> Result<(), Memor
 {
     match expr {
         Expr::Constant(_) => Ok(()),
-        Expr::Variable(x) => add_one(*x, found),
+        Expr::Variable(x) => {
+            found.push(*x)?;
+            Ok(())
+        }
         Expr::Not(a) => add_named(a, found),
         Expr::All(es) => add_some(es, found),
         Expr::Any(es) => add_some(es, found),
@@ -72,14 +75,6 @@ fn add_cases(cases: &[(Expr<VarId>, Expr<VarId>)], found: &mut Vec<VarId>) -> Re
         add_named(test, found)?;
         add_named(value, found)?;
     }
-    Ok(())
-}
-
-// Adds one variable.
-fn add_one(variable: VarId, found: &mut Vec<VarId>) -> Result<(), Memory>
-    ensures { IfOk result (λ _. found.new.items ≡ found.old.items ++ variable ∷ []) }
-{
-    found.push(variable)?;
     Ok(())
 }
 

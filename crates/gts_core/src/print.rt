@@ -1,12 +1,11 @@
 //! The text of a flat system.
 
-ghost use Rattle.std.specs.Prelude.{true, ◌++◌, ◌<◌, ◌^◌, length, codes, map, slice_get};
-ghost use Rattle.std.specs.Fmt.{signed_decimal};
+ghost use Rattle.std.specs.Prelude.{true, ◌<◌, ◌^◌, length, codes, map, slice_get};
 ghost use Rattle.ar_base.specs.Numbers.{WayId};
 ghost use Rattle.ar_io.specs.Writing.{Writes};
 ghost use Rattle.std.specs.List.{concat};
 ghost use Rattle.ar_base.specs.Texts.{text_at, separated};
-ghost use Rattle.gts_core.specs.Printed.{expr_text, domain_text, flat_variable_line, condition_text, set_text, action_text, event_path, label_of, label_found, part_text, body_text, way_line, line_found, event_lines, assert_line, assert_lines, flat_observer_line, flat_text};
+ghost use Rattle.gts_core.specs.Printed.{domain_text, flat_variable_line, condition_text, set_text, action_text, event_path, label_of, label_found, part_text, body_text, line_found, event_lines, assert_lines, flat_observer_line};
 
 use crate::expressions::expression;
 use crate::pieces::{either, event_path, variable_path, write_value};
@@ -16,39 +15,25 @@ use ar_io::{Sink, SinkFailed, text_at, write_number, write_signed, write_text};
 use domains::Domain;
 use typed_expr::Expr;
 
-// The whole text.
-pub(crate) fn system<K: Sink>(out: &mut K, parts: &GtsParts) -> Result<(), SinkFailed>
-    requires { length parts.now.assigns.items < 2 ^ 32 }
-    ensures { Writes (K.state out.old) (K.state out.new) (flat_text parts.now) result }
-{
-    variables(out, parts, &parts.variables)?;
-    events(out, parts, &parts.events)?;
-    asserts(out, parts, &parts.assigns)?;
-    observers(out, parts, &parts.observers)
-}
-
 // The lines for the variables.
-fn variables<K: Sink>(out: &mut K, parts: &GtsParts, all: &[Variable]) -> Result<(), SinkFailed>
+pub(crate) fn variables<K: Sink>(
+    out: &mut K,
+    parts: &GtsParts,
+    all: &[Variable],
+) -> Result<(), SinkFailed>
     ensures { Writes (K.state out.old) (K.state out.new)
         (concat (map (flat_variable_line parts.now) all.now)) result }
 {
     for x in all {
-        variable(out, parts, x)?;
+        write_text(out, either(x.is_state, "state ", "flow "))?;
+        write_text(out, x.path.as_str())?;
+        write_text(out, " ")?;
+        domain(out, parts, &x.domain)?;
+        write_text(out, " = ")?;
+        write_value(out, parts, x.value)?;
+        write_text(out, "\n")?;
     }
     Ok(())
-}
-
-// The line for a variable.
-fn variable<K: Sink>(out: &mut K, parts: &GtsParts, x: &Variable) -> Result<(), SinkFailed>
-    ensures { Writes (K.state out.old) (K.state out.new) (flat_variable_line parts.now x.now) result }
-{
-    write_text(out, either(x.is_state, "state ", "flow "))?;
-    write_text(out, x.path.as_str())?;
-    write_text(out, " ")?;
-    domain(out, parts, &x.domain)?;
-    write_text(out, " = ")?;
-    write_value(out, parts, x.value)?;
-    write_text(out, "\n")
 }
 
 // A domain.
@@ -57,32 +42,19 @@ fn domain<K: Sink>(out: &mut K, parts: &GtsParts, range: &Domain) -> Result<(), 
 {
     match range {
         Domain::Boolean => write_text(out, "Boolean"),
-        Domain::Symbols(symbols) => symbol_set(out, parts, symbols),
-        Domain::Range(low, high) => interval(out, *low, *high),
+        Domain::Symbols(symbols) => {
+            write_text(out, "{")?;
+            symbol_names(out, parts, symbols)?;
+            write_text(out, "}")
+        }
+        Domain::Range(low, high) => {
+            write_text(out, "[")?;
+            write_signed(out, *low)?;
+            write_text(out, ", ")?;
+            write_signed(out, *high)?;
+            write_text(out, "]")
+        }
     }
-}
-
-// A set of symbols.
-fn symbol_set<K: Sink>(out: &mut K, parts: &GtsParts, symbols: &[u32]) -> Result<(), SinkFailed>
-    ensures { Writes (K.state out.old) (K.state out.new)
-        (codes "{" ++ separated true (codes ", ")
-        (map (text_at parts.now.symbols.items) symbols.now) ++ codes "}") result }
-{
-    write_text(out, "{")?;
-    symbol_names(out, parts, symbols)?;
-    write_text(out, "}")
-}
-
-// A range of whole numbers.
-fn interval<K: Sink>(out: &mut K, low: i64, high: i64) -> Result<(), SinkFailed>
-    ensures { Writes (K.state out.old) (K.state out.new)
-        (codes "[" ++ signed_decimal low ++ codes ", " ++ signed_decimal high ++ codes "]") result }
-{
-    write_text(out, "[")?;
-    write_signed(out, low)?;
-    write_text(out, ", ")?;
-    write_signed(out, high)?;
-    write_text(out, "]")
 }
 
 // The names of symbols.
@@ -100,7 +72,11 @@ fn symbol_names<K: Sink>(out: &mut K, parts: &GtsParts, symbols: &[u32]) -> Resu
 }
 
 // The lines for the ways of all events.
-fn events<K: Sink>(out: &mut K, parts: &GtsParts, all: &[Event]) -> Result<(), SinkFailed>
+pub(crate) fn events<K: Sink>(
+    out: &mut K,
+    parts: &GtsParts,
+    all: &[Event],
+) -> Result<(), SinkFailed>
     ensures { Writes (K.state out.old) (K.state out.new)
         (concat (map (event_lines parts.now) all.now)) result }
 {
@@ -133,27 +109,16 @@ fn way_at<K: Sink>(out: &mut K, parts: &GtsParts, hidden: bool, n: u32) -> Resul
         (line_found parts.now hidden (slice_get parts.now.ways.items n)) result }
 {
     match parts.ways.get(n as usize) {
-        Some(way) => way_line(out, parts, hidden, way),
+        Some(way) => {
+            write_text(out, either(hidden, "hidden ", ""))?;
+            write_text(out, "way ")?;
+            label(out, parts, way)?;
+            write_text(out, ": ")?;
+            body(out, parts, &way.body)?;
+            write_text(out, "\n")
+        }
         None => write_text(out, ""),
     }
-}
-
-// The line for a way.
-fn way_line<K: Sink>(
-    out: &mut K,
-    parts: &GtsParts,
-    hidden: bool,
-    way: &Way,
-) -> Result<(), SinkFailed>
-    ensures { Writes (K.state out.old) (K.state out.new) (way_line parts.now hidden way.now)
-        result }
-{
-    write_text(out, either(hidden, "hidden ", ""))?;
-    write_text(out, "way ")?;
-    label(out, parts, way)?;
-    write_text(out, ": ")?;
-    body(out, parts, &way.body)?;
-    write_text(out, "\n")
 }
 
 // The label of a way.
@@ -170,25 +135,13 @@ fn body<K: Sink>(out: &mut K, parts: &GtsParts, body: &WayBody) -> Result<(), Si
     ensures { Writes (K.state out.old) (K.state out.new) (body_text parts.now body.now) result }
 {
     match body {
-        WayBody::Local(guard, assigns) => transition(out, parts, guard, assigns),
+        WayBody::Local(guard, assigns) => {
+            expression(out, parts, guard)?;
+            write_text(out, " -> ")?;
+            action(out, parts, assigns)
+        }
         WayBody::Sync(all) => way_parts(out, parts, all),
     }
-}
-
-// A transition.
-fn transition<K: Sink>(
-    out: &mut K,
-    parts: &GtsParts,
-    guard: &Expr<VarId>,
-    assigns: &[Assign],
-) -> Result<(), SinkFailed>
-    ensures { Writes (K.state out.old) (K.state out.new)
-        (expr_text parts.now guard.now ++ codes " -> " ++ action_text parts.now assigns.now)
-        result }
-{
-    expression(out, parts, guard)?;
-    write_text(out, " -> ")?;
-    action(out, parts, assigns)
 }
 
 // The parts of a synchronised way.
@@ -203,18 +156,11 @@ fn way_parts<K: Sink>(
     let mut first = true;
     for part in all {
         write_text(out, either(first, "", " & "))?;
-        way_part(out, parts, part)?;
+        write_text(out, either(part.0, "!", "?"))?;
+        label_at(out, parts, part.1.n)?;
         first = false;
     }
     Ok(())
-}
-
-// A part of a synchronised way.
-fn way_part<K: Sink>(out: &mut K, parts: &GtsParts, part: &(bool, WayId)) -> Result<(), SinkFailed>
-    ensures { Writes (K.state out.old) (K.state out.new) (part_text parts.now part.now) result }
-{
-    write_text(out, either(part.0, "!", "?"))?;
-    label_at(out, parts, part.1.n)
 }
 
 // The label of the way of this number.
@@ -274,76 +220,52 @@ fn conditions<K: Sink>(
         (concat (map (condition_text parts.now) all.now)) result }
 {
     for condition in all {
-        when(out, parts, condition)?;
+        write_text(out, either(condition.1, " when ", " unless "))?;
+        expression(out, parts, &condition.0)?;
     }
     Ok(())
 }
 
-// A condition.
-fn when<K: Sink>(
+// The lines for the assignments of the assertions.
+pub(crate) fn asserts<K: Sink>(
     out: &mut K,
     parts: &GtsParts,
-    condition: &(Expr<VarId>, bool),
+    all: &[Assign],
 ) -> Result<(), SinkFailed>
-    ensures { Writes (K.state out.old) (K.state out.new) (condition_text parts.now condition.now)
-        result }
-{
-    write_text(out, either(condition.1, " when ", " unless "))?;
-    expression(out, parts, &condition.0)
-}
-
-// The lines for the assignments of the assertions.
-fn asserts<K: Sink>(out: &mut K, parts: &GtsParts, all: &[Assign]) -> Result<(), SinkFailed>
     requires { length all.now < 2 ^ 32 }
     ensures { Writes (K.state out.old) (K.state out.new) (assert_lines parts.now 0 all.now) result }
 {
     let mut number = 0;
     for assign in all {
         number += 1;
-        assert_line(out, parts, number, assign)?;
+        write_text(out, "assert ")?;
+        write_number(out, number)?;
+        write_text(out, " at ")?;
+        write_number(out, assign.at.line)?;
+        write_text(out, ":")?;
+        write_number(out, assign.at.column)?;
+        write_text(out, " ")?;
+        set(out, parts, assign)?;
+        write_text(out, "\n")?;
     }
     Ok(())
 }
 
-// The line for an assignment of an assertion.
-fn assert_line<K: Sink>(
+// The lines for the observers.
+pub(crate) fn observers<K: Sink>(
     out: &mut K,
     parts: &GtsParts,
-    n: u32,
-    assign: &Assign,
+    all: &[Observer],
 ) -> Result<(), SinkFailed>
-    ensures { Writes (K.state out.old) (K.state out.new) (assert_line parts.now n assign.now)
-        result }
-{
-    write_text(out, "assert ")?;
-    write_number(out, n)?;
-    write_text(out, " at ")?;
-    write_number(out, assign.at.line)?;
-    write_text(out, ":")?;
-    write_number(out, assign.at.column)?;
-    write_text(out, " ")?;
-    set(out, parts, assign)?;
-    write_text(out, "\n")
-}
-
-// The lines for the observers.
-fn observers<K: Sink>(out: &mut K, parts: &GtsParts, all: &[Observer]) -> Result<(), SinkFailed>
     ensures { Writes (K.state out.old) (K.state out.new)
         (concat (map (flat_observer_line parts.now) all.now)) result }
 {
     for o in all {
-        observer(out, parts, o)?;
+        write_text(out, "observer ")?;
+        write_text(out, o.path.as_str())?;
+        write_text(out, " = ")?;
+        expression(out, parts, &o.value)?;
+        write_text(out, "\n")?;
     }
     Ok(())
-}
-
-// The line for an observer.
-fn observer<K: Sink>(out: &mut K, parts: &GtsParts, o: &Observer) -> Result<(), SinkFailed>
-    ensures { Writes (K.state out.old) (K.state out.new) (flat_observer_line parts.now o.now) result }
-{
-    write_text(out, "observer ")?;
-    write_text(out, o.path.as_str())?;
-    write_text(out, " = ")?;
-    expression(out, parts, &o.value)?;
-    write_text(out, "\n")
 }

@@ -3,7 +3,7 @@
 ghost use Rattle.std.specs.Prelude.{◌≡◌, [], true};
 ghost use Rattle.std.specs.List.{list_all};
 ghost use Rattle.typed_expr.specs.Kinds.{kind_of};
-ghost use Rattle.gts_core.specs.Readings.{value_at, values_at, value_in, is_truth, is_met};
+ghost use Rattle.gts_core.specs.Readings.{value_at, values_at, value_in, is_met};
 
 use ar_base::VarId;
 use domains::Value;
@@ -59,22 +59,15 @@ pub fn value_in(values: &[Value], expr: &Expr<VarId>) -> Value
     eval_total(expr, &assigned)
 }
 
-// Whether the value is this truth value.
-fn is_truth(v: Value, truth: bool) -> bool
-    ensures { result ≡ is_truth v truth }
-{
-    match v {
-        Value::Truth(b) => { if truth { b } else { !b } }
-        Value::Whole(_) => false,
-        Value::Symbol(_) => false,
-    }
-}
-
 /// Whether a test has the truth value that it must have. Takes no memory.
 pub fn is_met(values: &[Value], test: &Expr<VarId>, truth: bool) -> bool
     ensures { result ≡ is_met values.now (test.now, truth) }
 {
-    is_truth(value_in(values, test), truth)
+    match value_in(values, test) {
+        Value::Truth(b) => { if truth { b } else { !b } }
+        Value::Whole(_) => false,
+        Value::Symbol(_) => false,
+    }
 }
 
 /// Whether every condition has the truth value that it must have. Takes no memory.

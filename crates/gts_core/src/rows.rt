@@ -1,6 +1,6 @@
 //! The domains of the variables as facts.
 
-ghost use Rattle.std.specs.Prelude.{◌≡◌, ◌<◌, ◌+◌, ◌∷◌, [], true, false, pos, nat_abs, ◌+ℤ◌, ◌-ℤ◌, ◌≤ℤ◌, ◌<ℤ◌, map, length, IfOk};
+ghost use Rattle.std.specs.Prelude.{◌≡◌, ◌<◌, ◌+◌, true, false, pos, nat_abs, ◌+ℤ◌, ◌-ℤ◌, ◌≤ℤ◌, ◌<ℤ◌, map, length, IfOk};
 ghost use Rattle.std.specs.List.{range_with_len};
 ghost use Rattle.domains.specs.Domains.{IsDomain, values_of};
 ghost use Rattle.domains.specs.declared.Value.TheVariants.{Truth, Whole, Symbol};
@@ -63,20 +63,10 @@ fn values(alloc: Global, domain: &Domain) -> Result<Vec<Value>, Memory>
     ensures { IfOk result (λ found. found.items ≡ values_of domain.now) }
 {
     match domain {
-        Domain::Boolean => both(alloc),
+        Domain::Boolean => Ok(Vec::from_slice(alloc, &[Value::Truth(false), Value::Truth(true)])?),
         Domain::Symbols(symbols) => all_symbols(alloc, symbols),
         Domain::Range(low, high) => between(alloc, *low, *high),
     }
-}
-
-// False and true.
-fn both(alloc: Global) -> Result<Vec<Value>, Memory>
-    ensures { IfOk result (λ found. found.items ≡ Truth false ∷ Truth true ∷ []) }
-{
-    let mut found = Vec::new(alloc);
-    found.push(Value::Truth(false))?;
-    found.push(Value::Truth(true))?;
-    Ok(found)
 }
 
 // These symbols.
@@ -98,26 +88,9 @@ fn between(alloc: Global, low: i64, high: i64) -> Result<Vec<Value>, Memory>
         ≡ map (λ k. Whole (low +ℤ pos k)) (range_with_len 0 (nat_abs (high -ℤ low) + 1))) }
 {
     let mut found = Vec::new(alloc);
-    for k in 0..count_between(low, high) {
-        found.push(number_after(low, high, k))?;
+    let count = (high - low) as u32 + 1;
+    for k in 0..count {
+        found.push(Value::Whole(low + i64::from(k)))?;
     }
     Ok(found)
-}
-
-// How many numbers there are from the first to the last.
-fn count_between(low: i64, high: i64) -> u32
-    requires ordered { low ≤ℤ high }
-    requires few { high <ℤ (low +ℤ pos 256) }
-    ensures { result ≡ nat_abs (high -ℤ low) + 1 }
-{
-    (high - low) as u32 + 1
-}
-
-// The number that is so much greater than the first, as a value.
-fn number_after(low: i64, high: i64, k: u32) -> Value
-    requires ordered { low ≤ℤ high }
-    requires below { k < nat_abs (high -ℤ low) + 1 }
-    ensures { result ≡ Whole (low +ℤ pos k) }
-{
-    Value::Whole(low + i64::from(k))
 }

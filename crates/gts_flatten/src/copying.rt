@@ -20,44 +20,23 @@ pub(crate) fn copy_texts(alloc: Global, texts: &[Text]) -> Result<Vec<Text>, Mem
     Ok(copies)
 }
 
-// A copy of a variable.
-fn copy_variable(alloc: Global, variable: &Variable) -> Result<Variable, Memory>
-    ensures { IfOk result (IsSameVariable variable.now) }
-{
-    let path = variable.path.copy(alloc)?;
-    let domain = copy_domain(&variable.domain)?;
-    Ok(Variable {
-        path,
-        unit: variable.unit,
-        domain,
-        is_state: variable.is_state,
-        value: variable.value,
-    })
-}
-
 /// Copies of variables, in their order.
 pub(crate) fn copy_variables(alloc: Global, variables: &[Variable]) -> Result<Vec<Variable>, Memory>
     ensures { IfOk result (λ v. Along IsSameVariable variables.now v.items) }
 {
     let mut copies = Vec::new(alloc);
     for variable in variables {
-        let copy = copy_variable(alloc, variable)?;
-        copies.push(copy)?;
+        let path = variable.path.copy(alloc)?;
+        let domain = copy_domain(&variable.domain)?;
+        copies.push(Variable {
+            path,
+            unit: variable.unit,
+            domain,
+            is_state: variable.is_state,
+            value: variable.value,
+        })?;
     }
     Ok(copies)
-}
-
-// A copy of an observer.
-fn copy_observer(alloc: Global, observer: &Observer) -> Result<Observer, Memory>
-    ensures { IfOk result (IsSameObserver observer.now) }
-{
-    let path = observer.path.copy(alloc)?;
-    let value = copy_expression(alloc, &observer.value)?;
-    Ok(Observer {
-        path,
-        kind: observer.kind,
-        value,
-    })
 }
 
 /// Copies of observers, in their order.
@@ -66,8 +45,13 @@ pub(crate) fn copy_observers(alloc: Global, observers: &[Observer]) -> Result<Ve
 {
     let mut copies = Vec::new(alloc);
     for observer in observers {
-        let copy = copy_observer(alloc, observer)?;
-        copies.push(copy)?;
+        let path = observer.path.copy(alloc)?;
+        let value = copy_expression(alloc, &observer.value)?;
+        copies.push(Observer {
+            path,
+            kind: observer.kind,
+            value,
+        })?;
     }
     Ok(copies)
 }

@@ -5,7 +5,7 @@ ghost use Rattle.ar_base.specs.Stages.{Fits, Meets};
 ghost use Rattle.ar_base.specs.declared.counts.Count.TheVariants.{ExpressionNodes};
 ghost use Rattle.ar_meaning.specs.Systems.{System};
 ghost use Rattle.gts_core.specs.Bound.{declared_from, member_of};
-ghost use Rattle.gts_flatten.specs.Bounds.{IsSystemOf, declared_nodes, member_nodes, members_nodes, observers_nodes};
+ghost use Rattle.gts_flatten.specs.Bounds.{IsSystemOf, declared_nodes, members_nodes, observers_nodes};
 ghost use Rattle.gts_flatten.specs.Sizes.{system_nodes};
 
 use crate::acts::{act_nodes, acts_nodes};
@@ -44,25 +44,19 @@ fn events_nodes(events: &[DeclaredEvent]) -> u64
     total
 }
 
-// The same of the ways of an event.
+// The same of the ways of an event; a synchronisation has no expressions of its own.
 fn ways_nodes(ways: &[DeclaredWay]) -> u64
     ensures { result ≡ min 1000001 (members_nodes (map member_of ways.now)) }
 {
     let mut total = 0;
     for way in ways {
-        total = sum(total, way_nodes(way));
+        let more = match way {
+            DeclaredWay::Local(guard, action) => sum(nodes(guard), act_nodes(action, 0)),
+            DeclaredWay::Sync(_, _) => 0,
+        };
+        total = sum(total, more);
     }
     total
-}
-
-// The nodes of a transition; a synchronisation has no expressions of its own.
-fn way_nodes(way: &DeclaredWay) -> u64
-    ensures { result ≡ min 1000001 (member_nodes (member_of way.now)) }
-{
-    match way {
-        DeclaredWay::Local(guard, action) => sum(nodes(guard), act_nodes(action, 0)),
-        DeclaredWay::Sync(_, _) => 0,
-    }
 }
 
 // The nodes of the values of observers.

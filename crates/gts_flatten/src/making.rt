@@ -5,9 +5,9 @@ ghost use Rattle.std.specs.List.{flat_map};
 ghost use Rattle.ar_base.specs.Lists.{Along};
 ghost use Rattle.gts_core.specs.Bound.{assigns_of_act, places_of_act, places_in, declared_from, AreAssigns};
 ghost use Rattle.sync_expand.specs.Counts.{AreCounts};
-ghost use Rattle.sync_expand.specs.Plans.{planned_ways, ways_at};
+ghost use Rattle.sync_expand.specs.Plans.{planned_ways};
 ghost use Rattle.sync_expand.specs.Planned.{planned_of};
-ghost use Rattle.gts_flatten.specs.Making.{IsTransitionAt, IsMadeOf, IsMadeWay, IsMadeEvent, AreMadeEvents};
+ghost use Rattle.gts_flatten.specs.Making.{IsTransitionAt, IsMadeOf, IsMadeWay, AreMadeEvents};
 ghost use Rattle.gts_flatten.specs.Placing.{AreDeclared, HasTransition, IsDeclared, IsRun};
 
 use ar_base::{EventId, Memory, WayId};
@@ -53,19 +53,6 @@ fn body_of(
     }
 }
 
-// The planned way.
-fn way_of(alloc: Global, events: &[DeclaredEvent], planned: &WayPlan) -> Result<Way, Memory>
-    requires { IsDeclared events.now planned.now.event.n planned.now.body }
-    ensures { IfOk result (IsMadeWay events.now planned.now) }
-{
-    let body = body_of(alloc, events, planned.event, &planned.body)?;
-    Ok(Way {
-        event: planned.event,
-        number: planned.number,
-        body,
-    })
-}
-
 /// The planned ways, in their order.
 pub(crate) fn ways_of(
     alloc: Global,
@@ -77,8 +64,12 @@ pub(crate) fn ways_of(
 {
     let mut ways = Vec::new(alloc);
     for planned in plan {
-        let way = way_of(alloc, events, planned)?;
-        ways.push(way)?;
+        let body = body_of(alloc, events, planned.event, &planned.body)?;
+        ways.push(Way {
+            event: planned.event,
+            number: planned.number,
+            body,
+        })?;
     }
     Ok(ways)
 }
@@ -103,20 +94,6 @@ fn run_of(
     Ok(numbers)
 }
 
-// The declared event with the numbers of its ways.
-fn event_of(alloc: Global, declared: &DeclaredEvent, ways: Vec<WayId>) -> Result<Event, Memory>
-    ensures { (counts : List ℕ) (n : ℕ) → map (λ w. w.n) ways.items ≡ ways_at counts n
-        → IfOk result (IsMadeEvent counts n declared.now) }
-{
-    let path = declared.path.copy(alloc)?;
-    Ok(Event {
-        path,
-        unit: declared.unit,
-        hidden: declared.hidden,
-        ways,
-    })
-}
-
 /// The declared events, each with the numbers of its ways in the plan.
 pub(crate) fn events_of(
     alloc: Global,
@@ -134,8 +111,13 @@ pub(crate) fn events_of(
     for (number, event) in declared.iter().enumerate() {
         let ways = run_of(alloc, plan, EventId::new(number as u32), first)?;
         first += ways.len();
-        let made = event_of(alloc, event, ways)?;
-        events.push(made)?;
+        let path = event.path.copy(alloc)?;
+        events.push(Event {
+            path,
+            unit: event.unit,
+            hidden: event.hidden,
+            ways,
+        })?;
     }
     Ok(events)
 }

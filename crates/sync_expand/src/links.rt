@@ -1,12 +1,12 @@
 //! The rule that no event is reached from one of its own synchronisations.
 
-ghost use Rattle.std.specs.Prelude.{◌≡◌, ◌↔◌, ◌≤◌, Some, IsTrue, IfOk, IfErr, IfNone, IfSome, length};
+ghost use Rattle.std.specs.Prelude.{◌≡◌, ◌≤◌, Some, IfOk, IfErr, IfNone, IfSome, length};
 ghost use Rattle.ar_base.specs.Stages.{Keeps, IsRefusal, rule_told};
 ghost use Rattle.ar_base.specs.declared.numbers.Id.{Id};
 ghost use Rattle.ar_base.specs.declared.numbers.EventKind.{EventKind};
 ghost use Rattle.sync_expand.specs.Expanding.{AreExpandable, BreaksNumberedWayRule};
 ghost use Rattle.sync_expand.specs.Counting.{way_rules};
-ghost use Rattle.sync_expand.specs.Links.{Climbs, IsClimbAmong, IsClimbOf, IsClimbIn, IsClimb, IsFirstLink, IsEarlierOf, Falls};
+ghost use Rattle.sync_expand.specs.Links.{IsClimbAmong, IsClimbOf, IsClimbIn, IsClimb, IsFirstLink, IsEarlierOf, Falls};
 
 use crate::numbers::number_at;
 use crate::reach::{reach_counts, reached_from};
@@ -59,28 +59,13 @@ fn earlier(found: Option<Link>, other: Option<Link>) -> Option<Link>
         None => other,
         Some(first) => match other {
             None => Some(first),
-            Some(second) => earlier_of(first, second),
+            Some(second) => if second.at.is_before(first.at) {
+                Some(second)
+            } else {
+                Some(first)
+            },
         },
     }
-}
-
-fn earlier_of(first: Link, second: Link) -> Option<Link>
-    ensures { IsEarlierOf (Some first) (Some second) result }
-{
-    if second.at.is_before(first.at) {
-        Some(second)
-    } else {
-        Some(first)
-    }
-}
-
-// Whether the rank of the part is at least that of the event and `gap` more.
-fn climbs(ranks: &[u32], event: EventId, part: EventId, gap: u32) -> bool
-    ensures { IsTrue result ↔ Climbs ranks.now gap event.n part.n }
-{
-    let low = u64::from(number_at(ranks, event));
-    let high = u64::from(number_at(ranks, part));
-    low + u64::from(gap) <= high
 }
 
 // The earliest link that climbs by so much.
@@ -133,7 +118,8 @@ fn climb_among(
     ensures some { IfSome result (λ part. IsClimbAmong parts.now event ranks.now gap part) }
 {
     for (_, part) in parts {
-        if climbs(ranks, event, *part, gap) {
+        let least = u64::from(number_at(ranks, event)) + u64::from(gap);
+        if least <= u64::from(number_at(ranks, *part)) {
             return Some(*part);
         }
     }

@@ -1,7 +1,6 @@
 //! Which events are reached from an event.
 
-ghost use Rattle.std.specs.Prelude.{◌≡◌, ◌<◌, ◌^◌, ℕ, Bool, false, IfOk, OnOk, length};
-ghost use Rattle.ar_base.specs.Lists.{Stands};
+ghost use Rattle.std.specs.Prelude.{◌≡◌, ◌<◌, ◌^◌, false, IfOk, OnOk, length};
 ghost use Rattle.ar_base.specs.declared.numbers.Id.{Id};
 ghost use Rattle.ar_base.specs.declared.numbers.EventKind.{EventKind};
 ghost use Rattle.sync_expand.specs.Expanding.{AreExpandable};
@@ -30,8 +29,9 @@ pub(crate) fn reached_from(
     requires from { from.n < length events.now }
     ensures { IfOk result (λ marks. AreReachedFrom events.now from.n marks.items) }
 {
+    let marks = vec![in alloc; false; events.len()]?;
     let mut walk = Walk {
-        marks: no_marks(alloc, events.len())?,
+        marks,
         ahead: Vec::new(alloc),
     };
     meet(&mut walk, from)?;
@@ -53,16 +53,6 @@ pub(crate) fn reach_counts(alloc: Global, events: &[DeclaredEvent]) -> Result<Ve
         counts.push(number_marked(&marks))?;
     }
     Ok(counts)
-}
-
-// No event is marked.
-fn no_marks(alloc: Global, count: usize) -> Result<Vec<bool>, Memory>
-    ensures long { IfOk result (λ marks. length marks.items ≡ count) }
-    ensures none { IfOk result (λ marks. (n : ℕ) (b : Bool) → Stands marks.items n b
-        → b ≡ false) }
-{
-    let marks = vec![in alloc; false; count]?;
-    Ok(marks)
 }
 
 // How many events are marked.

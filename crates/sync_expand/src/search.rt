@@ -89,24 +89,16 @@ fn next_part(events: &[DeclaredEvent], open: Open) -> Option<(EventId, Open)> {
     let ways = events.get(open.event.n as usize)?.ways.get(open.way..)?;
     let mut next = open;
     for way in ways {
-        if let Some(event) = part_at(way, next.part) {
-            next.part = next.part.saturating_add(1);
-            return Some((event, next));
+        if let DeclaredWay::Sync(parts, _) = way {
+            if let Some((_, event)) = parts.get(next.part) {
+                next.part = next.part.saturating_add(1);
+                return Some((*event, next));
+            }
         }
         next.way = next.way.saturating_add(1);
         next.part = 0;
     }
     None
-}
-
-fn part_at(way: &DeclaredWay, place: usize) -> Option<EventId> {
-    match way {
-        DeclaredWay::Sync(parts, _) => {
-            let (_, event) = parts.get(place)?;
-            Some(*event)
-        }
-        DeclaredWay::Local(_, _) => None,
-    }
 }
 
 // Opens an event that was not met before.

@@ -6,10 +6,10 @@ ghost use Rattle.typed_expr.specs.declared.expr.Expr.{out-Expr};
 ghost use Rattle.typed_expr.specs.Sets.{HasExactly, KeepsLimit};
 ghost use Rattle.typed_expr.specs.Yields.{Yields, facts_of};
 ghost use Rattle.typed_expr.specs.Possible.{IsWide};
-ghost use Rattle.typed_expr.specs.Evaluating.{Evaluates, Relates, Tells, Tallies, Steps, Folds, Sums, Chooses, Joins};
+ghost use Rattle.typed_expr.specs.Evaluating.{Evaluates, Tells, Tallies, Steps, Folds, Sums, Chooses, Joins};
 
 use crate::env::Env;
-use crate::expr::{Expr, Relation};
+use crate::expr::Expr;
 use crate::fold::{Step, start_value};
 use crate::relations::some_related;
 use crate::sets::{both, either, gathered, joined_where, stepped, truth_set};
@@ -88,7 +88,10 @@ fn yielded<V, E: Env<V>>(
         }
         Expr::Compare(relation, a, b) => {
             let left = yielded(alloc, a, env, most)?;
-            compared(alloc, b, env, most, *relation, left)
+            let right = yielded(alloc, b, env, most)?;
+            let can_be_false = some_related(*relation, left.values(), right.values(), false);
+            let can_be_true = some_related(*relation, left.values(), right.values(), true);
+            truth_set(alloc, can_be_false, can_be_true, most)
         }
         Expr::Sum(parts) => summed(alloc, parts, env, most),
         Expr::Product(es) => folded(alloc, es, env, most, Step::Times),
@@ -100,24 +103,6 @@ fn yielded<V, E: Env<V>>(
             with_branch(alloc, other, env, most, passes, set)
         }
     }
-}
-
-// The truth values of the comparison of a value of the set with one that the operand yields.
-#[cycle(yielded)]
-fn compared<V, E: Env<V>>(
-    alloc: Global,
-    e: &Expr<V>,
-    env: &E,
-    most: Option<u32>,
-    relation: Relation,
-    left: ValueSet,
-) -> Result<ValueSet, Stop>
-    ensures { Relates (facts_of (E.facts_at env.now)) most relation left result (out-Expr V e.now) }
-{
-    let right = yielded(alloc, e, env, most)?;
-    let can_be_false = some_related(relation, left.values(), right.values(), false);
-    let can_be_true = some_related(relation, left.values(), right.values(), true);
-    truth_set(alloc, can_be_false, can_be_true, most)
 }
 
 // Whether one operand yields the opposite truth value, and whether each yields this one.

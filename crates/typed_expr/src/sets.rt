@@ -19,14 +19,6 @@ const MOST_RESULTS: usize = 8_388_608;
 // As many values as are put in one by one; more are sorted first.
 const FEW: usize = 64;
 
-// Refuses where a step would have more results than the cap.
-fn few_results(numbers: &[Value], values: &[Value]) -> Result<(), Memory> {
-    if numbers.len().saturating_mul(values.len()) > MOST_RESULTS {
-        return Err(Memory::from(Cap::Results));
-    }
-    Ok(())
-}
-
 // The set of these values.
 pub(crate) fn gathered(alloc: Global, values: &[Value], most: Option<u32>) -> Result<ValueSet, Stop>
     ensures { Gathers most result (Contains values.now) }
@@ -57,37 +49,7 @@ fn together(alloc: Global, set: &[Value], values: &[Value]) -> Result<Vec<Value>
     Ok(all)
 }
 
-// The set of the values of both, made from them in order.
-fn merged(
-    alloc: Global,
-    set: &ValueSet,
-    values: &[Value],
-    most: Option<u32>,
-) -> Result<ValueSet, Stop>
-    ensures { Gathers most result (λ v. Contains set.now v ⊎ Contains values.now v) }
-{
-    let all = together(alloc, set.values(), values)?;
-    gathered(alloc, &all, most)
-}
-
-// The set with these values put in, one by one where they are few.
-fn joined_all(
-    alloc: Global,
-    set: ValueSet,
-    values: &[Value],
-    most: Option<u32>,
-) -> Result<ValueSet, Stop>
-    requires { KeepsLimit most set }
-    ensures { Gathers most result (λ v. Contains set v ⊎ Contains values.now v) }
-{
-    if values.len() <= FEW {
-        joined(set, values, most)
-    } else {
-        merged(alloc, &set, values, most)
-    }
-}
-
-// The set with the values of another put in, where they are wanted.
+// The set with the values of another put in, where they are wanted: one by one where they are few.
 pub(crate) fn joined_where(
     alloc: Global,
     wanted: bool,
@@ -98,11 +60,15 @@ pub(crate) fn joined_where(
     requires { KeepsLimit most set }
     ensures { Gathers most result (λ v. Contains set v ⊎ (IsTrue wanted × Contains more.now v)) }
 {
-    if wanted {
-        joined_all(alloc, set, more.values(), most)
-    } else {
-        Ok(set)
+    if !wanted {
+        return Ok(set);
     }
+    let values = more.values();
+    if values.len() <= FEW {
+        return joined(set, values, most);
+    }
+    let all = together(alloc, set.values(), values)?;
+    gathered(alloc, &all, most)
 }
 
 // Whether one of the two is true.
@@ -147,13 +113,15 @@ pub(crate) fn stepped(
 ) -> Result<ValueSet, Stop>
     ensures { Gathers most result (IsNext step first numbers.now values.now) }
 {
-    if numbers.len().saturating_mul(values.len()) <= FEW {
-        few_stepped(alloc, step, first, numbers, values, most)
-    } else {
-        few_results(numbers, values)?;
-        let all = results(alloc, step, first, numbers, values)?;
-        gathered(alloc, &all, most)
+    let count = numbers.len().saturating_mul(values.len());
+    if count <= FEW {
+        return few_stepped(alloc, step, first, numbers, values, most);
     }
+    if count > MOST_RESULTS {
+        return Err(Stop::NoMemory(Memory::from(Cap::Results)));
+    }
+    let all = results(alloc, step, first, numbers, values)?;
+    gathered(alloc, &all, most)
 }
 
 // The same, the results put in one by one.

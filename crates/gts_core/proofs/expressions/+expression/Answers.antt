@@ -10,31 +10,47 @@ use borrow.Author.Count.{falls}
 use Rattle.typed_expr.proofs.Shrinking as smaller
 use Rattle.gts_core.proofs.expressions.+expression.Goals as goal
 
-pub expression-returns-in-Not : goal.expression-returns-in-Not
-expression-returns-in-Not g t c =
-    writes_as _ _ (ap (λ a. codes "(not " ++ expr_text c.args.parts.now a ++ codes ")") c.deref.ensures
-    ∙ not_text c.args.parts.now c.args.expr.now c.in-Not.a c.in-Not.is) c.opposite.ensures
-
-pub expression-returns-in-Sum : goal.expression-returns-in-Sum
-expression-returns-in-Sum g t c =
-    let form : Bool × Expr VarId → Bool × List ℕ = λ p. (p.0, expr_text c.args.parts.now p.1) in
-    writes_as _ _ (ap (λ (ps : List (Bool × Expr VarId)). codes "(" ++ summed true (map form ps) ++ codes ")")
-    c.deref-in-Sum.ensures.value
-    ∙ sum_text c.args.parts.now c.args.expr.now c.in-Sum.terms c.in-Sum.is) c.sum.ensures
-
-pub opposite-returns-in_err-write_text : goal.opposite-returns-in_err-write_text
-opposite-returns-in_err-write_text g t c =
+pub expression-returns-in_err-write_text-in-Not : goal.expression-returns-in_err-write_text-in-Not
+expression-returns-in_err-write_text-in-Not g t c =
     writes_exit _ _ c.from_residual.ensures.1
-    (writes_front _ _ c.in_err-write_text.ensures)
+    (writes_as _ _ (not_text c.args.parts.now c.args.expr.now c.in-Not.a c.in-Not.is)
+    (writes_front _ _ c.in_err-write_text-in-Not.ensures))
 
-pub opposite-returns-in_err-expression : goal.opposite-returns-in_err-expression
-opposite-returns-in_err-expression g t c =
-    writes_exit _ _ c.from_residual-in_err-expression.ensures.1
-    (writes_front _ _ (writes_on c.in_ok-write_text.ensures c.in_err-expression.ensures))
+pub expression-returns-in_err-expression-in-Not : goal.expression-returns-in_err-expression-in-Not
+expression-returns-in_err-expression-in-Not g t c =
+    writes_exit _ _ c.from_residual-in_err-expression-in-Not.ensures.1
+    (writes_as _ _ (not_text c.args.parts.now c.args.expr.now c.in-Not.a c.in-Not.is)
+    (writes_front _ _ (writes_on c.in_ok-write_text-in-Not.ensures
+    (writes_as _ _ (ap (expr_text c.args.parts.now) c.deref.ensures) c.in_err-expression-in-Not.ensures))))
 
-pub opposite-returns : goal.opposite-returns
-opposite-returns g t c =
-    writes_on (writes_on c.in_ok-write_text.ensures c.in_ok-expression.ensures) c.write_text-2.ensures
+pub expression-returns-in_ok-expression-in-Not : goal.expression-returns-in_ok-expression-in-Not
+expression-returns-in_ok-expression-in-Not g t c =
+    writes_as _ _ (not_text c.args.parts.now c.args.expr.now c.in-Not.a c.in-Not.is)
+    (writes_on (writes_on c.in_ok-write_text-in-Not.ensures
+    (writes_as _ _ (ap (expr_text c.args.parts.now) c.deref.ensures) c.in_ok-expression-in-Not.ensures))
+    c.write_text-in-Not-2.ensures)
+
+pub expression-returns-in_err-write_text-in-Sum : goal.expression-returns-in_err-write_text-in-Sum
+expression-returns-in_err-write_text-in-Sum g t c =
+    writes_exit _ _ c.from_residual-in_err-write_text-in-Sum.ensures.1
+    (writes_as _ _ (sum_text c.args.parts.now c.args.expr.now c.in-Sum.all c.in-Sum.is)
+    (writes_front _ _ c.in_err-write_text-in-Sum.ensures))
+
+pub expression-returns-in_err-terms-in-Sum : goal.expression-returns-in_err-terms-in-Sum
+expression-returns-in_err-terms-in-Sum g t c =
+    let form : Bool × Expr VarId → Bool × List ℕ = λ p. (p.0, expr_text c.args.parts.now p.1) in
+    writes_exit _ _ c.from_residual-in_err-terms-in-Sum.ensures.1
+    (writes_as _ _ (sum_text c.args.parts.now c.args.expr.now c.in-Sum.all c.in-Sum.is)
+    (writes_front _ _ (writes_on c.in_ok-write_text-in-Sum.ensures
+    (writes_as _ _ (ap (λ (ps : List (Bool × Expr VarId)). summed true (map form ps)) c.deref-in-Sum.ensures.value) c.in_err-terms-in-Sum.ensures))))
+
+pub expression-returns-in_ok-terms-in-Sum : goal.expression-returns-in_ok-terms-in-Sum
+expression-returns-in_ok-terms-in-Sum g t c =
+    let form : Bool × Expr VarId → Bool × List ℕ = λ p. (p.0, expr_text c.args.parts.now p.1) in
+    writes_as _ _ (sum_text c.args.parts.now c.args.expr.now c.in-Sum.all c.in-Sum.is)
+    (writes_on (writes_on c.in_ok-write_text-in-Sum.ensures
+    (writes_as _ _ (ap (λ (ps : List (Bool × Expr VarId)). summed true (map form ps)) c.deref-in-Sum.ensures.value) c.in_ok-terms-in-Sum.ensures))
+    c.write_text-in-Sum-2.ensures)
 
 pub expression-returns-in-All : goal.expression-returns-in-All
 expression-returns-in-All g t c =
@@ -74,7 +90,7 @@ expression-returns-in-Count g t c =
 
 pub expression-returns-in_err-write_text-in-Compare : goal.expression-returns-in_err-write_text-in-Compare
 expression-returns-in_err-write_text-in-Compare g t c =
-    writes_exit _ _ c.from_residual.ensures.1
+    writes_exit _ _ c.from_residual-in_err-write_text-in-Compare.ensures.1
     (writes_as _ _ (compare_text c.args.parts.now c.args.expr.now c.in-Compare.relation c.in-Compare.a c.in-Compare.b
     c.in-Compare.is)
     (writes_front _ _ c.in_err-write_text-in-Compare.ensures))
@@ -185,20 +201,6 @@ listed-returns-in_err-operands g t c =
 pub listed-returns : goal.listed-returns
 listed-returns g t c =
     writes_on (writes_on c.in_ok-write_text.ensures c.in_ok-operands.ensures) c.write_text-2.ensures
-
-pub sum-returns-in_err-write_text : goal.sum-returns-in_err-write_text
-sum-returns-in_err-write_text g t c =
-    writes_exit _ _ c.from_residual.ensures.1
-    (writes_front _ _ c.in_err-write_text.ensures)
-
-pub sum-returns-in_err-terms : goal.sum-returns-in_err-terms
-sum-returns-in_err-terms g t c =
-    writes_exit _ _ c.from_residual-in_err-terms.ensures.1
-    (writes_front _ _ (writes_on c.in_ok-write_text.ensures c.in_err-terms.ensures))
-
-pub sum-returns : goal.sum-returns
-sum-returns g t c =
-    writes_on (writes_on c.in_ok-write_text.ensures c.in_ok-terms.ensures) c.write_text-2.ensures
 
 pub cases-loop-test-init : goal.cases-loop-test-init
 cases-loop-test-init g t c = leaves_all _ _
@@ -356,10 +358,10 @@ terms-returns g t c =
     c.loop-plus.plus-index c.loop-plus-test.false)
 
 -- each call is of something smaller
-pub expression-opposite-requires : goal.expression-opposite-requires
-expression-opposite-requires g t c =
+pub expression-expression-requires : goal.expression-expression-requires
+expression-expression-requires g t c =
     λ κs within. (
-      smaller.size_falls 1 1 _ _ t refl
+      smaller.size_falls 0 2 _ _ t refl
           (smaller.less-not c.args.expr.now c.deref.result.now c.in-Not.a c.in-Not.is c.deref.ensures) c.decreases,
       within,
     )
@@ -418,8 +420,8 @@ expression-listed-requires-in-Count g t c =
       within,
     )
 
-pub expression-expression-requires : goal.expression-expression-requires
-expression-expression-requires g t c =
+pub expression-expression-requires-in-Compare : goal.expression-expression-requires-in-Compare
+expression-expression-requires-in-Compare g t c =
     λ κs within. (
       smaller.size_falls 0 2 _ _ t refl
           (smaller.less-left c.args.expr.now c.deref-in-Compare.result.now c.in-Compare.relation c.in-Compare.a
@@ -427,8 +429,8 @@ expression-expression-requires g t c =
       within,
     )
 
-pub expression-expression-requires-in-Compare : goal.expression-expression-requires-in-Compare
-expression-expression-requires-in-Compare g t c =
+pub expression-expression-requires-in-Compare-2 : goal.expression-expression-requires-in-Compare-2
+expression-expression-requires-in-Compare-2 g t c =
     λ κs within. (
       smaller.size_falls 0 2 _ _ t refl
           (smaller.less-right c.args.expr.now c.deref-in-Compare-2.result.now c.in-Compare.relation c.in-Compare.a
@@ -436,11 +438,11 @@ expression-expression-requires-in-Compare g t c =
       within,
     )
 
-pub expression-sum-requires : goal.expression-sum-requires
-expression-sum-requires g t c =
+pub expression-terms-requires : goal.expression-terms-requires
+expression-terms-requires g t c =
     λ κs within. (
-      smaller.size_falls 2 0 _ _ t refl
-          (smaller.less-parts c.args.expr.now c.in-Sum.terms c.deref-in-Sum.result.now c.in-Sum.is
+      smaller.size_falls 1 1 _ _ t refl
+          (smaller.less-parts c.args.expr.now c.in-Sum.all c.deref-in-Sum.result.now c.in-Sum.is
           c.deref-in-Sum.ensures.value) c.decreases,
       within,
     )
@@ -460,22 +462,6 @@ expression-expression-requires-in-Choose g t c =
       smaller.size_falls 0 2 _ _ t refl
           (smaller.less-other c.args.expr.now c.deref-in-Choose-2.result.now c.in-Choose.choices c.in-Choose.other
           c.in-Choose.is c.deref-in-Choose-2.ensures) c.decreases,
-      within,
-    )
-
-pub opposite-expression-requires : goal.opposite-expression-requires
-opposite-expression-requires g t c =
-    λ κs within. (
-      smaller.rank_falls 0 1 0 _ _ t refl
-          (smaller.no_more _) c.decreases,
-      within,
-    )
-
-pub sum-terms-requires : goal.sum-terms-requires
-sum-terms-requires g t c =
-    λ κs within. (
-      smaller.rank_falls 1 2 0 _ _ t refl
-          (smaller.no_more _) c.decreases,
       within,
     )
 

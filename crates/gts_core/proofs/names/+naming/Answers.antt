@@ -13,14 +13,14 @@ use borrow.Author.Count.{falls}
 use Rattle.typed_expr.proofs.Shrinking as smaller
 use Rattle.gts_core.proofs.names.+naming.Goals as goal
 
-pub add_named-returns-in-Variable : goal.add_named-returns-in-Variable
-add_named-returns-in-Variable t c =
+pub add_named-returns-in_ok-push-in-Variable : goal.add_named-returns-in_ok-push-in-Variable
+add_named-returns-in_ok-push-in-Variable t c =
     let x = c.in-Variable.x in
-    ok_as _ _ c.add_one.result (λ h. named.at_level c.args.expr.now c.args.found.now.items c.add_one.new.found.items
+    named.at_level c.args.expr.now c.args.found.now.items c.push.new.self.items
     (Variable x) (λ y. y ≡ x) (ap (out-Expr VarId) c.in-Variable.is ∙ opened.opened-variable x)
     (λ y d. named.of_variable y x d) (λ y e. subst (λ (z : VarId). Mentions z (Variable x)) (sym e) m.itself)
-    (added.adds_one (λ y. y ≡ x) x c.args.found.now.items c.add_one.new.found.items refl (λ y e. e) h))
-    c.add_one.ensures
+    (added.adds_one (λ y. y ≡ x) x c.args.found.now.items c.push.new.self.items refl (λ y e. e)
+    c.in_ok-push-in-Variable.ensures.items)
 
 pub add_named-returns-in-Not : goal.add_named-returns-in-Not
 add_named-returns-in-Not t c =

@@ -15,18 +15,29 @@ returns-in_err-write_text g c =
     (next_some (λ (xs : List (Bool × WayId)). separated c.loop-part.first (codes " & ")
     (map (part_text c.args.parts.now) xs)) c.args.all.now c.loop-part.part-index c.loop-part-test.true).1)
 
-pub returns-in_err-way_part : goal.returns-in_err-way_part
-returns-in_err-way_part g c =
-    writes_exit _ _ c.from_residual-in_err-way_part.ensures.1
+pub returns-in_err-write_text-2 : goal.returns-in_err-write_text-2
+returns-in_err-write_text-2 g c =
+    writes_exit _ _ c.from_residual-in_err-write_text-2.ensures.1
     (leaves_front _ _ c.loop-part.invariant
-    (writes_on (writes_as _ _ c.either.ensures c.in_ok-write_text.ensures) c.in_err-way_part.ensures)
+    (writes_on (writes_as _ _ c.either.ensures c.in_ok-write_text.ensures)
+    (writes_front _ _ (writes_as _ _ c.either-in-loop-part.ensures c.in_err-write_text-2.ensures)))
+    (next_read (λ (xs : List (Bool × WayId)). separated c.loop-part.first (codes " & ")
+    (map (part_text c.args.parts.now) xs)) c.args.all.now c.loop-part.part-index _ c.loop-part-test.true))
+
+pub returns-in_err-label_at : goal.returns-in_err-label_at
+returns-in_err-label_at g c =
+    writes_exit _ _ c.from_residual-in_err-label_at.ensures.1
+    (leaves_front _ _ c.loop-part.invariant
+    (writes_on (writes_as _ _ c.either.ensures c.in_ok-write_text.ensures)
+    (writes_on (writes_as _ _ c.either-in-loop-part.ensures c.in_ok-write_text-2.ensures) c.in_err-label_at.ensures))
     (next_read (λ (xs : List (Bool × WayId)). separated c.loop-part.first (codes " & ")
     (map (part_text c.args.parts.now) xs)) c.args.all.now c.loop-part.part-index _ c.loop-part-test.true))
 
 pub loop-part-preserved : goal.loop-part-preserved
 loop-part-preserved g c =
     leaves_on _ _ c.loop-part.invariant
-    (writes_on (writes_as _ _ c.either.ensures c.in_ok-write_text.ensures) c.in_ok-way_part.ensures)
+    (writes_on (writes_as _ _ c.either.ensures c.in_ok-write_text.ensures)
+    (writes_on (writes_as _ _ c.either-in-loop-part.ensures c.in_ok-write_text-2.ensures) c.in_ok-label_at.ensures))
     (next_read (λ (xs : List (Bool × WayId)). separated c.loop-part.first (codes " & ")
     (map (part_text c.args.parts.now) xs)) c.args.all.now c.loop-part.part-index _ c.loop-part-test.true)
 

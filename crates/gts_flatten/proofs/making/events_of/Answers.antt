@@ -1,4 +1,4 @@
-use Rattle.std.proofs.Common.{◌≡◌, ℕ, [], ◌∷◌, length, arith, ap, subst, length-append}
+use Rattle.std.proofs.Common.{◌≡◌, ℕ, ◌∙◌, refl, length, arith, ap, subst, length-append}
 use Rattle.sync_expand.proofs.Placed.{item_stands}
 use Rattle.gts_flatten.specs.Placing.{IsRun}
 use Rattle.gts_flatten.proofs.EventsMade.{run_ways, first_after, event_more}
@@ -13,7 +13,7 @@ loop-number-preserved c =
     let len : c.len-first.result ≡ length c.in_ok-ways.ways.items =
     omega (arith, c.in_ok-ways.ways.ok.0, c.len-first.ensures) in
     let there = item_stands c.args.declared.now c.loop-number.number c.index-declared-number.result c.loop-number-test.true c.index-declared-number.is in (
-      (let a = length-append c.loop-number.events.items (c.in_ok-made.made ∷ []) in let e = ap length c.in_ok-push.ensures.items in omega (arith, a, e, i.0)),
+      (let e = ap length c.in_ok-push.ensures.items ∙ length-append c.loop-number.events.items _ in omega (arith, e, i.0)),
       (let w = run.within i.1 in omega (arith, w, len)),
       λ counts are eq.
           let k = i.2 counts are eq in
@@ -22,8 +22,8 @@ loop-number-preserved c =
           let w = run_ways counts c.args.declared.now c.args.plan.now are eq c.loop-number.number c.loop-number.first c.in_ok-ways.ways.items c.loop-number-test.true k.0 run in (
             omega (arith, f, len),
             event_more counts c.args.declared.now c.loop-number.events.items c.push.new.self.items c.loop-number.number
-                c.index-declared-number.result c.in_ok-made.made i.0 there
-                (c.in_ok-made.ensures counts c.loop-number.number w) c.in_ok-push.ensures.items k.1,
+                c.index-declared-number.result _ i.0 there
+                (record { path = c.in_ok-path.ensures; unit = refl; hidden = refl; ways = w }) c.in_ok-push.ensures.items k.1,
           ),
     )
 

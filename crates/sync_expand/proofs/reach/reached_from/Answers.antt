@@ -1,12 +1,20 @@
-use Rattle.std.proofs.Common.{◌≡◌, ◌<◌, ◌+◌, ◌-◌, ℕ, Bool, true, false, [], length, get_or, refl, sym, ap, arith, rules}
-use Rattle.ar_base.proofs.Standing.{stands_within, stands_get, one_right, one_first}
+use Rattle.std.proofs.Common.{◌≡◌, ◌-◌, ◌∙◌, Bool, List, true, false, length, replicate, get_or, refl, ap, subst, arith, rules}
+use Rattle.std.proofs.lemmas.List.{length-replicate}
+use Rattle.ar_base.specs.Lists.{Stands}
+use Rattle.ar_base.proofs.Items.{none_marked}
+use Rattle.ar_base.proofs.Standing.{stands_get}
 use Rattle.sync_expand.proofs.Walking.{walk_start, walk_next, walk_end, part_within, event_ahead, walk_spent}
 use Rattle.sync_expand.proofs.reach.reached_from.Goals as goal
 
 pub loop-event-init : goal.loop-event-init
 loop-event-init c =
-    walk_start c.args.events.now c.requires.expandable c.args.from.n c.args.from _ _ refl c.in_ok-no_marks.ensures.long
-    (λ n s. let e : true ≡ false = c.in_ok-no_marks.ensures.none n true s in absurd (cc e)) (search rules)
+    let count = length c.args.events.now in
+    let filled : c.in_ok-marks.marks.items ≡ replicate count false =
+    c.in_ok-marks.ensures.items_if_clones_equal (search rules) in
+    walk_start c.args.events.now c.requires.expandable c.args.from.n c.args.from
+    (record { marks = c.in_ok-marks.marks; ahead = c.new.result }) _ refl
+    (ap length filled ∙ length-replicate count false)
+    (λ n s. none_marked count n (subst (λ (z : List Bool). Stands z n true) filled s)) c.new.ensures.items
     c.in_ok-meet.ensures
 
 pub bounds-events-event : goal.bounds-events-event

@@ -5,7 +5,7 @@ use Rattle.domains.specs.declared.Value.{Value}
 use Rattle.domains.specs.declared.Value.TheVariants.{Truth}
 use Rattle.typed_expr.specs.Sets.{Gathers}
 use Rattle.typed_expr.specs.Yields.{facts_of}
-use Rattle.typed_expr.specs.Evaluating.{Evaluates, Relates, compared, right_stopped, Tells, Tallies, Steps, stepped, operand_stopped, Folds, Sums, Chooses, Joins, SomeRelated, IsNext}
+use Rattle.typed_expr.specs.Evaluating.{Evaluates, compared, right_stopped, Tells, Tallies, Steps, stepped, operand_stopped, Folds, Sums, Chooses, Joins, SomeRelated, IsNext}
 use Rattle.typed_expr.specs.declared.expr.Expr.{Expr, out-Expr}
 use Rattle.typed_expr.specs.declared.expr.Expr as plain
 use Rattle.typed_expr.specs.declared.value_set.Stop.{Stop}
@@ -112,14 +112,6 @@ yielded-returns-in_err-one_true-in-Any g t c =
     c.from_residual-in_err-one_true-in-Any.ensures.1
     (arm.any-stop facts c.args.most c.in_err-one_true-in-Any.field-0.0 c.args.expr.now c.deref-in-Any.result.now
     c.in-Any.es c.in-Any.is c.deref-in-Any.ensures.value c.in_err-one_true-in-Any.ensures)
-
-pub yielded-returns-in_ok-left-in-Compare : goal.yielded-returns-in_ok-left-in-Compare
-yielded-returns-in_ok-left-in-Compare g t c =
-    let facts = facts_of (g.E.Env.facts_at c.args.env.now) in
-    arm.compared-arm facts c.args.most c.compared.result c.args.expr.now c.deref-in-Compare.result.now
-    c.deref-in-Compare-2.result.now c.in-Compare.relation c.in-Compare.a c.in-Compare.b c.in_ok-left-in-Compare.left
-    c.in-Compare.is c.deref-in-Compare.ensures c.deref-in-Compare-2.ensures c.in_ok-left-in-Compare.ensures
-    c.compared.ensures
 
 pub yielded-returns-in_err-left-in-Compare : goal.yielded-returns-in_err-left-in-Compare
 yielded-returns-in_err-left-in-Compare g t c =
@@ -544,15 +536,6 @@ yielded-yielded-requires g t c =
       within,
     )
 
-pub yielded-compared-requires : goal.yielded-compared-requires
-yielded-compared-requires g t c =
-    λ κs within. (
-      smaller.size_falls 1 1 _ _ t refl
-          (smaller.less-right c.args.expr.now c.deref-in-Compare-2.result.now c.in-Compare.relation c.in-Compare.a
-          c.in-Compare.b c.in-Compare.is c.deref-in-Compare-2.ensures) c.decreases,
-      within,
-    )
-
 pub yielded-summed-requires : goal.yielded-summed-requires
 yielded-summed-requires g t c =
     λ κs within. (
@@ -609,52 +592,60 @@ with_operand-returns g t c =
     c.values-2.ensures.values step1 in
     stepped {values = c.in_ok-set.set} c.in_ok-set.ensures step2
 
-pub compared-yielded-requires : goal.compared-yielded-requires
-compared-yielded-requires g t c =
-    λ κs within. (smaller.rank_falls 0 1 0 _ _ t refl (smaller.no_more _) c.decreases, within)
+pub yielded-yielded-requires-in-Compare : goal.yielded-yielded-requires-in-Compare
+yielded-yielded-requires-in-Compare g t c =
+    λ κs within. (
+      smaller.size_falls 0 2 _ _ t refl
+          (smaller.less-right c.args.expr.now c.deref-in-Compare-2.result.now c.in-Compare.relation c.in-Compare.a
+          c.in-Compare.b c.in-Compare.is c.deref-in-Compare-2.ensures) c.decreases,
+      within,
+    )
 
-pub compared-some_related-can_be_false-requires-clause-left : goal.compared-some_related-can_be_false-requires-clause-left
-compared-some_related-can_be_false-requires-clause-left g t c =
+pub yielded-some_related-can_be_false-requires-clause-left : goal.yielded-some_related-can_be_false-requires-clause-left
+yielded-some_related-can_be_false-requires-clause-left g t c =
     c.values.ensures.ascending
 
-pub compared-some_related-can_be_false-requires-clause-right : goal.compared-some_related-can_be_false-requires-clause-right
-compared-some_related-can_be_false-requires-clause-right g t c =
-    c.values-2.ensures.ascending
+pub yielded-some_related-can_be_false-requires-clause-right : goal.yielded-some_related-can_be_false-requires-clause-right
+yielded-some_related-can_be_false-requires-clause-right g t c =
+    c.values-in-Compare.ensures.ascending
 
-pub compared-some_related-can_be_true-requires-clause-left : goal.compared-some_related-can_be_true-requires-clause-left
-compared-some_related-can_be_true-requires-clause-left g t c =
-    c.values-3.ensures.ascending
+pub yielded-some_related-can_be_true-requires-clause-left : goal.yielded-some_related-can_be_true-requires-clause-left
+yielded-some_related-can_be_true-requires-clause-left g t c =
+    c.values-in-Compare-2.ensures.ascending
 
-pub compared-some_related-can_be_true-requires-clause-right : goal.compared-some_related-can_be_true-requires-clause-right
-compared-some_related-can_be_true-requires-clause-right g t c =
-    c.values-4.ensures.ascending
+pub yielded-some_related-can_be_true-requires-clause-right : goal.yielded-some_related-can_be_true-requires-clause-right
+yielded-some_related-can_be_true-requires-clause-right g t c =
+    c.values-in-Compare-3.ensures.ascending
 
-pub compared-returns-in_err-right : goal.compared-returns-in_err-right
-compared-returns-in_err-right g t c =
+pub yielded-returns-in_err-right-in-Compare : goal.yielded-returns-in_err-right-in-Compare
+yielded-returns-in_err-right-in-Compare g t c =
     let facts = facts_of (g.E.Env.facts_at c.args.env.now) in
     err-same
-    (λ (r : Result (List Value) Stop). Relates facts c.args.most c.args.relation c.args.left r
-    (out-Expr g.row.V.Denot c.args.e.now)) c.from_residual.result c.in_err-right.field-0.0 c.from_residual.ensures.1
-    (right_stopped c.in_err-right.ensures refl)
+    (λ (r : Result (List Value) Stop). Evaluates facts c.args.most r (out-Expr g.row.V.Denot c.args.expr.now))
+    c.from_residual-in_err-right-in-Compare.result c.in_err-right-in-Compare.field-0.0
+    c.from_residual-in_err-right-in-Compare.ensures.1
+    (arm.compared-arm facts c.args.most _ c.args.expr.now c.deref-in-Compare.result.now
+    c.deref-in-Compare-2.result.now c.in-Compare.relation c.in-Compare.a c.in-Compare.b c.in_ok-left-in-Compare.left
+    c.in-Compare.is c.deref-in-Compare.ensures c.deref-in-Compare-2.ensures c.in_ok-left-in-Compare.ensures
+    (right_stopped c.in_err-right-in-Compare.ensures refl))
 
-pub compared-returns : goal.compared-returns
-compared-returns g t c =
-    let f1 =
-    subst
-    (λ (l : List Value). IsTrue c.some_related-can_be_false.result
-    ↔ SomeRelated c.args.relation l c.values-2.result.now false) c.values.ensures.values
-    c.some_related-can_be_false.ensures in
-    let f2 =
-    subst
-    (λ (l : List Value). IsTrue c.some_related-can_be_false.result ↔ SomeRelated c.args.relation c.args.left l false)
-    c.values-2.ensures.values f1 in
-    let t1 =
-    subst
-    (λ (l : List Value). IsTrue c.some_related-can_be_true.result
-    ↔ SomeRelated c.args.relation l c.values-4.result.now true) c.values-3.ensures.values
-    c.some_related-can_be_true.ensures in
-    let t2 =
-    subst
-    (λ (l : List Value). IsTrue c.some_related-can_be_true.result ↔ SomeRelated c.args.relation c.args.left l true)
-    c.values-4.ensures.values t1 in
-    compared {values = c.in_ok-right.right} c.in_ok-right.ensures f2 t2 c.truth_set.ensures
+pub yielded-returns-in_ok-right-in-Compare : goal.yielded-returns-in_ok-right-in-Compare
+yielded-returns-in_ok-right-in-Compare g t c =
+    let facts = facts_of (g.E.Env.facts_at c.args.env.now) in
+    let q = c.in-Compare.relation in
+    let xs = c.in_ok-left-in-Compare.left in
+    let f = c.some_related-can_be_false in
+    let s = c.some_related-can_be_true in
+    let f1 = subst (λ (l : List Value). IsTrue f.result ↔ SomeRelated q l c.values-in-Compare.result.now false)
+    c.values.ensures.values f.ensures in
+    let f2 = subst (λ (l : List Value). IsTrue f.result ↔ SomeRelated q xs l false)
+    c.values-in-Compare.ensures.values f1 in
+    let t1 = subst (λ (l : List Value). IsTrue s.result ↔ SomeRelated q l c.values-in-Compare-3.result.now true)
+    c.values-in-Compare-2.ensures.values s.ensures in
+    let t2 = subst (λ (l : List Value). IsTrue s.result ↔ SomeRelated q xs l true)
+    c.values-in-Compare-3.ensures.values t1 in
+    arm.compared-arm facts c.args.most c.truth_set-in-Compare.result c.args.expr.now c.deref-in-Compare.result.now
+    c.deref-in-Compare-2.result.now q c.in-Compare.a c.in-Compare.b xs
+    c.in-Compare.is c.deref-in-Compare.ensures c.deref-in-Compare-2.ensures c.in_ok-left-in-Compare.ensures
+    (compared {values = c.in_ok-right-in-Compare.right} c.in_ok-right-in-Compare.ensures f2 t2
+    c.truth_set-in-Compare.ensures)

@@ -5,8 +5,8 @@ use Rattle.typed_expr.specs.Evaluating.{IsNext}
 use Rattle.typed_expr.proofs.Gathering.{gathered-exactly}
 use Rattle.typed_expr.proofs.sets.stepped.Goals as goal
 
-pub returns-in_ok-all : goal.returns-in_ok-all
-returns-in_ok-all c =
+pub returns : goal.returns
+returns c =
     gathered-exactly c.args.most c.in_ok-all.all.items c.gathered.result
     (IsNext c.args.step c.args.first c.args.numbers.now c.args.values.now) c.in_ok-all.ensures
     (subst (λ (l : List Value). Gathers c.args.most c.gathered.result (Contains l)) c.deref.ensures.value

@@ -1,5 +1,5 @@
 use Rattle.flow_propagate.specs.Named.{AreNamed}
-use Rattle.flow_propagate.proofs.readers.all_named.Given as goal
+use Rattle.flow_propagate.proofs.readers.readers.Given as goal
 
 abbrev pub invariant-loop-place : goal.invariant-loop-place
 invariant-loop-place l = AreNamed l.parts l.place l.pairs.items

@@ -1,5 +1,5 @@
 use Rattle.flow_propagate.specs.Named.{AreTargets}
-use Rattle.flow_propagate.proofs.readers.all_targets.Given as goal
+use Rattle.flow_propagate.proofs.readers.givers.Given as goal
 
 abbrev pub invariant-loop-place : goal.invariant-loop-place
 invariant-loop-place l = AreTargets l.parts l.place l.pairs.items

@@ -260,12 +260,12 @@ def variants_of(path, name):
 def rows_of_architecture():
     rows = [line for line in page_of("ARCHITECTURE").split("\n") if line.startswith("|")]
     firsts = [row.split("|")[1].strip() for row in rows]
-    counts = re.findall(r'Count::\w+ => "([\w ]+)"', text_of("crates/altarica_run/src/refusals.rt"))
+    counts = re.findall(r'Count::\w+ => "([\w ]+)"', text_of("crates/job_stages/src/refusals.rt"))
     commands = re.findall(r"^    /// `(\w+)`", text_of("crates/run_words/src/verbs.rt"), re.M)
     wanted = [*(f"L{n}" for n in range(1, 15)), *(f"S{n}" for n in range(1, 9)), *(f"`{it}`" for it in commands)]
     faults = [f"no row for {it}" for it in wanted if it not in firsts]
     faults += [f"no row for the limit of {it}" for it in counts if not any(f"`size: {it}`" in first for first in firsts)]
-    refusals = variants_of("crates/altarica_run/src/refusals.rt", "Refusal")
+    refusals = variants_of("crates/job_stages/src/refusals.rt", "Refusal")
     faults += [f"no row for the refusal {it}" for it in refusals if not any(f"| `{it}` |" in row for row in rows)]
     if not counts or not commands or not refusals:
         faults.append("the limits, commands or refusals were not found in the code")
@@ -279,7 +279,7 @@ def edits():
         names = re.findall(r"`([^`]+)`", line)
         if not line.startswith("| `"):
             continue
-        crate, edit = names[:2] if names[0] in crates() else ("altarica_run", names[0])
+        crate, edit = names[:2] if names[0] in crates() else ("job_stages", names[0])
         shown.add(f"{crate} {edit}")
         function, *clause = re.findall(r"`([^`]+)`", line.strip("| ").split("|")[-1])
         if function.split("::")[-1] not in functions_of(crate):

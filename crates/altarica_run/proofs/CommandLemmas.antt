@@ -29,23 +29,23 @@ use Rattle.table_laws.specs.DrawnLaws.{NodesByNumbers}
 use Rattle.zdd_nodes.specs.declared.NodeFault.{NodeFault}
 use Rattle.zdd_nodes.specs.declared.NodeFault.TheVariants.{Full, Memory as NoMemory}
 use Rattle.altarica_run.specs.Doing.{AnswersFor}
-use Rattle.altarica_run.specs.Elaborates.{Elaborates}
-use Rattle.altarica_run.specs.Loading.{texts_of, texts_where, script_texts}
-use Rattle.altarica_run.specs.Passing.{stop_told, IsStageOf, IsFlattened, ReadsScript, gives, bad, ReadsCuts, lists, bad_line, too_many, ReadsList, AreLines, ReadsShown, no_path, shows, shows_none, with_lines, IsRequested, IsRequestOf, HasForest, IsGateTable, HasGates, IsDrawnFor, AnswersDrawn}
-use Rattle.altarica_run.specs.Stages.{Ready, bare, Scripted, ListsCuts, Wanting, observer_asked, Showing, AsksByWords, Asks, is_static, has_table, Static, keeps, Tabled, fits, Demands, Readies, Stages, lists_cuts}
-use Rattle.altarica_run.specs.Stages as stages
-use Rattle.altarica_run.specs.Telling.{IsWritten, status_printed, IsWrittenFor, written}
-use Rattle.altarica_run.specs.Tells.{Tells, MayNeedMore}
-use Rattle.altarica_run.specs.declared.elaborating.Flattened.{Flattened}
-use Rattle.altarica_run.specs.declared.loading.Texts.{Texts}
-use Rattle.altarica_run.specs.declared.refusals.Refusal.{Refusal}
-use Rattle.altarica_run.specs.declared.requesting.Request.{Request}
-use Rattle.altarica_run.specs.declared.status.Status.{Status}
-use Rattle.altarica_run.specs.declared.stops.Stop.{Stop}
-use Rattle.altarica_run.specs.declared.stops.Stop.TheVariants.{Refused, Memory}
-use Rattle.altarica_run.specs.declared.tabling.GateTable.{GateTable}
-use Rattle.altarica_run.proofs.CutLemmas.{may_need}
-use Rattle.altarica_run.proofs.PassLemmas.{drops_bad, drops_good}
+use Rattle.job_stages.specs.Elaborates.{Elaborates}
+use Rattle.job_stages.specs.Loading.{texts_of, texts_where, script_texts}
+use Rattle.job_stages.specs.Passing.{stop_told, IsStageOf, IsFlattened, ReadsScript, gives, bad, ReadsCuts, lists, bad_line, too_many, ReadsList, AreLines, ReadsShown, no_path, shows, shows_none, with_lines, IsRequested, IsRequestOf, HasForest, IsGateTable, HasGates, IsDrawnFor, AnswersDrawn}
+use Rattle.job_stages.specs.Stages.{Ready, bare, Scripted, ListsCuts, Wanting, observer_asked, Showing, AsksByWords, Asks, is_static, has_table, Static, keeps, Tabled, fits, Demands, Readies, Stages, lists_cuts}
+use Rattle.job_stages.specs.Stages as stages
+use Rattle.job_stages.specs.Telling.{IsWritten, status_printed, IsWrittenFor, written}
+use Rattle.job_stages.specs.Tells.{Tells, MayNeedMore}
+use Rattle.job_stages.specs.declared.elaborating.Flattened.{Flattened}
+use Rattle.job_stages.specs.declared.loading.Texts.{Texts}
+use Rattle.job_stages.specs.declared.refusals.Refusal.{Refusal}
+use Rattle.job_stages.specs.declared.requesting.Request.{Request}
+use Rattle.job_stages.specs.declared.status.Status.{Status}
+use Rattle.job_stages.specs.declared.stops.Stop.{Stop}
+use Rattle.job_stages.specs.declared.stops.Stop.TheVariants.{Refused, Memory}
+use Rattle.job_stages.specs.declared.tabling.GateTable.{GateTable}
+use Rattle.job_stages.proofs.CutLemmas.{may_need}
+use Rattle.job_stages.proofs.PassLemmas.{drops_bad, drops_good}
 
 -- a stage that a command asks for, and one that it does not
 where_on : {A R : Type 0} (b : Bool) (stage : A → Result A R → Type 0) (a : A) (r : Result A R) → b ≡ true → stage a r
@@ -89,26 +89,6 @@ has_gates w request is f k t l = record {
   forest = (forest_here request.system w f k).1;
   table = (table_here request.system f w t l).1;
 }
-
--- What is drawn
-
--- what the drawing of the gate table answers
-pub drawn_answers : (job : Job) (w : Ready) (p : GtsParts) (f : Forest) (t : GateTable) → HasGates w p f t
-    → lists_cuts job.command ≡ true → (n : ℕ) → job.nodes ≡ n → NodesByNumbers → (r : Result Drawn NodeFault)
-    → IfOk r (λ d. IsAnswer (trees_of (λ n. n) f) (table_of t.equations) d)
-    → IfOk r (λ d. length (store_of d).families ≤ n)
-    → (r ≡ Err Full → NodesMay (trees_of (λ n. n) f) (table_of t.equations) n)
-    → AnswersDrawn job w p f r
-drawn_answers job w p f t is e n same law (Ok d) sets within full = record {
-  lists = e;
-  table = t;
-  gates = is;
-  answer = sets;
-  within = subst (λ (z : ℕ). length (store_of d).families ≤ z) (sym same) within;
-}
-drawn_answers job w p f t is e n same law (Err Full) sets within full =
-    subst (λ (z : ℕ). MayNeedMore w z) (sym same) (may_need w p f t is law n (full refl))
-drawn_answers job w p f t is e n same law (Err NoMemory) sets within full = tt
 
 -- The stages of a job
 

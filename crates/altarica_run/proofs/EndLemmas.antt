@@ -5,25 +5,25 @@ use Rattle.ar_io.specs.Writing.{SinkState, Appended, WroteFront}
 use Rattle.run_words.specs.declared.jobs.Job.{Job}
 use Rattle.run_words.specs.Jobs.{IsJob}
 use Rattle.altarica_run.specs.Answers.{IsUntouched}
-use Rattle.altarica_run.specs.Files.{files_of, Loads}
+use Rattle.job_stages.specs.Files.{files_of, Loads}
 use Rattle.altarica_run.specs.Doing.{AnswersFor, RefusesWords, no_job, stage, not_read, AnswersWords}
-use Rattle.altarica_run.specs.Jobs.{AnswersJob}
-use Rattle.altarica_run.specs.Loading.{RefusesFiles, AnswersTexts, AreTexts, texts_of}
-use Rattle.altarica_run.specs.Loading as loading
-use Rattle.altarica_run.specs.Refusals.{line_of, status_of}
+use Rattle.job_stages.specs.Jobs.{AnswersJob}
+use Rattle.job_stages.specs.Loading.{RefusesFiles, AnswersTexts, AreTexts, texts_of}
+use Rattle.job_stages.specs.Loading as loading
+use Rattle.job_stages.specs.Refusals.{line_of, status_of}
 use Rattle.altarica_run.specs.Says.{Says, usage, refuses, tells, EndsSo}
 use Rattle.altarica_run.specs.Says as says
-use Rattle.altarica_run.specs.Stages.{Ready, Passes, not_loaded, loaded}
-use Rattle.altarica_run.specs.Telling.{IsWritten, whole, cut, nothing, IsWrittenFor, written, stopped}
-use Rattle.altarica_run.specs.Tells.{Tells}
-use Rattle.altarica_run.specs.declared.loading.Texts.{Texts}
-use Rattle.altarica_run.specs.declared.refusals.FileKind.{FileKind}
-use Rattle.altarica_run.specs.declared.refusals.Refusal.{Refusal}
-use Rattle.altarica_run.specs.declared.refusals.Refusal.TheVariants.{NotRead}
-use Rattle.altarica_run.specs.declared.status.Status.{Status}
-use Rattle.altarica_run.specs.declared.status.Status.TheVariants as status
-use Rattle.altarica_run.specs.declared.stops.Stop.{Stop}
-use Rattle.altarica_run.specs.declared.stops.Stop.TheVariants.{Refused, Memory}
+use Rattle.job_stages.specs.Stages.{Ready, Passes, not_loaded, loaded}
+use Rattle.job_stages.specs.Telling.{IsWritten, whole, cut, nothing, IsWrittenFor, written, stopped}
+use Rattle.job_stages.specs.Tells.{Tells}
+use Rattle.job_stages.specs.declared.loading.Texts.{Texts}
+use Rattle.job_stages.specs.declared.refusals.FileKind.{FileKind}
+use Rattle.job_stages.specs.declared.refusals.Refusal.{Refusal}
+use Rattle.job_stages.specs.declared.refusals.Refusal.TheVariants.{NotRead}
+use Rattle.job_stages.specs.declared.status.Status.{Status}
+use Rattle.job_stages.specs.declared.status.Status.TheVariants as status
+use Rattle.job_stages.specs.declared.stops.Stop.{Stop}
+use Rattle.job_stages.specs.declared.stops.Stop.TheVariants.{Refused, Memory}
 
 module _ (files : List ℕ → Told) (rose : List ℕ → Type 0) (words : List (List ℕ)) (old new : SinkState) where
   -- the texts that are written are among those that the words say

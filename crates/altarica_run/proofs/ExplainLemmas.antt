@@ -34,11 +34,11 @@ use Rattle.replayer.specs.declared.replaying.ReplayFault.{ReplayFault}
 use Rattle.replayer.specs.declared.replaying.ReplayFault.TheVariants as fault
 use Rattle.run_words.specs.declared.jobs.Job.{Job}
 use Rattle.run_words.specs.declared.verbs.Verb.TheVariants.{Explain}
-use Rattle.altarica_run.specs.Stages.{Ready}
-use Rattle.altarica_run.specs.Telling.{status_explained, IsWritten, whole, cut, nothing}
-use Rattle.altarica_run.specs.Tells.{Tells, explains, unsettled, IsObserverOf}
-use Rattle.altarica_run.specs.declared.status.Status.{Status}
-use Rattle.altarica_run.specs.declared.status.Status.TheVariants.{Done, Fault}
+use Rattle.job_stages.specs.Stages.{Ready}
+use Rattle.job_stages.specs.Telling.{status_explained, IsWritten, whole, cut, nothing}
+use Rattle.job_stages.specs.Tells.{Tells, explains, unsettled, IsObserverOf}
+use Rattle.job_stages.specs.declared.status.Status.{Status}
+use Rattle.job_stages.specs.declared.status.Status.TheVariants.{Done, Fault}
 
 module _ {V : Type 0} (sys : System V)
     (again : (t total : List Value) → Flows sys.net t (Total total) → Flows sys.net total (Total total)) where

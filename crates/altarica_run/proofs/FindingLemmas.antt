@@ -23,10 +23,10 @@ use Rattle.run_words.specs.declared.verbs.Verb.TheVariants.{Check, Flat, Replay,
 use Rattle.run_words.specs.Jobs.{IsJob}
 use Rattle.altarica_run.specs.Findings.{given_lines, GivesTheCuts, IsMissingIn, IsMissingOrder, ReplaysWhole, IsCheckOf, Suffices, IsExplanation}
 use Rattle.altarica_run.specs.Follows.{Call, Gave, Wrote}
-use Rattle.altarica_run.specs.Stages.{Ready, Passes}
-use Rattle.altarica_run.specs.Tells.{IsCheckedText, IsExplained, Tells, check, flat, replay, fragment, equations, cuts, make, explains, unsettled, checks, in_short, conflict, nodes}
-use Rattle.altarica_run.specs.declared.status.Status.{Status}
-use Rattle.altarica_run.specs.declared.status.Status.TheVariants as status
+use Rattle.job_stages.specs.Stages.{Ready, Passes}
+use Rattle.job_stages.specs.Tells.{IsCheckedText, IsExplained, Tells, check, flat, replay, fragment, equations, cuts, make, explains, unsettled, checks, in_short, conflict, nodes}
+use Rattle.job_stages.specs.declared.status.Status.{Status}
+use Rattle.job_stages.specs.declared.status.Status.TheVariants as status
 use Rattle.altarica_run.proofs.ExplainLemmas.{settled_total}
 use Rattle.altarica_run.proofs.FollowLemmas.{meaning_of}
 use Rattle.altarica_run.proofs.ListingLemmas.{is_done, events_alike, events_within, not_alike, within_both}

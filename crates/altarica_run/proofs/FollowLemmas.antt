@@ -10,22 +10,22 @@ use Rattle.replayer.specs.declared.replaying.End.TheVariants as end
 use Rattle.run_words.specs.Commands.{shape_of, is_script, is_list}
 use Rattle.run_words.specs.declared.jobs.Job.{Job}
 use Rattle.run_words.specs.Jobs.{IsJob}
-use Rattle.altarica_run.specs.Elaborates.{Elaborates, no_tokens, no_reading, too_deep, breaks, exceeds}
-use Rattle.altarica_run.specs.Files.{File, Loaded, long, later, files_of}
+use Rattle.job_stages.specs.Elaborates.{Elaborates, no_tokens, no_reading, too_deep, breaks, exceeds}
+use Rattle.job_stages.specs.Files.{File, Loaded, long, later, files_of}
 use Rattle.altarica_run.specs.Follows.{Call, Gave, SinkRose, RoseAt, Wrote, IsQuiet, IsSaid, IsPrefix, sink_before, sink_after}
-use Rattle.altarica_run.specs.Jobs.{IsNoJob}
-use Rattle.altarica_run.specs.Refusals.{line_of, status_of}
+use Rattle.job_stages.specs.Jobs.{IsNoJob}
+use Rattle.job_stages.specs.Refusals.{line_of, status_of}
 use Rattle.altarica_run.specs.Says.{Says, usage, refuses, tells, EndsSo}
 use Rattle.altarica_run.specs.Says as says
-use Rattle.altarica_run.specs.Stages.{Ready, bare, Passes, not_loaded, loaded, line_refused, cut_refused, Scripted, ListsCuts, Drops, Wanting, Showing, Static, is_static, Tabled, has_table, observer_asked}
-use Rattle.altarica_run.specs.Stages as stages
+use Rattle.job_stages.specs.Stages.{Ready, bare, Passes, not_loaded, loaded, line_refused, cut_refused, Scripted, ListsCuts, Drops, Wanting, Showing, Static, is_static, Tabled, has_table, observer_asked}
+use Rattle.job_stages.specs.Stages as stages
 use Rattle.altarica_run.specs.Statuses.{IsTold, IsRefused, Meaning_of}
-use Rattle.altarica_run.specs.Tells.{Tells, check, flat, replay, fragment, equations, cuts, make, unsettled, checks, in_short, conflict, nodes}
-use Rattle.altarica_run.specs.Tells as tells
-use Rattle.altarica_run.specs.declared.refusals.Refusal.{Refusal}
-use Rattle.altarica_run.specs.declared.refusals.Refusal.TheVariants.{Usage, NotRead, Size, Syntax, Rule, NoCommand, NoCut, NeedsWay, NoEvent, NoDropped, NoObserver, NoValue, Outside}
-use Rattle.altarica_run.specs.declared.status.Status.{Status}
-use Rattle.altarica_run.specs.declared.status.Status.TheVariants as status
+use Rattle.job_stages.specs.Tells.{Tells, check, flat, replay, fragment, equations, cuts, make, unsettled, checks, in_short, conflict, nodes}
+use Rattle.job_stages.specs.Tells as tells
+use Rattle.job_stages.specs.declared.refusals.Refusal.{Refusal}
+use Rattle.job_stages.specs.declared.refusals.Refusal.TheVariants.{Usage, NotRead, Size, Syntax, Rule, NoCommand, NoCut, NeedsWay, NoEvent, NoDropped, NoObserver, NoValue, Outside}
+use Rattle.job_stages.specs.declared.status.Status.{Status}
+use Rattle.job_stages.specs.declared.status.Status.TheVariants as status
 
 -- Refusals
 

@@ -7,12 +7,12 @@ use Rattle.ar_io.proofs.Gathering.{put_whole, put_front, put_nothing, rose_faile
 use Rattle.ar_io.specs.Gathering.{gathered_state}
 use Rattle.run_words.specs.declared.jobs.Job.{Job}
 use Rattle.altarica_run.specs.Doing.{AnswersFor}
-use Rattle.altarica_run.specs.Telling.{status_written, whole, cut, nothing, IsWrittenFor, written, stopped}
-use Rattle.altarica_run.specs.Tells.{Tells}
-use Rattle.altarica_run.specs.declared.loading.Texts.{Texts}
-use Rattle.altarica_run.specs.declared.status.Status.{Status}
-use Rattle.altarica_run.specs.declared.stops.Stop.{Stop}
-use Rattle.altarica_run.specs.declared.stops.Stop.TheVariants.{Refused, Memory}
+use Rattle.job_stages.specs.Telling.{status_written, whole, cut, nothing, IsWrittenFor, written, stopped}
+use Rattle.job_stages.specs.Tells.{Tells}
+use Rattle.job_stages.specs.declared.loading.Texts.{Texts}
+use Rattle.job_stages.specs.declared.status.Status.{Status}
+use Rattle.job_stages.specs.declared.stops.Stop.{Stop}
+use Rattle.job_stages.specs.declared.stops.Stop.TheVariants.{Refused, Memory}
 
 -- how the text of gathered output goes on to the sink in the end
 pub record IsHandedOn (start now : SinkState) (text : List ℕ) (failed : Bool) (r : Result (Unit {0}) SinkFailed)

@@ -6,23 +6,23 @@ use Rattle.ar_io.specs.Outside.{Told, Bytes, Absent, Untold, MayBeLonger, IsFile
 use Rattle.run_words.specs.declared.jobs.Job.{Job}
 use Rattle.run_words.specs.declared.verbs.Verb.TheVariants.{Replay}
 use Rattle.run_words.specs.Jobs.{IsJob}
-use Rattle.altarica_run.specs.Files.{File, model_file, script_files, files_where, files_of, Loaded, none, long, later, whole, Loads, this, next}
+use Rattle.job_stages.specs.Files.{File, model_file, script_files, files_where, files_of, Loaded, none, long, later, whole, Loads, this, next}
 use Rattle.altarica_run.specs.Follows.{Call, Gave, IsKnown, IsQuiet, IsShelfSame, LacksScript, script, Wrote, RoseAt, SinkRose, sink_before, sink_after}
 use Rattle.altarica_run.specs.Follows as lacks
-use Rattle.altarica_run.specs.Jobs.{IsNoJob, LoadsNothing, makes_model}
-use Rattle.altarica_run.specs.Refusals.{line_of, status_of}
+use Rattle.job_stages.specs.Jobs.{IsNoJob, LoadsNothing, makes_model}
+use Rattle.job_stages.specs.Refusals.{line_of, status_of}
 use Rattle.altarica_run.specs.Says.{Says, usage, refuses, tells, EndsSo}
 use Rattle.altarica_run.specs.Says as says
-use Rattle.altarica_run.specs.Stages.{Ready, Passes, not_loaded, loaded}
+use Rattle.job_stages.specs.Stages.{Ready, Passes, not_loaded, loaded}
 use Rattle.altarica_run.specs.Statuses.{Meaning_of}
-use Rattle.altarica_run.specs.declared.refusals.FileKind.{FileKind}
-use Rattle.altarica_run.specs.declared.refusals.FileKind.TheVariants.{Model}
-use Rattle.altarica_run.specs.declared.refusals.Refusal.{Refusal}
-use Rattle.altarica_run.specs.declared.refusals.Refusal.TheVariants.{NotRead, Size}
-use Rattle.altarica_run.specs.declared.status.Status.{Status}
-use Rattle.altarica_run.specs.declared.status.Status.TheVariants as status
+use Rattle.job_stages.specs.declared.refusals.FileKind.{FileKind}
+use Rattle.job_stages.specs.declared.refusals.FileKind.TheVariants.{Model}
+use Rattle.job_stages.specs.declared.refusals.Refusal.{Refusal}
+use Rattle.job_stages.specs.declared.refusals.Refusal.TheVariants.{NotRead, Size}
+use Rattle.job_stages.specs.declared.status.Status.{Status}
+use Rattle.job_stages.specs.declared.status.Status.TheVariants as status
 use Rattle.altarica_run.proofs.FollowLemmas.{is_memory, said_no_memory, meaning_of}
-use Rattle.altarica_run.proofs.JobLemmas.{made_job}
+use Rattle.job_stages.proofs.JobLemmas.{made_job}
 
 -- Files
 

@@ -1,13 +1,5 @@
-pub mod LineLemmas
-pub mod FileLemmas
-pub mod JobLemmas
-pub mod ElaborateLemmas
-pub mod PassLemmas
-pub mod ForestLemmas
-pub mod TableLemmas
-pub mod TellLemmas
+pub mod GivenLemmas
 pub mod GatherLemmas
-pub mod CutLemmas
 pub mod CommandLemmas
 pub mod EndLemmas
 pub mod FollowLemmas

@@ -14,10 +14,10 @@ use Rattle.run_words.specs.declared.verbs.Verb.TheVariants.{Check, Flat, Replay,
 use Rattle.run_words.specs.Jobs.{IsJob}
 use Rattle.altarica_run.specs.Follows.{Call, Gave, Wrote}
 use Rattle.altarica_run.specs.Listings.{IsCut, IsCutOrder, IsListing}
-use Rattle.altarica_run.specs.Stages.{Ready, Passes}
-use Rattle.altarica_run.specs.Tells.{IsCutsText, Tells, check, flat, replay, fragment, equations, cuts, make, explains, unsettled, checks, in_short, conflict, nodes}
-use Rattle.altarica_run.specs.declared.status.Status.{Status}
-use Rattle.altarica_run.specs.declared.status.Status.TheVariants as status
+use Rattle.job_stages.specs.Stages.{Ready, Passes}
+use Rattle.job_stages.specs.Tells.{IsCutsText, Tells, check, flat, replay, fragment, equations, cuts, make, explains, unsettled, checks, in_short, conflict, nodes}
+use Rattle.job_stages.specs.declared.status.Status.{Status}
+use Rattle.job_stages.specs.declared.status.Status.TheVariants as status
 use Rattle.altarica_run.proofs.FollowLemmas.{meaning_of}
 
 -- The text of a listing

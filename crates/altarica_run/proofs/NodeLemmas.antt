@@ -14,11 +14,11 @@ use Rattle.zdd_families.specs.Families.{Family}
 use Rattle.zdd_families.specs.Sections.{IsMoreThan}
 use Rattle.altarica_run.specs.Follows.{Call, Gave, SinkRose}
 use Rattle.altarica_run.specs.Nodes.{HasConflict, HasEnough, IsTextOfCuts, OfAllReady}
-use Rattle.altarica_run.specs.Stages.{Ready, Passes, lists_cuts}
+use Rattle.job_stages.specs.Stages.{Ready, Passes, lists_cuts}
 use Rattle.altarica_run.specs.Statuses.{IsTold, IsRefused, IsNotRead, Meaning_of}
-use Rattle.altarica_run.specs.Tells.{MayNeedMore, Tells, check, flat, replay, fragment, equations, cuts, make, explains, unsettled, checks, in_short, conflict, nodes}
-use Rattle.altarica_run.specs.declared.status.Status.{Status}
-use Rattle.altarica_run.specs.declared.status.Status.TheVariants as status
+use Rattle.job_stages.specs.Tells.{MayNeedMore, Tells, check, flat, replay, fragment, equations, cuts, make, explains, unsettled, checks, in_short, conflict, nodes}
+use Rattle.job_stages.specs.declared.status.Status.{Status}
+use Rattle.job_stages.specs.declared.status.Status.TheVariants as status
 use Rattle.altarica_run.proofs.FollowLemmas.{meaning_of}
 
 -- Smaller limits

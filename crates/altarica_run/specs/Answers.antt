@@ -1,9 +1,9 @@
 -- What a call of the program answers.
 use Rattle.std.specs.Prelude.{◌≡◌, ℕ, List, Option}
 use Rattle.ar_io.specs.Outside.{Told, Rose}
-use Rattle.altarica_run.specs.Jobs.{LoadsNothing}
+use Rattle.job_stages.specs.Jobs.{LoadsNothing}
 use Rattle.altarica_run.specs.Says.{EndsSo}
-use Rattle.altarica_run.specs.declared.status.Status.{Status}
+use Rattle.job_stages.specs.declared.status.Status.{Status}
 
 -- what is told of the file and its count of faults are as they were
 pub record IsUntouched (told_old told_new : Told) (faults_old faults_new : ℕ) : Type 0 where

@@ -7,21 +7,21 @@ use Rattle.ar_io.specs.Writing.{SinkState}
 use Rattle.run_words.specs.Commands.{shape_of, is_second}
 use Rattle.run_words.specs.Jobs.{IsJob}
 use Rattle.run_words.specs.declared.jobs.Job.{Job}
-use Rattle.altarica_run.specs.Files.{files_of, Loads}
-use Rattle.altarica_run.specs.Jobs.{IsNoJob}
-use Rattle.altarica_run.specs.Loading.{texts_of}
-use Rattle.altarica_run.specs.Passing.{IsThere}
+use Rattle.job_stages.specs.Files.{files_of, Loads}
+use Rattle.job_stages.specs.Jobs.{IsNoJob}
+use Rattle.job_stages.specs.Loading.{texts_of}
+use Rattle.job_stages.specs.Passing.{IsThere}
 use Rattle.altarica_run.specs.Says.{EndsSo}
-use Rattle.altarica_run.specs.Stages.{Ready, Passes, Stages, has_table, observer_asked}
-use Rattle.altarica_run.specs.Telling.{IsWrittenFor}
-use Rattle.altarica_run.specs.Tells.{Tells}
-use Rattle.altarica_run.specs.declared.loading.Texts.{Texts}
-use Rattle.altarica_run.specs.declared.refusals.FileKind.{FileKind}
-use Rattle.altarica_run.specs.declared.refusals.Refusal.{Refusal}
-use Rattle.altarica_run.specs.declared.refusals.Refusal.TheVariants.{Usage, NotRead}
-use Rattle.altarica_run.specs.declared.status.Status.{Status}
-use Rattle.altarica_run.specs.declared.stops.Stop.{Stop}
-use Rattle.altarica_run.specs.declared.stops.Stop.TheVariants.{Refused, Memory}
+use Rattle.job_stages.specs.Stages.{Ready, Passes, Stages, has_table, observer_asked}
+use Rattle.job_stages.specs.Telling.{IsWrittenFor}
+use Rattle.job_stages.specs.Tells.{Tells}
+use Rattle.job_stages.specs.declared.loading.Texts.{Texts}
+use Rattle.job_stages.specs.declared.refusals.FileKind.{FileKind}
+use Rattle.job_stages.specs.declared.refusals.Refusal.{Refusal}
+use Rattle.job_stages.specs.declared.refusals.Refusal.TheVariants.{Usage, NotRead}
+use Rattle.job_stages.specs.declared.status.Status.{Status}
+use Rattle.job_stages.specs.declared.stops.Stop.{Stop}
+use Rattle.job_stages.specs.declared.stops.Stop.TheVariants.{Refused, Memory}
 
 -- Commands
 

@@ -20,8 +20,8 @@ use Rattle.typed_expr.specs.Yields.{Yields}
 use Rattle.typed_expr.specs.declared.expr.Expr.{Expr, out-Expr}
 use Rattle.altarica_run.specs.Follows.{Call, Wrote}
 use Rattle.altarica_run.specs.Listings.{IsCutOrder}
-use Rattle.altarica_run.specs.Stages.{Ready, Passes}
-use Rattle.altarica_run.specs.Tells.{HasCuts, IsObserverOf}
+use Rattle.job_stages.specs.Stages.{Ready, Passes}
+use Rattle.job_stages.specs.Tells.{HasCuts, IsObserverOf}
 
 -- Checks of lists
 

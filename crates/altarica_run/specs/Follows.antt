@@ -4,11 +4,11 @@ use Rattle.ar_io.specs.Outside.{Told, Bytes, Absent, Untold, Rose}
 use Rattle.ar_io.specs.Writing.{SinkState, Appended, WroteFront}
 use Rattle.altarica_run.specs.Answers.{Answers, IsUntouched}
 use Rattle.run_words.specs.declared.jobs.Job.{Job}
-use Rattle.altarica_run.specs.Refusals.{line_of}
+use Rattle.job_stages.specs.Refusals.{line_of}
 use Rattle.altarica_run.specs.Says.{Says, Begins}
-use Rattle.altarica_run.specs.declared.refusals.FileKind.TheVariants.{Model, Script}
-use Rattle.altarica_run.specs.declared.refusals.Refusal.TheVariants.{NotRead}
-use Rattle.altarica_run.specs.declared.status.Status.{Status}
+use Rattle.job_stages.specs.declared.refusals.FileKind.TheVariants.{Model, Script}
+use Rattle.job_stages.specs.declared.refusals.Refusal.TheVariants.{NotRead}
+use Rattle.job_stages.specs.declared.status.Status.{Status}
 
 -- a call: its words, and what is told of files, the counts of faults of names, the sink's bytes and the sink's count,
 -- each before and after

@@ -7,8 +7,8 @@ use Rattle.cut_text.specs.Texts.{count_line, label_lists}
 use Rattle.gts_flatten.specs.Flat.{naming_of}
 use Rattle.run_words.specs.declared.jobs.Job.{Job}
 use Rattle.altarica_run.specs.Follows.{Call, Wrote}
-use Rattle.altarica_run.specs.Stages.{Ready, Passes}
-use Rattle.altarica_run.specs.Tells.{HasCuts, Replays}
+use Rattle.job_stages.specs.Stages.{Ready, Passes}
+use Rattle.job_stages.specs.Tells.{HasCuts, Replays}
 
 -- the set is a cut of the observer's value that is asked for
 abbrev pub IsCut : (w : Ready) → HasCuts w → List ℕ → Type 0

@@ -5,8 +5,8 @@ use Rattle.run_words.specs.declared.jobs.Job.{Job}
 use Rattle.run_words.specs.declared.verbs.Verb.{Verb}
 use Rattle.run_words.specs.declared.verbs.Verb.TheVariants.{Cuts, Make, CheckCuts, Modules}
 use Rattle.altarica_run.specs.Follows.{Call}
-use Rattle.altarica_run.specs.Stages.{Ready, Passes}
-use Rattle.altarica_run.specs.Tells.{IsCutsText, IsMakeText, IsCheckedText, IsShortText, MayNeedMore}
+use Rattle.job_stages.specs.Stages.{Ready, Passes}
+use Rattle.job_stages.specs.Tells.{IsCutsText, IsMakeText, IsCheckedText, IsShortText, MayNeedMore}
 
 -- some set of events that are not dropped meets a conflict
 abbrev pub HasConflict : Ready → Type 0

@@ -5,16 +5,16 @@ use Rattle.ar_io.specs.Writing.{SinkState, Appended, WroteFront}
 use Rattle.run_words.specs.declared.jobs.Job.{Job}
 use Rattle.run_words.specs.declared.verbs.Verb.TheVariants.{Replay}
 use Rattle.run_words.specs.Jobs.{IsJob}
-use Rattle.altarica_run.specs.Files.{files_of, Loads}
-use Rattle.altarica_run.specs.Jobs.{IsNoJob}
-use Rattle.altarica_run.specs.Refusals.{line_of, status_of}
-use Rattle.altarica_run.specs.Stages.{Ready, Passes}
-use Rattle.altarica_run.specs.Tells.{Tells}
-use Rattle.altarica_run.specs.declared.refusals.FileKind.{FileKind}
-use Rattle.altarica_run.specs.declared.refusals.Refusal.{Refusal}
-use Rattle.altarica_run.specs.declared.refusals.Refusal.TheVariants.{Usage, NotRead}
-use Rattle.altarica_run.specs.declared.status.Status.{Status}
-use Rattle.altarica_run.specs.declared.status.Status.TheVariants as status
+use Rattle.job_stages.specs.Files.{files_of, Loads}
+use Rattle.job_stages.specs.Jobs.{IsNoJob}
+use Rattle.job_stages.specs.Refusals.{line_of, status_of}
+use Rattle.job_stages.specs.Stages.{Ready, Passes}
+use Rattle.job_stages.specs.Tells.{Tells}
+use Rattle.job_stages.specs.declared.refusals.FileKind.{FileKind}
+use Rattle.job_stages.specs.declared.refusals.Refusal.{Refusal}
+use Rattle.job_stages.specs.declared.refusals.Refusal.TheVariants.{Usage, NotRead}
+use Rattle.job_stages.specs.declared.status.Status.{Status}
+use Rattle.job_stages.specs.declared.status.Status.TheVariants as status
 
 -- the words over these files say this text and end so: they are no job, or a stage of the job refuses, or all stages
 -- are passed

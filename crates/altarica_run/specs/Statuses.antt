@@ -1,32 +1,18 @@
--- The exit status of each way to end, and what each means.
+-- What each way to end means.
 use Rattle.std.specs.Prelude.{◌≡◌, ℕ, List, Ok, Err}
 use Rattle.run_words.specs.declared.jobs.Job.{Job}
 use Rattle.run_words.specs.Jobs.{IsJob}
-use Rattle.altarica_run.specs.Files.{files_of, Loads}
+use Rattle.job_stages.specs.Files.{files_of, Loads}
 use Rattle.altarica_run.specs.Follows.{Call, RoseAt, SinkRose, Wrote}
-use Rattle.altarica_run.specs.Jobs.{IsNoJob}
-use Rattle.altarica_run.specs.Refusals.{line_of, status_of}
-use Rattle.altarica_run.specs.Stages.{Ready, Passes}
-use Rattle.altarica_run.specs.Tells.{Tells}
-use Rattle.altarica_run.specs.declared.refusals.FileKind.{FileKind}
-use Rattle.altarica_run.specs.declared.refusals.Refusal.{Refusal}
-use Rattle.altarica_run.specs.declared.refusals.Refusal.TheVariants as refusal
-use Rattle.altarica_run.specs.declared.status.Status.{Status}
-use Rattle.altarica_run.specs.declared.status.Status.TheVariants.{Done, Usage, Syntax, Rule, Outside, Fault, Nodes, Read, Write, Memory, Size, Script}
-
-abbrev pub number_of : Status → ℕ
-number_of Done = 0
-number_of Usage = 1
-number_of Syntax = 2
-number_of Rule = 3
-number_of Outside = 4
-number_of Fault = 5
-number_of Nodes = 6
-number_of Read = 7
-number_of Write = 8
-number_of Memory = 9
-number_of Size = 10
-number_of Script = 11
+use Rattle.job_stages.specs.Jobs.{IsNoJob}
+use Rattle.job_stages.specs.Refusals.{line_of, status_of}
+use Rattle.job_stages.specs.Stages.{Ready, Passes}
+use Rattle.job_stages.specs.Tells.{Tells}
+use Rattle.job_stages.specs.declared.refusals.FileKind.{FileKind}
+use Rattle.job_stages.specs.declared.refusals.Refusal.{Refusal}
+use Rattle.job_stages.specs.declared.refusals.Refusal.TheVariants as refusal
+use Rattle.job_stages.specs.declared.status.Status.{Status}
+use Rattle.job_stages.specs.declared.status.Status.TheVariants.{Done, Usage, Syntax, Rule, Outside, Fault, Nodes, Read, Write, Memory, Size, Script}
 
 -- all stages of the job are passed, and its whole text was written
 pub record IsTold (c : Call) (status : Status) : Type 0 where

@@ -5,24 +5,20 @@
 ghost use Rattle.std.specs.Prelude.{◌≡◌};
 ghost use Rattle.altarica_run.specs.Doing.{AreGiven, AnswersFor};
 
-use crate::analysing::{dropped_of, forest_of};
 use crate::checking::write_check;
-use crate::cutting::{draw, write_conflict, write_cuts, write_nodes};
-use crate::elaborating::elaborate;
 use crate::explaining::write_reasons;
-use crate::loading::Texts;
 use crate::making::write_made;
-use crate::requesting::{chains_of, commands_of, request_of, shown_of};
 use crate::shortening::write_modules;
-use crate::status::Status;
-use crate::stops::Stop;
-use crate::tabling::table_of;
-use crate::telling::{explained, printed, replayed, write_counts, written};
 use ar_io::Sink;
 use aralia_text::print;
 use cut_text::forest_laws::forests_of_the_source;
 use cut_text::print_forest;
 use gate_diagrams::Drawn;
+use job_stages::{
+    Status, Stop, Texts, chains_of, commands_of, draw, dropped_of, elaborate, explained, forest_of,
+    printed, replayed, request_of, shown_of, table_of, write_conflict, write_counts, write_cuts,
+    write_nodes, written,
+};
 use module_text::ranges;
 use replayer::laws::replays_of_the_source;
 use run_words::{Job, Verb};

@@ -3,16 +3,16 @@
 ghost use Rattle.std.specs.Prelude.{◌≡◌};
 ghost use Rattle.run_words.specs.declared.jobs.Job.{Job};
 ghost use Rattle.run_words.specs.declared.verbs.Verb.TheVariants.{Explain as ExplainAsked};
-ghost use Rattle.altarica_run.specs.Passing.{IsScripted};
-ghost use Rattle.altarica_run.specs.Stages.{Ready};
-ghost use Rattle.altarica_run.specs.Telling.{IsWritten, status_explained};
-ghost use Rattle.altarica_run.specs.Tells.{Tells};
+ghost use Rattle.job_stages.specs.Passing.{IsScripted};
+ghost use Rattle.job_stages.specs.Stages.{Ready};
+ghost use Rattle.job_stages.specs.Telling.{IsWritten, status_explained};
+ghost use Rattle.job_stages.specs.Tells.{Tells};
 
-use crate::status::Status;
 use ar_io::Sink;
 use gts_core::Gts;
 use gts_core::laws::one_system;
 use job_inputs::Command;
+use job_stages::Status;
 use reason_text::laws::reasons_of_the_source;
 use reason_text::print_reasons;
 use replayer::laws::settles_of_the_source;

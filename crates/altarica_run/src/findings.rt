@@ -6,7 +6,7 @@ ghost use Rattle.run_words.specs.declared.verbs.Verb.TheVariants.{CheckCuts, Exp
 ghost use Rattle.run_words.specs.Jobs.{IsJob};
 ghost use Rattle.altarica_run.specs.Findings.{IsCheckOf, IsExplanation};
 ghost use Rattle.altarica_run.specs.Follows.{Call, Gave};
-ghost use Rattle.altarica_run.specs.declared.status.Status.TheVariants as status;
+ghost use Rattle.job_stages.specs.declared.status.Status.TheVariants as status;
 
 use crate::laws::one_job;
 

@@ -4,10 +4,10 @@ ghost use Rattle.std.specs.Prelude.{◌≡◌, ◌≢◌, ◌⊎◌};
 ghost use Rattle.run_words.specs.declared.jobs.Job.{Job};
 ghost use Rattle.run_words.specs.Jobs.{IsJob};
 ghost use Rattle.altarica_run.specs.Follows.{Call, Gave, SinkRose, IsQuiet, IsPrefix, IsSaid};
-ghost use Rattle.altarica_run.specs.Jobs.{IsNoJob};
+ghost use Rattle.job_stages.specs.Jobs.{IsNoJob};
 ghost use Rattle.altarica_run.specs.Statuses.{IsTold, IsRefused, Meaning_of};
-ghost use Rattle.altarica_run.specs.declared.status.Status.{Status};
-ghost use Rattle.altarica_run.specs.declared.status.Status.TheVariants as status;
+ghost use Rattle.job_stages.specs.declared.status.Status.{Status};
+ghost use Rattle.job_stages.specs.declared.status.Status.TheVariants as status;
 
 /// What a call answers, in words.
 ///

@@ -7,18 +7,18 @@ ghost use Rattle.ar_io.specs.Outside.{Told, Bytes, Absent};
 ghost use Rattle.run_words.specs.declared.jobs.Job.{Job};
 ghost use Rattle.run_words.specs.declared.verbs.Verb.TheVariants.{Cuts, Replay};
 ghost use Rattle.run_words.specs.Jobs.{IsJob};
-ghost use Rattle.altarica_run.specs.Files.{File, Loaded};
+ghost use Rattle.job_stages.specs.Files.{File, Loaded};
 ghost use Rattle.altarica_run.specs.Follows.{Call, Gave, IsKnown, IsQuiet, IsShelfSame, LacksScript};
 ghost use Rattle.altarica_run.specs.Follows.{Wrote, RoseAt, SinkRose, sink_before, sink_after};
-ghost use Rattle.altarica_run.specs.Jobs.{IsNoJob, makes_model};
+ghost use Rattle.job_stages.specs.Jobs.{IsNoJob, makes_model};
 ghost use Rattle.altarica_run.specs.Listings.{IsListing};
-ghost use Rattle.altarica_run.specs.Refusals.{line_of};
-ghost use Rattle.altarica_run.specs.Stages.{Ready, Passes};
-ghost use Rattle.altarica_run.specs.declared.refusals.FileKind.TheVariants.{Model};
-ghost use Rattle.altarica_run.specs.declared.refusals.Refusal.{Refusal};
-ghost use Rattle.altarica_run.specs.declared.refusals.Refusal.TheVariants.{NotRead, Size};
-ghost use Rattle.altarica_run.specs.declared.status.Status.{Status};
-ghost use Rattle.altarica_run.specs.declared.status.Status.TheVariants as status;
+ghost use Rattle.job_stages.specs.Refusals.{line_of};
+ghost use Rattle.job_stages.specs.Stages.{Ready, Passes};
+ghost use Rattle.job_stages.specs.declared.refusals.FileKind.TheVariants.{Model};
+ghost use Rattle.job_stages.specs.declared.refusals.Refusal.{Refusal};
+ghost use Rattle.job_stages.specs.declared.refusals.Refusal.TheVariants.{NotRead, Size};
+ghost use Rattle.job_stages.specs.declared.status.Status.{Status};
+ghost use Rattle.job_stages.specs.declared.status.Status.TheVariants as status;
 
 /// Words give at most one job.
 pub fn one_job()

@@ -8,11 +8,11 @@ ghost use Rattle.run_words.specs.declared.jobs.Job.{Job};
 ghost use Rattle.run_words.specs.Jobs.{IsJob};
 ghost use Rattle.altarica_run.specs.Follows.{Call, Gave, SinkRose};
 ghost use Rattle.altarica_run.specs.Nodes.{HasConflict, HasEnough, IsTextOfCuts, OfAllReady};
-ghost use Rattle.altarica_run.specs.Stages.{Ready, lists_cuts};
+ghost use Rattle.job_stages.specs.Stages.{Ready, lists_cuts};
 ghost use Rattle.altarica_run.specs.Statuses.{IsRefused, IsNotRead};
-ghost use Rattle.altarica_run.specs.Tells.{MayNeedMore, Tells};
-ghost use Rattle.altarica_run.specs.declared.status.Status.{Status};
-ghost use Rattle.altarica_run.specs.declared.status.Status.TheVariants as status;
+ghost use Rattle.job_stages.specs.Tells.{MayNeedMore, Tells};
+ghost use Rattle.job_stages.specs.declared.status.Status.{Status};
+ghost use Rattle.job_stages.specs.declared.status.Status.TheVariants as status;
 
 use crate::laws::one_job;
 

@@ -6,15 +6,11 @@ ghost use Rattle.ar_base.specs.Texts.{bytes_of_all};
 ghost use Rattle.ar_io.specs.Outside.{Rose};
 ghost use Rattle.altarica_run.specs.Answers.{Answers};
 ghost use Rattle.altarica_run.specs.Doing.{AreGiven, AnswersFor, AnswersWords};
-ghost use Rattle.altarica_run.specs.Jobs.{LoadsNothing};
+ghost use Rattle.job_stages.specs.Jobs.{LoadsNothing};
 
 use crate::commands::run;
-use crate::jobs::job_of;
-use crate::loading::{Texts, job_texts};
-use crate::status::Status;
-use crate::stops::Stop;
-use crate::telling::{refuse, written};
 use ar_io::{Beginning, Gathered, Shelf, Sink, room};
+use job_stages::{Status, Stop, Texts, job_of, job_texts, refuse, written};
 use run_words::Job;
 use std::alloc::Global;
 use std::marker::Brand;

@@ -6,15 +6,15 @@ use Rattle.parser_laws.specs.Models.{HasOneTree}
 use Rattle.gts_flatten.specs.Elaborating.{Elaborated}
 use Rattle.run_words.specs.declared.jobs.Job.{Job}
 use Rattle.run_words.specs.Jobs.{IsJob}
-use Rattle.altarica_run.specs.Elaborates.{Elaborates}
-use Rattle.altarica_run.specs.Files.{File, files_of, Loaded}
-use Rattle.altarica_run.specs.Refusals.{line_of, status_of}
+use Rattle.job_stages.specs.Elaborates.{Elaborates}
+use Rattle.job_stages.specs.Files.{File, files_of, Loaded}
+use Rattle.job_stages.specs.Refusals.{line_of, status_of}
 use Rattle.altarica_run.specs.Says.{Says, usage}
 use Rattle.altarica_run.specs.Says as words
-use Rattle.altarica_run.specs.Stages.{Ready, Readies, Stages, Passes, not_loaded, loaded}
-use Rattle.altarica_run.specs.Tells.{Tells}
-use Rattle.altarica_run.specs.declared.refusals.Refusal.{Refusal}
-use Rattle.altarica_run.specs.declared.status.Status.{Status}
+use Rattle.job_stages.specs.Stages.{Ready, Readies, Stages, Passes, not_loaded, loaded}
+use Rattle.job_stages.specs.Tells.{Tells}
+use Rattle.job_stages.specs.declared.refusals.Refusal.{Refusal}
+use Rattle.job_stages.specs.declared.status.Status.{Status}
 use Rattle.source_laws.specs.Sources.{SameSource}
 use Rattle.ready_laws.specs.Ready.{SameReady}
 use Rattle.job_laws.specs.Definite.{IsDefinite, SaysOf, AgreeButNodes}

@@ -3,14 +3,14 @@ use Rattle.std.proofs.Common.{◌≡◌, ◌⊎◌, ℕ, true, false, List, Resu
 use Rattle.run_words.specs.declared.jobs.Job.{Job}
 use Rattle.run_words.specs.Jobs.{IsJob}
 use Rattle.altarica_run.specs.Follows.{Call, Gave, Wrote}
-use Rattle.altarica_run.specs.Refusals.{line_of, status_of}
+use Rattle.job_stages.specs.Refusals.{line_of, status_of}
 use Rattle.altarica_run.specs.Says.{Says, tells}
-use Rattle.altarica_run.specs.Stages.{Ready, Passes, lists_cuts}
+use Rattle.job_stages.specs.Stages.{Ready, Passes, lists_cuts}
 use Rattle.altarica_run.specs.Statuses.{IsTold, IsRefused}
-use Rattle.altarica_run.specs.Tells.{Tells}
-use Rattle.altarica_run.specs.declared.refusals.Refusal.{Refusal}
-use Rattle.altarica_run.specs.declared.status.Status.{Status}
-use Rattle.altarica_run.specs.declared.status.Status.TheVariants as status
+use Rattle.job_stages.specs.Tells.{Tells}
+use Rattle.job_stages.specs.declared.refusals.Refusal.{Refusal}
+use Rattle.job_stages.specs.declared.status.Status.{Status}
+use Rattle.job_stages.specs.declared.status.Status.TheVariants as status
 use Rattle.altarica_run.proofs.FollowLemmas.{meaning_of}
 use Rattle.unit_laws.specs.Answers.{SameAnswer}
 use Rattle.ready_laws.specs.Ready.{SameReady}

@@ -17,9 +17,9 @@ use Rattle.job_inputs.specs.Wanting.{IsWanted, NamesObserver, NamesNone, WantsNo
 use Rattle.job_laws.proofs.Labels.{along_one, one_event, one_meaning}
 use Rattle.job_laws.proofs.Observers.{observer_once, wanted_once, wanted_apart}
 use Rattle.job_laws.proofs.Scripts.{script_once}
-use Rattle.altarica_run.specs.Stages.{Ready, bare, line_refused, Scripted, cut_refused, ListsCuts, Drops, Wanting, has_table, observer_asked, Showing, AsksByWords, Asks}
-use Rattle.altarica_run.specs.Stages as s
-use Rattle.altarica_run.specs.declared.refusals.Refusal.{Refusal}
+use Rattle.job_stages.specs.Stages.{Ready, bare, line_refused, Scripted, cut_refused, ListsCuts, Drops, Wanting, has_table, observer_asked, Showing, AsksByWords, Asks}
+use Rattle.job_stages.specs.Stages as s
+use Rattle.job_stages.specs.declared.refusals.Refusal.{Refusal}
 use Rattle.job_laws.specs.Definite.{IsDefinite}
 use Rattle.job_laws.proofs.Stages.{IsOne, PassesOn, then_one, then_on, where_one, where_on, same_ok, same_err, ok_err}
 

@@ -26,12 +26,12 @@ use Rattle.run_words.specs.declared.shapes.Form.TheVariants as form
 use Rattle.run_words.specs.declared.verbs.Verb.{Verb}
 use Rattle.run_words.specs.declared.verbs.Verb.TheVariants.{Check, Flat, Replay, Fragment, Equations, Cuts, Make, Explain, CheckCuts, Modules}
 use Rattle.run_words.specs.Jobs.{IsJob, OptionsFit}
-use Rattle.altarica_run.specs.Elaborates.{Elaborates}
-use Rattle.altarica_run.specs.Files.{files_of, Loaded, IsText, first}
-use Rattle.altarica_run.specs.Stages as s
-use Rattle.altarica_run.specs.Stages.{Ready, bare, Asks, Demands, Readies, ListsCuts, Drops, AsksByWords, IsTableOf, line_refused, cut_refused, spot_path, has_table, observer_asked, is_static, Passes, loaded}
-use Rattle.altarica_run.specs.declared.refusals.Refusal.{Refusal}
-use Rattle.altarica_run.specs.declared.refusals.Refusal.TheVariants.{Size, NoDropped, NoObserver, NoValue, Outside}
+use Rattle.job_stages.specs.Elaborates.{Elaborates}
+use Rattle.job_stages.specs.Files.{files_of, Loaded, IsText, first}
+use Rattle.job_stages.specs.Stages as s
+use Rattle.job_stages.specs.Stages.{Ready, bare, Asks, Demands, Readies, ListsCuts, Drops, AsksByWords, IsTableOf, line_refused, cut_refused, spot_path, has_table, observer_asked, is_static, Passes, loaded}
+use Rattle.job_stages.specs.declared.refusals.Refusal.{Refusal}
+use Rattle.job_stages.specs.declared.refusals.Refusal.TheVariants.{Size, NoDropped, NoObserver, NoValue, Outside}
 use Rattle.job_laws.proofs.Findings.{scripted_source, listed_source, dropped_source, wanted_source, shown_source}
 
 -- Stages that may be left out

@@ -22,11 +22,11 @@ use Rattle.source_meaning.specs.Systems.{Declarations, Binds, name_breaks}
 use Rattle.sync_expand.specs.Counting.{way_rules}
 use Rattle.unit_rules.specs.Limits.{FitsLimits, variables_counted, events_counted, unfolded_nodes}
 use Rattle.unit_walks.specs.Unfolding.{Unfolds, over, IsFirstOver}
-use Rattle.altarica_run.specs.Elaborates.{Systems, Tables, reads, Ruled, breaks, exceeds}
-use Rattle.altarica_run.specs.Files.{files_of, Loaded, IsText}
-use Rattle.altarica_run.specs.Stages.{Passes, loaded}
-use Rattle.altarica_run.specs.declared.refusals.Refusal.{Refusal}
-use Rattle.altarica_run.specs.declared.refusals.Refusal.TheVariants.{Rule, Size}
+use Rattle.job_stages.specs.Elaborates.{Systems, Tables, reads, Ruled, breaks, exceeds}
+use Rattle.job_stages.specs.Files.{files_of, Loaded, IsText}
+use Rattle.job_stages.specs.Stages.{Passes, loaded}
+use Rattle.job_stages.specs.declared.refusals.Refusal.{Refusal}
+use Rattle.job_stages.specs.declared.refusals.Refusal.TheVariants.{Rule, Size}
 
 module _ (files : List ℕ → Told) (job : Job) (texts : List (List ℕ)) (text : List ℕ)
     (is_loaded : Loaded files (files_of job) (Ok texts)) (is_text : IsText job texts text) (m : Model)

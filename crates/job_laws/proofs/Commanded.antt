@@ -11,10 +11,10 @@ use Rattle.run_words.specs.declared.verbs.Verb.{Verb}
 use Rattle.run_words.specs.declared.verbs.Verb.TheVariants as verb
 use Rattle.table_text.specs.Texts.{IsTableText}
 use Rattle.altarica_run.specs.Follows.{Call, Wrote}
-use Rattle.altarica_run.specs.Stages.{Ready}
-use Rattle.altarica_run.specs.Tells.{Tells, IsExplained, status_at}
-use Rattle.altarica_run.specs.declared.status.Status.{Status}
-use Rattle.altarica_run.specs.declared.status.Status.TheVariants.{Done, Fault}
+use Rattle.job_stages.specs.Stages.{Ready}
+use Rattle.job_stages.specs.Tells.{Tells, IsExplained, status_at}
+use Rattle.job_stages.specs.declared.status.Status.{Status}
+use Rattle.job_stages.specs.declared.status.Status.TheVariants.{Done, Fault}
 use Rattle.job_laws.specs.Told.{IsStopped, IsAnswered, IsToldWith}
 use Rattle.job_laws.proofs.Asking.{same_some}
 use Rattle.job_laws.proofs.Enough.{told_with}

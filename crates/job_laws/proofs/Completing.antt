@@ -6,12 +6,12 @@ use Rattle.run_words.specs.declared.verbs.Verb.TheVariants.{Cuts}
 use Rattle.run_words.specs.Jobs.{IsJob}
 use Rattle.altarica_run.specs.Follows.{Call, Gave, IsQuiet}
 use Rattle.altarica_run.specs.Listings.{IsListing}
-use Rattle.altarica_run.specs.Stages.{Ready, Passes, lists_cuts}
+use Rattle.job_stages.specs.Stages.{Ready, Passes, lists_cuts}
 use Rattle.altarica_run.specs.Statuses.{IsTold, IsRefused}
-use Rattle.altarica_run.specs.Tells.{MayNeedMore, Tells}
-use Rattle.altarica_run.specs.declared.refusals.Refusal.{Refusal}
-use Rattle.altarica_run.specs.declared.status.Status.{Status}
-use Rattle.altarica_run.specs.declared.status.Status.TheVariants as status
+use Rattle.job_stages.specs.Tells.{MayNeedMore, Tells}
+use Rattle.job_stages.specs.declared.refusals.Refusal.{Refusal}
+use Rattle.job_stages.specs.declared.status.Status.{Status}
+use Rattle.job_stages.specs.declared.status.Status.TheVariants as status
 use Rattle.altarica_run.proofs.FollowLemmas.{meaning_of}
 use Rattle.ready_laws.specs.Ready.{SameReady}
 use Rattle.job_laws.specs.Listings.{IsListingOf}

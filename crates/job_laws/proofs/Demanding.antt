@@ -10,9 +10,9 @@ use Rattle.run_words.specs.Commands.{shape_of}
 use Rattle.run_words.proofs.Reaches.{table_to_forest}
 use Rattle.run_words.specs.declared.jobs.Job.{Job}
 use Rattle.job_inputs.specs.declared.wanting.Wanted.{Wanted}
-use Rattle.altarica_run.specs.Stages.{Ready, is_static, spot_path, Static, keeps, outside, has_table, IsTableOf, Tabled, fits, exceeds, Asks, Demands, Readies}
-use Rattle.altarica_run.specs.declared.refusals.Refusal.{Refusal}
-use Rattle.altarica_run.specs.declared.refusals.Refusal.TheVariants.{Outside}
+use Rattle.job_stages.specs.Stages.{Ready, is_static, spot_path, Static, keeps, outside, has_table, IsTableOf, Tabled, fits, exceeds, Asks, Demands, Readies}
+use Rattle.job_stages.specs.declared.refusals.Refusal.{Refusal}
+use Rattle.job_stages.specs.declared.refusals.Refusal.TheVariants.{Outside}
 use Rattle.job_laws.specs.Definite.{IsDefinite}
 use Rattle.job_laws.proofs.Asking.{OfDefinite, OneList, asks_one, asks_on, same_some}
 use Rattle.job_laws.proofs.Stages.{IsOne, PassesOn, then_one, then_on, where_one, where_on, same_ok}

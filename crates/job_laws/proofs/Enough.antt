@@ -7,11 +7,11 @@ use Rattle.run_words.specs.declared.jobs.Job.{Job}
 use Rattle.run_words.specs.Jobs.{IsJob}
 use Rattle.altarica_run.specs.Follows.{Call}
 use Rattle.altarica_run.specs.Says.{Says, usage, refuses, tells}
-use Rattle.altarica_run.specs.Stages.{Ready, Passes, lists_cuts}
-use Rattle.altarica_run.specs.Tells.{MayNeedMore, Tells, nodes_line, status_at, check, flat, replay, fragment, equations, cuts, make, checks, in_short, explains, unsettled, conflict, nodes}
-use Rattle.altarica_run.specs.declared.refusals.Refusal.{Refusal}
-use Rattle.altarica_run.specs.declared.status.Status.{Status}
-use Rattle.altarica_run.specs.declared.status.Status.TheVariants as status
+use Rattle.job_stages.specs.Stages.{Ready, Passes, lists_cuts}
+use Rattle.job_stages.specs.Tells.{MayNeedMore, Tells, nodes_line, status_at, check, flat, replay, fragment, equations, cuts, make, checks, in_short, explains, unsettled, conflict, nodes}
+use Rattle.job_stages.specs.declared.refusals.Refusal.{Refusal}
+use Rattle.job_stages.specs.declared.status.Status.{Status}
+use Rattle.job_stages.specs.declared.status.Status.TheVariants as status
 use Rattle.unit_laws.specs.Answers.{SameAnswer}
 use Rattle.ready_laws.specs.Ready.{SameReady}
 use Rattle.job_laws.specs.Told.{IsStopped, IsAnswered, IsToldWith}

@@ -32,15 +32,15 @@ use Rattle.typed_expr.specs.declared.expr.Expr.{Expr}
 use Rattle.zdd_families.specs.Families.{has}
 use Rattle.zdd_families.proofs.Laws.{has_each}
 use Rattle.zdd_families.proofs.Minimal.{member_of}
-use Rattle.altarica_run.specs.Elaborates.{Elaborates, rooted, reads}
-use Rattle.altarica_run.specs.Elaborates as e
+use Rattle.job_stages.specs.Elaborates.{Elaborates, rooted, reads}
+use Rattle.job_stages.specs.Elaborates as e
 use Rattle.altarica_run.specs.Follows.{Call, Gave, Wrote}
 use Rattle.altarica_run.specs.Listings.{IsCut}
-use Rattle.altarica_run.specs.Stages.{Ready, bare, Passes, loaded, Scripted, gives, ListsCuts, lists, Drops, no_list, names, Wanting, wants, observer_asked, Showing, no_path, shows, Static, keeps, is_static, Tabled, fits, has_table, Readies, lists_cuts}
-use Rattle.altarica_run.specs.Tells.{IsShortText, Tells, check, flat, replay, fragment, equations, cuts, make, unsettled, checks, in_short, conflict, nodes}
-use Rattle.altarica_run.specs.Tells as told
-use Rattle.altarica_run.specs.declared.status.Status.{Status}
-use Rattle.altarica_run.specs.declared.status.Status.TheVariants as status
+use Rattle.job_stages.specs.Stages.{Ready, bare, Passes, loaded, Scripted, gives, ListsCuts, lists, Drops, no_list, names, Wanting, wants, observer_asked, Showing, no_path, shows, Static, keeps, is_static, Tabled, fits, has_table, Readies, lists_cuts}
+use Rattle.job_stages.specs.Tells.{IsShortText, Tells, check, flat, replay, fragment, equations, cuts, make, unsettled, checks, in_short, conflict, nodes}
+use Rattle.job_stages.specs.Tells as told
+use Rattle.job_stages.specs.declared.status.Status.{Status}
+use Rattle.job_stages.specs.declared.status.Status.TheVariants as status
 use Rattle.altarica_run.proofs.FollowLemmas.{meaning_of}
 use Rattle.source_laws.proofs.Passing.{bound_of}
 use Rattle.job_laws.specs.Findings.{AreModulesOf, IsConflictOf}

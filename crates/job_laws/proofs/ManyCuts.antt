@@ -15,10 +15,10 @@ use Rattle.run_words.specs.declared.verbs.Verb.TheVariants as verb
 use Rattle.typed_expr.specs.declared.expr.Expr.{Expr}
 use Rattle.zdd_families.specs.Sections.{IsCounted, IsMoreThan}
 use Rattle.altarica_run.specs.Follows.{Call, Wrote}
-use Rattle.altarica_run.specs.Stages.{Ready, lists_cuts}
-use Rattle.altarica_run.specs.Tells.{HasCuts, Tells, nodes_line, check, flat, replay, fragment, equations, cuts, make, checks, in_short, explains, unsettled, conflict, nodes}
-use Rattle.altarica_run.specs.declared.status.Status.{Status}
-use Rattle.altarica_run.specs.declared.status.Status.TheVariants as status
+use Rattle.job_stages.specs.Stages.{Ready, lists_cuts}
+use Rattle.job_stages.specs.Tells.{HasCuts, Tells, nodes_line, check, flat, replay, fragment, equations, cuts, make, checks, in_short, explains, unsettled, conflict, nodes}
+use Rattle.job_stages.specs.declared.status.Status.{Status}
+use Rattle.job_stages.specs.declared.status.Status.TheVariants as status
 use Rattle.job_laws.specs.Told.{IsStopped, IsAnswered}
 use Rattle.job_laws.proofs.Asking.{same_some}
 

@@ -18,10 +18,10 @@ use Rattle.gts_flatten.specs.Elaborating.{Elaborated, Flattens}
 use Rattle.unit_laws.specs.Answers.{SameAnswer}
 use Rattle.unit_laws.specs.Units.{SameUnfolded}
 use Rattle.source_laws.specs.Sources.{SameSource}
-use Rattle.altarica_run.specs.Elaborates.{reads, Tables, Systems, Ruled, breaks, exceeds, Elaborates}
-use Rattle.altarica_run.specs.Elaborates as e
-use Rattle.altarica_run.specs.declared.refusals.Refusal.{Refusal}
-use Rattle.altarica_run.specs.declared.refusals.Refusal.TheVariants.{Size, Rule}
+use Rattle.job_stages.specs.Elaborates.{reads, Tables, Systems, Ruled, breaks, exceeds, Elaborates}
+use Rattle.job_stages.specs.Elaborates as e
+use Rattle.job_stages.specs.declared.refusals.Refusal.{Refusal}
+use Rattle.job_stages.specs.declared.refusals.Refusal.TheVariants.{Size, Rule}
 use Rattle.job_laws.proofs.Readings.{parses_one}
 use Rattle.job_laws.proofs.Tabled.{SeenAlike, BrokenAlike, rooted_one}
 

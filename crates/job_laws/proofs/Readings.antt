@@ -15,9 +15,9 @@ use Rattle.ar_parser.proofs.NameLemmas.{one_lexing, no_fault_there, one_fault_pl
 use Rattle.ar_parser.proofs.PlainTexts.{plain_tokens}
 use Rattle.parser_laws.specs.Models.{HasOneTree, SameModel}
 use Rattle.ar_syntax.specs.declared.items.Model.{Model}
-use Rattle.altarica_run.specs.Elaborates.{Parses, reads, no_tokens, no_reading, too_deep}
-use Rattle.altarica_run.specs.declared.refusals.Refusal.{Refusal}
-use Rattle.altarica_run.specs.declared.refusals.Refusal.TheVariants.{Syntax}
+use Rattle.job_stages.specs.Elaborates.{Parses, reads, no_tokens, no_reading, too_deep}
+use Rattle.job_stages.specs.declared.refusals.Refusal.{Refusal}
+use Rattle.job_stages.specs.declared.refusals.Refusal.TheVariants.{Syntax}
 use Rattle.unit_laws.specs.Answers.{SameAnswer}
 
 -- a text without tokens has none that are refused, or read

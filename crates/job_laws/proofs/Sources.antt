@@ -45,8 +45,8 @@ use Rattle.source_laws.proofs.Passing.{bound_of}
 use Rattle.sync_expand.specs.Counting.{greatest, most_ways}
 use Rattle.unit_walks.specs.Unfolding.{whole}
 use Rattle.job_laws.specs.Named.{NamesOnce}
-use Rattle.altarica_run.specs.Elaborates.{Elaborates, rooted, reads}
-use Rattle.altarica_run.specs.Elaborates as e
+use Rattle.job_stages.specs.Elaborates.{Elaborates, rooted, reads}
+use Rattle.job_stages.specs.Elaborates as e
 use Rattle.job_laws.specs.Definite.{IsDefinite}
 
 -- Names

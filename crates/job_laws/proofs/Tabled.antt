@@ -15,7 +15,7 @@ use Rattle.class_table.specs.Declaring.{Declared, IsDeclared}
 use Rattle.class_table.specs.Rules.{BreaksTextRule, text_rules}
 use Rattle.class_table.proofs.OneRefusal.{breach_one}
 use Rattle.hierarchy.specs.Models.{RootedModel, IsRootedIn}
-use Rattle.altarica_run.specs.Elaborates.{Tables, rooted, breach}
+use Rattle.job_stages.specs.Elaborates.{Tables, rooted, breach}
 
 -- what the laws of tables say
 abbrev pub SeenAlike : Type 0

@@ -37,12 +37,12 @@ use Rattle.table_text.specs.Texts.{IsTableText}
 use Rattle.table_text.proofs.OneTable.{table_one}
 use Rattle.typed_expr.specs.declared.expr.Expr.{Expr}
 use Rattle.job_inputs.specs.declared.wanting.Wanted.{Wanted}
-use Rattle.altarica_run.specs.Refusals.{line_of, status_of}
-use Rattle.altarica_run.specs.Stages.{Ready, is_static, lists_cuts}
-use Rattle.altarica_run.specs.Tells.{Tells, check_text, IsFlatText, IsCutsText, IsCheckedText, IsShortText, IsObserverOf, IsExplained, make_lines, IsMakeText, status_at}
-use Rattle.altarica_run.specs.Tells as told
-use Rattle.altarica_run.specs.declared.status.Status.{Status}
-use Rattle.altarica_run.specs.declared.status.Status.TheVariants.{Done, Fault}
+use Rattle.job_stages.specs.Refusals.{line_of, status_of}
+use Rattle.job_stages.specs.Stages.{Ready, is_static, lists_cuts}
+use Rattle.job_stages.specs.Tells.{Tells, check_text, IsFlatText, IsCutsText, IsCheckedText, IsShortText, IsObserverOf, IsExplained, make_lines, IsMakeText, status_at}
+use Rattle.job_stages.specs.Tells as told
+use Rattle.job_stages.specs.declared.status.Status.{Status}
+use Rattle.job_stages.specs.declared.status.Status.TheVariants.{Done, Fault}
 use Rattle.altarica_run.proofs.ExplainLemmas.{settled_flows}
 use Rattle.job_laws.specs.Definite.{IsDefinite, SaysOf, SaysNodes, AgreeButNodes}
 use Rattle.job_laws.specs.Definite as says

@@ -8,17 +8,17 @@ use Rattle.ar_syntax.specs.declared.items.Model.{Model}
 use Rattle.job_inputs.specs.Scripts.{Why, IsNoCommand, LacksWay, NamesNoEvent}
 use Rattle.run_words.specs.Commands.{shape_of, is_script, is_list}
 use Rattle.run_words.specs.declared.jobs.Job.{Job}
-use Rattle.altarica_run.specs.Elaborates.{reads, breaks, exceeds as exceeds_limit}
+use Rattle.job_stages.specs.Elaborates.{reads, breaks, exceeds as exceeds_limit}
 use Rattle.run_words.specs.Jobs.{IsJob}
 use Rattle.altarica_run.specs.Follows.{Call, Gave}
-use Rattle.altarica_run.specs.Refusals.{status_of}
+use Rattle.job_stages.specs.Refusals.{status_of}
 use Rattle.altarica_run.specs.Statuses.{Meaning_of}
-use Rattle.altarica_run.specs.Files.{File, files_of, Loaded, IsText, first, made}
-use Rattle.altarica_run.specs.Stages.{Ready, bare, Passes, not_loaded, loaded, Stages, line_refused, cut_refused, Scripted, bad, ListsCuts, bad_line, exceeds_lines, Drops, names_none, Wanting, no_observer, no_value, observer_asked, Showing, shows_none, Static, outside, is_static, Tabled, exceeds, has_table}
-use Rattle.altarica_run.specs.declared.refusals.Refusal.{Refusal}
-use Rattle.altarica_run.specs.declared.refusals.Refusal.TheVariants.{Usage, NotRead, Size, Syntax, Rule, NoCommand, NoCut, NeedsWay, NoEvent, NoDropped, NoObserver, NoValue, Outside}
-use Rattle.altarica_run.specs.declared.status.Status.{Status}
-use Rattle.altarica_run.specs.declared.status.Status.TheVariants as status
+use Rattle.job_stages.specs.Files.{File, files_of, Loaded, IsText, first, made}
+use Rattle.job_stages.specs.Stages.{Ready, bare, Passes, not_loaded, loaded, Stages, line_refused, cut_refused, Scripted, bad, ListsCuts, bad_line, exceeds_lines, Drops, names_none, Wanting, no_observer, no_value, observer_asked, Showing, shows_none, Static, outside, is_static, Tabled, exceeds, has_table}
+use Rattle.job_stages.specs.declared.refusals.Refusal.{Refusal}
+use Rattle.job_stages.specs.declared.refusals.Refusal.TheVariants.{Usage, NotRead, Size, Syntax, Rule, NoCommand, NoCut, NeedsWay, NoEvent, NoDropped, NoObserver, NoValue, Outside}
+use Rattle.job_stages.specs.declared.status.Status.{Status}
+use Rattle.job_stages.specs.declared.status.Status.TheVariants as status
 use Rattle.altarica_run.proofs.FollowLemmas.{meaning_of}
 use Rattle.job_laws.proofs.Readings.{parses_one}
 use Rattle.job_laws.proofs.Stages.{same_ok, ok_err}

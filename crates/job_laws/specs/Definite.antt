@@ -4,12 +4,12 @@ use Rattle.ar_meaning.specs.Facts.{AreKeyed}
 use Rattle.gts_flatten.specs.Elaborating.{Elaborated}
 use Rattle.run_words.specs.declared.jobs.Job.{Job}
 use Rattle.job_laws.specs.Named.{NamesOnce}
-use Rattle.altarica_run.specs.Refusals.{line_of, status_of}
-use Rattle.altarica_run.specs.Stages.{Ready, Readies, lists_cuts}
-use Rattle.altarica_run.specs.Tells.{Tells, nodes_line}
-use Rattle.altarica_run.specs.declared.refusals.Refusal.{Refusal}
-use Rattle.altarica_run.specs.declared.status.Status.{Status}
-use Rattle.altarica_run.specs.declared.status.Status.TheVariants.{Nodes}
+use Rattle.job_stages.specs.Refusals.{line_of, status_of}
+use Rattle.job_stages.specs.Stages.{Ready, Readies, lists_cuts}
+use Rattle.job_stages.specs.Tells.{Tells, nodes_line}
+use Rattle.job_stages.specs.declared.refusals.Refusal.{Refusal}
+use Rattle.job_stages.specs.declared.status.Status.{Status}
+use Rattle.job_stages.specs.declared.status.Status.TheVariants.{Nodes}
 
 -- labels, paths and words name one thing each in the source, and no two variables have one key
 pub record IsDefinite (x : Elaborated) : Type 0 where

@@ -14,8 +14,8 @@ use Rattle.module_text.specs.Texts.{IsModuleText}
 use Rattle.run_words.specs.declared.jobs.Job.{Job}
 use Rattle.altarica_run.specs.Follows.{Call, Wrote}
 use Rattle.altarica_run.specs.Listings.{IsCut}
-use Rattle.altarica_run.specs.Stages.{Ready, Passes}
-use Rattle.altarica_run.specs.Tells.{HasCuts}
+use Rattle.job_stages.specs.Stages.{Ready, Passes}
+use Rattle.job_stages.specs.Tells.{HasCuts}
 use Rattle.ar_base.specs.Sets.{Within}
 
 -- what was written are the modules of the cuts and the cuts in short. Each choice of one set of the module for each unit

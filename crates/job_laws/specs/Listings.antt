@@ -2,7 +2,7 @@
 use Rattle.run_words.specs.declared.jobs.Job.{Job}
 use Rattle.altarica_run.specs.Follows.{Call}
 use Rattle.altarica_run.specs.Listings.{IsListing}
-use Rattle.altarica_run.specs.Stages.{Ready}
+use Rattle.job_stages.specs.Stages.{Ready}
 use Rattle.ready_laws.specs.Ready.{SameReady}
 
 -- what was written is the listing of a job that stands ready like this one

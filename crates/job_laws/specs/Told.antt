@@ -2,13 +2,13 @@
 use Rattle.std.specs.Prelude.{◌≡◌, ◌⊎◌, ℕ, List}
 use Rattle.run_words.specs.declared.jobs.Job.{Job}
 use Rattle.altarica_run.specs.Follows.{Call, SinkRose, Wrote}
-use Rattle.altarica_run.specs.Refusals.{line_of, status_of}
-use Rattle.altarica_run.specs.Stages.{Ready}
+use Rattle.job_stages.specs.Refusals.{line_of, status_of}
+use Rattle.job_stages.specs.Stages.{Ready}
 use Rattle.altarica_run.specs.Statuses.{IsNotRead}
-use Rattle.altarica_run.specs.Tells.{Tells}
-use Rattle.altarica_run.specs.declared.refusals.Refusal.{Refusal}
-use Rattle.altarica_run.specs.declared.status.Status.{Status}
-use Rattle.altarica_run.specs.declared.status.Status.TheVariants.{Read, Write, Memory}
+use Rattle.job_stages.specs.Tells.{Tells}
+use Rattle.job_stages.specs.declared.refusals.Refusal.{Refusal}
+use Rattle.job_stages.specs.declared.status.Status.{Status}
+use Rattle.job_stages.specs.declared.status.Status.TheVariants.{Read, Write, Memory}
 
 -- a file of the job was not read, whose count of faults rose and of which the line says so; or the sink's count rose;
 -- or memory was refused

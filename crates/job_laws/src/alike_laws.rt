@@ -3,10 +3,10 @@
 ghost use Rattle.std.specs.Prelude.{ℕ, List, Option, Result};
 ghost use Rattle.gts_flatten.specs.Elaborating.{Elaborated};
 ghost use Rattle.run_words.specs.declared.jobs.Job.{Job};
-ghost use Rattle.altarica_run.specs.Elaborates.{Elaborates};
-ghost use Rattle.altarica_run.specs.Stages.{Ready, Readies};
-ghost use Rattle.altarica_run.specs.declared.refusals.Refusal.{Refusal};
-ghost use Rattle.altarica_run.specs.declared.status.Status.{Status};
+ghost use Rattle.job_stages.specs.Elaborates.{Elaborates};
+ghost use Rattle.job_stages.specs.Stages.{Ready, Readies};
+ghost use Rattle.job_stages.specs.declared.refusals.Refusal.{Refusal};
+ghost use Rattle.job_stages.specs.declared.status.Status.{Status};
 ghost use Rattle.unit_laws.specs.Answers.{SameAnswer};
 ghost use Rattle.source_laws.specs.Sources.{SameSource};
 ghost use Rattle.ready_laws.specs.Ready.{SameReady};

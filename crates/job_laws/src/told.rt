@@ -24,12 +24,12 @@ ghost use Rattle.zdd_families.specs.Sections.{IsCounted, IsMoreThan};
 ghost use Rattle.altarica_run.specs.Follows.{Call, Gave, IsKnown, Wrote};
 ghost use Rattle.altarica_run.specs.Nodes.{HasConflict, IsTextOfCuts};
 ghost use Rattle.altarica_run.specs.Says.{Says};
-ghost use Rattle.altarica_run.specs.Stages.{Ready, Passes, lists_cuts};
-ghost use Rattle.altarica_run.specs.Tells.{check_text, IsFlatText, IsExplained, status_at};
-ghost use Rattle.altarica_run.specs.Tells.{HasCuts, MayNeedMore, Tells, nodes_line};
-ghost use Rattle.altarica_run.specs.declared.refusals.Refusal.{Refusal};
-ghost use Rattle.altarica_run.specs.declared.status.Status.{Status};
-ghost use Rattle.altarica_run.specs.declared.status.Status.TheVariants as status;
+ghost use Rattle.job_stages.specs.Stages.{Ready, Passes, lists_cuts};
+ghost use Rattle.job_stages.specs.Tells.{check_text, IsFlatText, IsExplained, status_at};
+ghost use Rattle.job_stages.specs.Tells.{HasCuts, MayNeedMore, Tells, nodes_line};
+ghost use Rattle.job_stages.specs.declared.refusals.Refusal.{Refusal};
+ghost use Rattle.job_stages.specs.declared.status.Status.{Status};
+ghost use Rattle.job_stages.specs.declared.status.Status.TheVariants as status;
 ghost use Rattle.job_laws.specs.Told.{IsStopped, IsAnswered, IsToldAs, IsToldWith};
 
 use crate::one_answer::{one_passing, texts_have_one_answer};

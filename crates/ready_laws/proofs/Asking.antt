@@ -5,9 +5,9 @@ use Rattle.gts_flatten.specs.Elaborating.{Elaborated}
 use Rattle.run_words.specs.Commands.{shape_of, is_script, is_list}
 use Rattle.run_words.specs.declared.jobs.Job.{Job}
 use Rattle.run_words.specs.declared.shapes.Shape.{Shape}
-use Rattle.altarica_run.specs.Stages.{Ready, bare, Scripted, ListsCuts, Drops, Wanting, has_table, observer_asked, Showing, AsksByWords, Asks}
-use Rattle.altarica_run.specs.Stages as s
-use Rattle.altarica_run.specs.declared.refusals.Refusal.{Refusal}
+use Rattle.job_stages.specs.Stages.{Ready, bare, Scripted, ListsCuts, Drops, Wanting, has_table, observer_asked, Showing, AsksByWords, Asks}
+use Rattle.job_stages.specs.Stages as s
+use Rattle.job_stages.specs.declared.refusals.Refusal.{Refusal}
 use Rattle.source_laws.specs.Sources.{SameSource}
 use Rattle.ready_laws.specs.Ready.{SameReady}
 use Rattle.ready_laws.proofs.Carrying.{Gives, Carries, then_carries, where_carries}

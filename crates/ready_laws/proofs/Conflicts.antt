@@ -12,8 +12,8 @@ use Rattle.job_inputs.specs.declared.wanting.Wanted.{Wanted}
 use Rattle.typed_expr.specs.declared.expr.Expr.{Expr}
 use Rattle.altarica_run.specs.Listings.{IsCut}
 use Rattle.altarica_run.specs.Nodes.{HasConflict}
-use Rattle.altarica_run.specs.Stages.{Ready}
-use Rattle.altarica_run.specs.Tells.{HasCuts}
+use Rattle.job_stages.specs.Stages.{Ready}
+use Rattle.job_stages.specs.Tells.{HasCuts}
 use Rattle.binding_laws.specs.Declarations.{IsSameThing}
 use Rattle.ready_laws.specs.Ready.{SameReady}
 

@@ -13,8 +13,8 @@ use Rattle.job_inputs.specs.declared.wanting.Wanted.{Wanted}
 use Rattle.run_words.specs.declared.jobs.Job.{Job}
 use Rattle.run_words.specs.declared.verbs.Verb.{Verb}
 use Rattle.table_text.specs.Texts.{IsTableFor}
-use Rattle.altarica_run.specs.Stages.{Ready, spot_path, is_static, Static, keeps, outside, has_table, IsTableOf, Tabled, fits, exceeds, Asks, Demands, Readies}
-use Rattle.altarica_run.specs.declared.refusals.Refusal.TheVariants.{Outside}
+use Rattle.job_stages.specs.Stages.{Ready, spot_path, is_static, Static, keeps, outside, has_table, IsTableOf, Tabled, fits, exceeds, Asks, Demands, Readies}
+use Rattle.job_stages.specs.declared.refusals.Refusal.TheVariants.{Outside}
 use Rattle.binding_laws.specs.Declarations.{IsSameThing}
 use Rattle.source_laws.specs.Sources.{SameSource}
 use Rattle.ready_laws.specs.Ready.{SameReady}

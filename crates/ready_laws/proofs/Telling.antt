@@ -27,11 +27,11 @@ use Rattle.replayer.specs.Replays.{IsReplay}
 use Rattle.replayer.specs.Settles.{IsFaultLine}
 use Rattle.run_words.specs.declared.jobs.Job.{Job}
 use Rattle.table_text.specs.Texts.{IsTableText}
-use Rattle.altarica_run.specs.Stages.{Ready}
-use Rattle.altarica_run.specs.Tells.{counts_line, check_text, IsFlatText, HasCuts, Replays, IsCutsText, IsCheckedText, IsShortText, IsObserverOf, IsExplained, make_lines, IsMakeText, MayNeedMore, Tells}
-use Rattle.altarica_run.specs.Tells as told
-use Rattle.altarica_run.specs.declared.status.Status.{Status}
-use Rattle.altarica_run.specs.declared.status.Status.TheVariants.{Done}
+use Rattle.job_stages.specs.Stages.{Ready}
+use Rattle.job_stages.specs.Tells.{counts_line, check_text, IsFlatText, HasCuts, Replays, IsCutsText, IsCheckedText, IsShortText, IsObserverOf, IsExplained, make_lines, IsMakeText, MayNeedMore, Tells}
+use Rattle.job_stages.specs.Tells as told
+use Rattle.job_stages.specs.declared.status.Status.{Status}
+use Rattle.job_stages.specs.declared.status.Status.TheVariants.{Done}
 use Rattle.binding_laws.specs.Declarations.{IsSameThing}
 use Rattle.source_laws.specs.Sources.{SameSource}
 use Rattle.ready_laws.specs.Ready.{SameReady}

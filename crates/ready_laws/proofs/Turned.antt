@@ -15,7 +15,7 @@ use Rattle.gts_flatten.specs.Elaborating.{Elaborated}
 use Rattle.unit_laws.proofs.Turned.{rooted_turned}
 use Rattle.binding_laws.specs.Declarations.{IsSameThing, SameDeclarations}
 use Rattle.source_laws.specs.Sources.{SameSource}
-use Rattle.altarica_run.specs.Stages.{Ready}
+use Rattle.job_stages.specs.Stages.{Ready}
 use Rattle.ready_laws.specs.Ready.{SameReady}
 
 -- there and back is the same, and then back

@@ -1,7 +1,7 @@
 -- What it is that two jobs stand ready alike.
 use Rattle.std.specs.Prelude.{◌≡◌}
 use Rattle.source_laws.specs.Sources.{SameSource}
-use Rattle.altarica_run.specs.Stages.{Ready}
+use Rattle.job_stages.specs.Stages.{Ready}
 
 -- sources that are alike; the same commands, cut lines and dropped events, and the same observers and value that are
 -- asked for

@@ -6,9 +6,9 @@ use Rattle.mode_trees.specs.Views.{trees_of, number_in}
 use Rattle.eq_core.specs.Views.{table_of}
 use Rattle.gate_diagrams.specs.declared.answer.Drawn.TheVariants.{Cuts}
 use Rattle.table_laws.specs.Drawn.{sets_of}
-use Rattle.altarica_run.specs.Tells.{Tells}
-use Rattle.altarica_run.specs.declared.status.Status.TheVariants.{Done}
-use Rattle.altarica_run.proofs.CutLemmas.{both, own_forest, forest_is, table, observed, said_of_table, source_observer, renamed, are_drawn, few_counted, checks_told, none_printed, printed_partly, printed_whole}
+use Rattle.job_stages.specs.Tells.{Tells}
+use Rattle.job_stages.specs.declared.status.Status.TheVariants.{Done}
+use Rattle.job_stages.proofs.CutLemmas.{both, own_forest, forest_is, table, observed, said_of_table, source_observer, renamed, are_drawn, few_counted, checks_told, none_printed, printed_partly, printed_whole}
 use Rattle.altarica_run.proofs.checking.write_check.Goals as goal
 
 pub open-requires-clause-root : goal.open-requires-clause-root

@@ -2,10 +2,10 @@ use Rattle.std.proofs.Common.{[], ap}
 use Rattle.std.proofs.lemmas.Result.{err_from_is_err_and}
 use Rattle.run_words.specs.Commands.{shape_of, is_script, is_list}
 use Rattle.run_words.specs.declared.verbs.Verb.{Verb}
-use Rattle.altarica_run.specs.Stages.{has_table}
-use Rattle.altarica_run.specs.Telling.{written}
+use Rattle.job_stages.specs.Stages.{has_table}
+use Rattle.job_stages.specs.Telling.{written}
 use Rattle.altarica_run.proofs.CommandLemmas.{done, elaborate_stops, forest_here, forest_stops, no_lines, request_stops, table_stops, tabled}
-use Rattle.altarica_run.proofs.TellLemmas.{table_told}
+use Rattle.job_stages.proofs.TellLemmas.{table_told}
 use Rattle.altarica_run.proofs.commands.equations.Goals as goal
 
 pub elaborate-requires : goal.elaborate-requires

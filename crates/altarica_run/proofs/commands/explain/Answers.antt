@@ -2,11 +2,11 @@ use Rattle.std.proofs.Common.{ap, sym, subst}
 use Rattle.std.proofs.lemmas.Result.{err_from_is_err_and}
 use Rattle.run_words.specs.Commands.{shape_of, is_script, is_list, is_made, is_second}
 use Rattle.run_words.specs.declared.verbs.Verb.{Verb}
-use Rattle.altarica_run.specs.Passing.{IsScripted}
-use Rattle.altarica_run.specs.Stages.{bare, is_static, has_table}
-use Rattle.altarica_run.specs.Telling.{IsWritten, written}
-use Rattle.altarica_run.specs.Tells.{Tells}
-use Rattle.altarica_run.specs.declared.status.Status.{Status}
+use Rattle.job_stages.specs.Passing.{IsScripted}
+use Rattle.job_stages.specs.Stages.{bare, is_static, has_table}
+use Rattle.job_stages.specs.Telling.{IsWritten, written}
+use Rattle.job_stages.specs.Tells.{Tells}
+use Rattle.job_stages.specs.declared.status.Status.{Status}
 use Rattle.altarica_run.proofs.CommandLemmas.{elaborate_stops, done, script_stops, shown_stops, shown_ready}
 use Rattle.altarica_run.proofs.commands.explain.Goals as goal
 

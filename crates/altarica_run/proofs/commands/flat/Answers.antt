@@ -2,10 +2,10 @@ use Rattle.std.proofs.Common.{ap}
 use Rattle.std.proofs.lemmas.Result.{err_from_is_err_and}
 use Rattle.run_words.specs.Commands.{shape_of}
 use Rattle.run_words.specs.declared.shapes.Shape.{Shape}
-use Rattle.altarica_run.specs.Stages.{bare}
-use Rattle.altarica_run.specs.Telling.{written}
+use Rattle.job_stages.specs.Stages.{bare}
+use Rattle.job_stages.specs.Telling.{written}
 use Rattle.altarica_run.proofs.CommandLemmas.{elaborate_stops, done, plain_ready}
-use Rattle.altarica_run.proofs.TellLemmas.{flattened}
+use Rattle.job_stages.proofs.TellLemmas.{flattened}
 use Rattle.altarica_run.proofs.commands.flat.Goals as goal
 
 pub elaborate-requires : goal.elaborate-requires

@@ -2,10 +2,10 @@ use Rattle.std.proofs.Common.{ap, arith}
 use Rattle.std.proofs.lemmas.Result.{err_from_is_err_and}
 use Rattle.run_words.specs.Commands.{shape_of, is_script, is_list}
 use Rattle.run_words.specs.declared.verbs.Verb.{Verb}
-use Rattle.altarica_run.specs.Stages.{bare, is_static, has_table}
-use Rattle.altarica_run.specs.Telling.{written}
+use Rattle.job_stages.specs.Stages.{bare, is_static, has_table}
+use Rattle.job_stages.specs.Telling.{written}
 use Rattle.altarica_run.proofs.CommandLemmas.{elaborate_stops, done, forest_here, dropped_stops, fragment_stops, fragment_ready}
-use Rattle.altarica_run.proofs.TellLemmas.{forest_told}
+use Rattle.job_stages.proofs.TellLemmas.{forest_told}
 use Rattle.altarica_run.proofs.commands.fragment.Goals as goal
 
 pub elaborate-requires : goal.elaborate-requires

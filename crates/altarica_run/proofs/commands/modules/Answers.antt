@@ -2,7 +2,7 @@ use Rattle.std.proofs.Common.{[], refl, ap}
 use Rattle.std.proofs.lemmas.Result.{err_from_is_err_and}
 use Rattle.run_words.specs.Commands.{shape_of, is_script, is_list}
 use Rattle.run_words.specs.declared.verbs.Verb.{Verb}
-use Rattle.altarica_run.specs.Stages.{has_table, lists_cuts}
+use Rattle.job_stages.specs.Stages.{has_table, lists_cuts}
 use Rattle.altarica_run.proofs.CommandLemmas.{drawn_there, drawn_told, elaborate_stops, forest_here, forest_stops, memory_stops, no_lines, nodes_told, request_stops, table_stops, tabled, units_there}
 use Rattle.altarica_run.proofs.commands.modules.Goals as goal
 

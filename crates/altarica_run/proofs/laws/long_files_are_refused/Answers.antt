@@ -1,6 +1,6 @@
 use Rattle.altarica_run.proofs.LawLemmas.{over_passes, over_of, script_over, only_of}
 use Rattle.ar_base.specs.declared.counts.Count.TheVariants.{ScriptBytes}
-use Rattle.altarica_run.specs.declared.refusals.Refusal.TheVariants.{Size}
+use Rattle.job_stages.specs.declared.refusals.Refusal.TheVariants.{Size}
 use Rattle.altarica_run.proofs.laws.long_files_are_refused.Goals as goal
 
 pub returns-clause-long_model_refused : goal.returns-clause-long_model_refused

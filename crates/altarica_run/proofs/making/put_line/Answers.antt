@@ -1,6 +1,6 @@
 use Rattle.std.proofs.Common.{decimal}
 use Rattle.ar_io.proofs.Writing.{writes_exit, writes_on, writes_front, writes_as}
-use Rattle.altarica_run.proofs.LineLemmas.{line_two}
+use Rattle.job_stages.proofs.LineLemmas.{line_two}
 use Rattle.altarica_run.proofs.making.put_line.Goals as goal
 
 pub returns-in_err-write_text : goal.returns-in_err-write_text

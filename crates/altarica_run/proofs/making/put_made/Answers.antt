@@ -1,6 +1,6 @@
 use Rattle.std.proofs.Common.{◌≡◌, length, refl, rules}
 use Rattle.ar_io.proofs.Writing.{writes_exit, writes_on, writes_front, writes_as}
-use Rattle.altarica_run.proofs.LineLemmas.{made_put}
+use Rattle.job_stages.proofs.LineLemmas.{made_put}
 use Rattle.altarica_run.proofs.making.put_made.Goals as goal
 
 pub returns-in_err-put_line : goal.returns-in_err-put_line

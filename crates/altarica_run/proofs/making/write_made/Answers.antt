@@ -2,10 +2,10 @@ use Rattle.std.proofs.lemmas.Result.{err_from_is_err_and}
 use Rattle.gate_diagrams.specs.declared.answer.Drawn.TheVariants.{Cuts}
 use Rattle.table_laws.specs.Drawn.{sets_of}
 use Rattle.cut_text.specs.declared.faults.PrintFault.TheVariants as print
-use Rattle.altarica_run.specs.Tells.{Tells}
-use Rattle.altarica_run.specs.declared.status.Status.TheVariants.{Done}
-use Rattle.altarica_run.proofs.CutLemmas.{are_drawn, few_counted, make_told, none_printed, printed_partly, printed_whole}
-use Rattle.altarica_run.proofs.LineLemmas.{made_text}
+use Rattle.job_stages.specs.Tells.{Tells}
+use Rattle.job_stages.specs.declared.status.Status.TheVariants.{Done}
+use Rattle.job_stages.proofs.CutLemmas.{are_drawn, few_counted, make_told, none_printed, printed_partly, printed_whole}
+use Rattle.job_stages.proofs.LineLemmas.{made_text}
 use Rattle.altarica_run.proofs.making.write_made.Goals as goal
 
 pub counts-requires : goal.counts-requires

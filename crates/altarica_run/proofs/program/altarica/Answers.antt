@@ -2,7 +2,7 @@ use Rattle.std.proofs.Common.{ℕ, List, Err, subst}
 use Rattle.ar_base.specs.Texts.{bytes_of_all}
 use Rattle.ar_io.specs.Outside.{Rose}
 use Rattle.altarica_run.specs.Doing.{AnswersWords}
-use Rattle.altarica_run.specs.declared.stops.Stop.{Stop}
+use Rattle.job_stages.specs.declared.stops.Stop.{Stop}
 use Rattle.altarica_run.proofs.EndLemmas.{refused_first, memory_told, same_shelf}
 use Rattle.altarica_run.proofs.program.altarica.Goals as goal
 

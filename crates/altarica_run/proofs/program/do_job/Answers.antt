@@ -3,8 +3,8 @@ use Rattle.std.proofs.lemmas.Result.{err_from_is_err_and}
 use Rattle.ar_base.specs.Texts.{bytes_of_all}
 use Rattle.ar_io.specs.Outside.{Rose}
 use Rattle.altarica_run.proofs.EndLemmas.{words_stop, files_stop, job_done}
-use Rattle.altarica_run.proofs.FileLemmas.{loaded_script, script_loaded}
-use Rattle.altarica_run.proofs.JobLemmas.{gives}
+use Rattle.job_stages.proofs.FileLemmas.{loaded_script, script_loaded}
+use Rattle.altarica_run.proofs.GivenLemmas.{gives}
 use Rattle.altarica_run.proofs.program.do_job.Goals as goal
 
 pub returns-in_err-job-clause-words : goal.returns-in_err-job-clause-words

@@ -2,8 +2,8 @@ use Rattle.std.proofs.Common.{◌∙◌, rules, Ok, Err, sym, ap, subst, Result}
 use Rattle.std.proofs.lemmas.Result.{err_from_is_err_and}
 use Rattle.ar_io.specs.Gathering.{gathered_state}
 use Rattle.altarica_run.specs.Doing.{AnswersFor}
-use Rattle.altarica_run.specs.declared.status.Status.{Status}
-use Rattle.altarica_run.specs.declared.stops.Stop.{Stop}
+use Rattle.job_stages.specs.declared.status.Status.{Status}
+use Rattle.job_stages.specs.declared.stops.Stop.{Stop}
 use Rattle.altarica_run.proofs.CommandLemmas.{memory_stops}
 use Rattle.altarica_run.proofs.GatherLemmas.{IsHandedOn, gathered_done, gathered_stops, of_sink}
 use Rattle.altarica_run.proofs.program.run_gathered.Goals as goal

@@ -1,9 +1,9 @@
 use Rattle.std.proofs.lemmas.Result.{err_from_is_err_and}
 use Rattle.gate_diagrams.specs.declared.answer.Drawn.TheVariants.{Cuts}
 use Rattle.table_laws.specs.Drawn.{sets_of}
-use Rattle.altarica_run.specs.Tells.{Tells}
-use Rattle.altarica_run.specs.declared.status.Status.TheVariants.{Done}
-use Rattle.altarica_run.proofs.CutLemmas.{forest_is, table, observed, source_observer, renamed, are_drawn, few_counted, short_told, none_printed, printed_partly, printed_whole}
+use Rattle.job_stages.specs.Tells.{Tells}
+use Rattle.job_stages.specs.declared.status.Status.TheVariants.{Done}
+use Rattle.job_stages.proofs.CutLemmas.{forest_is, table, observed, source_observer, renamed, are_drawn, few_counted, short_told, none_printed, printed_partly, printed_whole}
 use Rattle.altarica_run.proofs.shortening.write_modules.Goals as goal
 
 pub shorten-requires-clause-root : goal.shorten-requires-clause-root

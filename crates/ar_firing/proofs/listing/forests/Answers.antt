@@ -9,10 +9,10 @@ returns-clause-one_forest g c = λ sys dropped both ts us a b. forest_same sys d
 
 pub returns-clause-tree_edges : goal.returns-clause-tree_edges
 returns-clause-tree_edges g c = λ sys dropped both tree h r. (
-    λ o. row_is_live sys dropped both.keyed both.static tree h r o,
-    λ k. live_is_row sys dropped both.keyed
-        both.static tree h r k,
-  )
+  λ o. row_is_live sys dropped both.keyed both.static tree h r o,
+  λ k. live_is_row sys dropped both.keyed
+      both.static tree h r k,
+)
 
 pub returns-clause-forest_trees : goal.returns-clause-forest_trees
 returns-clause-forest_trees g c = λ sys dropped both trees f. are_trees sys dropped both.keyed both.static trees f

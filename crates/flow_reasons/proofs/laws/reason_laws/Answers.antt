@@ -25,7 +25,7 @@ returns-clause-reasons_suffice g c = suffices
 
 pub returns-clause-rounds_descend : goal.returns-clause-rounds_descend
 returns-clause-rounds_descend g c = λ net t total flows reasons are r s o p rests. descends net t (no_two flows) reasons are
-      r s o p rests
+    r s o p rests
 
 pub returns-clause-one_list_of_reasons : goal.returns-clause-one_list_of_reasons
 returns-clause-one_list_of_reasons g c = λ net t total flows rs qs a b. reasons_one net t (no_two flows) a b

@@ -1,10 +1,10 @@
 use Rattle.std.proofs.Common.{Err}
 use Rattle.ar_base.specs.Stages.{refuses, passes}
-use Rattle.altarica_run.specs.Stages.{loaded}
+use Rattle.job_stages.specs.Stages.{loaded}
 use Rattle.ready_laws.specs.Ready.{SameReady}
 use Rattle.job_laws.proofs.Stages.{refusal_of}
-use Rattle.altarica_run.specs.Elaborates.{reads, breach, breaks}
-use Rattle.altarica_run.specs.declared.refusals.Refusal.TheVariants.{Rule}
+use Rattle.job_stages.specs.Elaborates.{reads, breach, breaks}
+use Rattle.job_stages.specs.declared.refusals.Refusal.TheVariants.{Rule}
 use Rattle.job_laws.proofs.OneSource.{units_told}
 use Rattle.job_laws.proofs.answer_laws.first_causes_are_told.Goals as goal
 

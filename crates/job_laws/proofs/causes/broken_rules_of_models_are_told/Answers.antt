@@ -1,4 +1,4 @@
-use Rattle.altarica_run.specs.declared.refusals.Refusal.TheVariants.{Rule, Size}
+use Rattle.job_stages.specs.declared.refusals.Refusal.TheVariants.{Rule, Size}
 use Rattle.job_laws.proofs.CausesOfTexts.{of_rule, of_limit, of_unit_rules, of_name_rules, of_way_rules}
 use Rattle.job_laws.proofs.causes.broken_rules_of_models_are_told.Goals as goal
 

@@ -1,4 +1,4 @@
-use Rattle.altarica_run.specs.declared.refusals.Refusal.TheVariants.{Size}
+use Rattle.job_stages.specs.declared.refusals.Refusal.TheVariants.{Size}
 use Rattle.job_laws.proofs.CausesOfTexts.{of_units, of_variables, of_events, of_nodes, of_ways, of_parts, of_expressions}
 use Rattle.job_laws.proofs.CausesOfJobs.{of_gates}
 use Rattle.ar_base.specs.declared.counts.Count.TheVariants as count

@@ -1,7 +1,7 @@
 use Rattle.job_laws.proofs.CausesOfJobs.{of_request, of_script, of_list, of_cut_lines, dropping_no_script, of_dropped, table_no_script, of_observer, of_shown, of_value, of_fragment}
 use Rattle.std.proofs.Common.{◌+◌}
-use Rattle.altarica_run.specs.Stages.{line_refused, cut_refused, spot_path}
-use Rattle.altarica_run.specs.declared.refusals.Refusal.TheVariants.{Size, NoDropped, NoObserver, NoValue, Outside}
+use Rattle.job_stages.specs.Stages.{line_refused, cut_refused, spot_path}
+use Rattle.job_stages.specs.declared.refusals.Refusal.TheVariants.{Size, NoDropped, NoObserver, NoValue, Outside}
 use Rattle.ar_firing.specs.Rules.{rule_number}
 use Rattle.ar_base.specs.declared.counts.Count.TheVariants as count
 use Rattle.job_laws.proofs.causes.wrong_requests_are_told.Goals as goal

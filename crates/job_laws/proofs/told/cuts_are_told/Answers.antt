@@ -1,5 +1,5 @@
 use Rattle.job_laws.proofs.Enough.{told_with}
-use Rattle.altarica_run.specs.declared.status.Status.TheVariants as status
+use Rattle.job_stages.specs.declared.status.Status.TheVariants as status
 use Rattle.job_laws.proofs.told.cuts_are_told.Goals as goal
 
 pub returns-clause-conflicts_are_told : goal.returns-clause-conflicts_are_told

@@ -1,10 +1,10 @@
 use Rattle.std.proofs.Common.{ap}
-use Rattle.altarica_run.specs.Stages.{lists_cuts}
-use Rattle.altarica_run.specs.Tells.{check_text, check}
+use Rattle.job_stages.specs.Stages.{lists_cuts}
+use Rattle.job_stages.specs.Tells.{check_text, check}
 use Rattle.job_laws.proofs.Commanded.{well_or_stopped, table_or_stopped, run_or_stopped, reason_or_stopped}
 use Rattle.job_laws.proofs.ManyCuts.{nodes_or_stopped}
 use Rattle.run_words.specs.declared.verbs.Verb.TheVariants as verb
-use Rattle.altarica_run.specs.declared.status.Status.TheVariants as status
+use Rattle.job_stages.specs.declared.status.Status.TheVariants as status
 use Rattle.job_laws.proofs.told.texts_are_told.Goals as goal
 
 pub returns-clause-check : goal.returns-clause-check

@@ -10,5 +10,5 @@ returns-clause-fault g c = λ net t blocks known o keyed flows k d s. conflict_f
 
 pub returns-clause-flows : goal.returns-clause-flows
 returns-clause-flows g c = λ net t blocks known o keyed flows k d free.
-      let r = no_conflict_flows net keyed t blocks known k flows o d free in
-      record { values = r.0; flows = r.1; are = r.2 }
+    let r = no_conflict_flows net keyed t blocks known k flows o d free in
+    record { values = r.0; flows = r.1; are = r.2 }

@@ -1,0 +1,53 @@
+use Rattle.std.proofs.Common.{ℕ, false, List, Ok, Err, subst}
+use Rattle.std.proofs.lemmas.Result.{err_from_is_err_and}
+use Rattle.ar_base.specs.Counts.{limit_of}
+use Rattle.ar_base.specs.declared.counts.Count.TheVariants.{ModelBytes}
+use Rattle.ar_io.specs.Outside.{IsFile, Rose}
+use Rattle.ar_io.proofs.Writing.{rose_after}
+use Rattle.job_stages.specs.Files.{model_file, script_files, whole}
+use Rattle.job_stages.specs.Loading.{AnswersFile, texts_where, script_texts}
+use Rattle.job_stages.proofs.FileLemmas.{first_stops, later_stops, answers_same}
+use Rattle.job_stages.proofs.loading.load_all.Goals as goal
+
+pub returns-in_err-model : goal.returns-in_err-model
+returns-in_err-model g c =
+    let r = err_from_is_err_and c.from_residual.result c.from_residual.ensures.1 in
+    let told = g.H.Shelf.holds c.args.shelf.now in
+    let rose : List ℕ → Type 0 = λ name. Rose (g.H.Shelf.faults c.args.shelf.now name)
+    (g.H.Shelf.faults c.load.new.shelf name) in
+    first_stops told rose (texts_where false) (model_file c.args.job.now.model) (script_files c.args.job.now.script) _ _
+    _ r.1 r.2
+    (subst (λ (z : List ℕ). AnswersFile told rose (model_file z) (Err c.in_err-model.field-0.0)) c.as_str-name.ensures
+    c.in_err-model.ensures.loaded)
+
+pub returns-in_err-script : goal.returns-in_err-script
+returns-in_err-script g c =
+    let r = err_from_is_err_and c.from_residual-in_err-script.result c.from_residual-in_err-script.ensures.1 in
+    let told = g.H.Shelf.holds c.args.shelf.now in
+    let after = g.H.Shelf.holds c.load.new.shelf in
+    let part : List ℕ → Type 0 = λ name. Rose (g.H.Shelf.faults c.load.new.shelf name)
+    (g.H.Shelf.faults c.load_script.new.shelf name) in
+    let rose : List ℕ → Type 0 = λ name. Rose (g.H.Shelf.faults c.args.shelf.now name)
+    (g.H.Shelf.faults c.load_script.new.shelf name) in
+    let is = subst (λ (z : List ℕ). IsFile (told z) (limit_of ModelBytes) c.in_ok-model.model.items)
+    c.as_str-name.ensures c.in_ok-model.ensures.loaded in
+    later_stops told rose (texts_where false) script_texts (model_file c.args.job.now.model)
+    (script_files c.args.job.now.script) c.in_ok-model.model.items is _ _ _ r.1 r.2
+    (answers_same after told c.in_ok-model.ensures.keeps part rose
+    (λ name h. rose_after _ _ _ (c.in_ok-model.ensures.rises name) h) script_texts
+    (script_files c.args.job.now.script) (Err c.in_err-script.field-0.0) c.in_err-script.ensures)
+
+pub returns : goal.returns
+returns g c =
+    let told = g.H.Shelf.holds c.args.shelf.now in
+    let after = g.H.Shelf.holds c.load.new.shelf in
+    let part : List ℕ → Type 0 = λ name. Rose (g.H.Shelf.faults c.load.new.shelf name)
+    (g.H.Shelf.faults c.load_script.new.shelf name) in
+    let rose : List ℕ → Type 0 = λ name. Rose (g.H.Shelf.faults c.args.shelf.now name)
+    (g.H.Shelf.faults c.load_script.new.shelf name) in
+    let is = subst (λ (z : List ℕ). IsFile (told z) (limit_of ModelBytes) c.in_ok-model.model.items)
+    c.as_str-name.ensures c.in_ok-model.ensures.loaded in
+    whole c.in_ok-model.model.items is
+    (answers_same after told c.in_ok-model.ensures.keeps part rose
+    (λ name h. rose_after _ _ _ (c.in_ok-model.ensures.rises name) h) script_texts
+    (script_files c.args.job.now.script) (Ok c.in_ok-script.script) c.in_ok-script.ensures)

@@ -1,0 +1,11 @@
+pub mod Jobs
+pub mod Refusals
+pub mod Files
+pub mod Elaborates
+pub mod Stages
+pub mod Tells
+pub mod Numbers
+pub mod Loading
+pub mod Passing
+pub mod Telling
+pub mod Spots

@@ -1,0 +1,24 @@
+//! The job of the words.
+
+ghost use Rattle.std.specs.Prelude.{◌≡◌};
+ghost use Rattle.ar_base.specs.Texts.{bytes_of_all};
+ghost use Rattle.job_stages.specs.Jobs.{AnswersJob, makes_model};
+
+use crate::stops::Stop;
+use run_words::{Job, Verb, read_job};
+use std::alloc::Global;
+
+/// Whether a command makes its model; those of the others are files.
+pub fn makes_model(command: Verb) -> bool
+    ensures { result ≡ makes_model command }
+{
+    command.shape().files.is_made()
+}
+
+/// The job of the words behind the program's name.
+pub fn job_of(alloc: Global, words: &[String]) -> Result<Job, Stop>
+    ensures { AnswersJob (bytes_of_all words.now) result }
+{
+    let job = read_job(alloc, words)?;
+    Ok(job)
+}

@@ -1,6 +1,6 @@
 //! Assignments that hold under a total valuation.
 
-ghost use Rattle.std.specs.Prelude.{◌≡◌, ◌<◌, ℕ, true, false, length};
+ghost use Rattle.std.specs.Prelude.{◌<◌, ℕ, true, false, length};
 ghost use Rattle.ar_base.specs.Lists.{IsOneOf, Stands};
 ghost use Rattle.ar_meaning.specs.Flows.{IsBrokenAssign};
 ghost use Rattle.ar_meaning.specs.Found.{IsAnswer};
@@ -41,15 +41,5 @@ fn is_broken(parts: &GtsParts, assign: &Assign, values: &[Value]) -> bool
     if !are_met(values, &assign.when) {
         return false;
     }
-    differs(
-        value_in(values, &assign.value),
-        values[assign.target.n as usize],
-    )
-}
-
-// Whether two values are different.
-pub(crate) fn differs(a: Value, b: Value) -> bool
-    ensures { IsAnswer result (a ≡ b → ⊥) }
-{
-    a != b
+    value_in(values, &assign.value) != values[assign.target.n as usize]
 }

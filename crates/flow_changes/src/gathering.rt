@@ -22,26 +22,11 @@ pub(crate) fn places_to(
     ensures are { IfOk result (λ list.
         ArePlacesTo givers.now.pairs.items places.now members.now list.items) }
 {
-    let mut list = all_places(alloc, givers, places, members)?;
-    list.sort_unstable();
-    Ok(list)
-}
-
-// The places of the assignments to the members.
-fn all_places(
-    alloc: Global,
-    givers: &Runs,
-    places: &[usize],
-    members: &[u32],
-) -> Result<Vec<usize>, Memory>
-    requires { (r : Reader) → IsOneOf givers.now.pairs.items r → r.1.n < length places.now }
-    ensures { IfOk result (λ list. ArePlacesTo givers.now.pairs.items places.now members.now
-        list.items) }
-{
     let mut list = Vec::new(alloc);
     for n in members {
         add_places(pairs_of(givers, *n), places, &mut list)?;
     }
+    list.sort_unstable();
     Ok(list)
 }
 

@@ -1,6 +1,6 @@
 //! What a state determines, kept from change to change.
 
-ghost use Rattle.std.specs.Prelude.{◌≡◌, ◌<◌, ℕ, Bool, true, false, List, length, replicate, IfOk, IfErr, IfSome, OnErr, None};
+ghost use Rattle.std.specs.Prelude.{◌≡◌, ◌<◌, ℕ, Bool, true, false, List, length, replicate, IfOk, IfErr, OnErr, None};
 ghost use Rattle.ar_base.specs.Lists.{Stands};
 ghost use Rattle.domains.specs.declared.Value.{Value as Values};
 ghost use Rattle.gts_core.specs.Sound.{IsSound};
@@ -77,36 +77,13 @@ pub fn propagate_from(
     ensures err { OnErr result ((values_of present.new ≡ values_of present.old)
         × (known_of present.new ≡ known_of present.old)) }
 {
-    match quick(alloc, gts.parts(), plan, present, new)? {
+    let parts = gts.parts();
+    let members = cone(alloc, parts, &plan.readers, new, &mut present.marks)?;
+    match attempt(alloc, parts, plan, &members, new, &mut present.determined)? {
         Some(changes) => Ok(changes),
+        // the new state has a fault, or may have one
         None => whole(alloc, gts, plan, &mut present.determined, new),
     }
-}
-
-// The same where the new state has no fault; none where it has one, or may have one.
-fn quick(
-    alloc: Global,
-    parts: &GtsParts,
-    plan: &Plan,
-    present: &mut Present,
-    new: &[(VarId, Value)],
-) -> Result<Option<Changes>, Memory>
-    requires sound { IsSound parts.now }
-    requires plan { IsPlan parts.now plan.now }
-    requires present { IsPresent parts.now present.old }
-    requires new { AreNewValues parts.now new.now }
-    ensures marks { present.new.marks.items ≡ present.old.marks.items }
-    ensures some { IfOk result (λ o. IfSome o
-        (Propagates parts.now (values_of present.old) (known_of present.old) new.now
-        (values_of present.new) (known_of present.new))) }
-    ensures none { IfOk result (λ o. o ≡ None
-        → (values_of present.new ≡ values_of present.old)
-        × (known_of present.new ≡ known_of present.old)) }
-    ensures err { OnErr result ((values_of present.new ≡ values_of present.old)
-        × (known_of present.new ≡ known_of present.old)) }
-{
-    let members = cone(alloc, parts, &plan.readers, new, &mut present.marks)?;
-    attempt(alloc, parts, plan, &members, new, &mut present.determined)
 }
 
 /// Takes changes back: writes the old values and marks. Takes no memory.

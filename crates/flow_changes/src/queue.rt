@@ -1,11 +1,11 @@
 //! The places of the assignments that wait to be looked at.
 
-ghost use Rattle.std.specs.Prelude.{◌≡◌, ◌≢◌, ◌+◌, ◌<◌, ◌≤◌, ◌⊎◌, ◌↔◌, ℕ, true, length, IfOk, OnOk, IfSome, IfNone, MatchOption};
+ghost use Rattle.std.specs.Prelude.{◌≡◌, ◌≢◌, ◌+◌, ◌<◌, ◌≤◌, ◌⊎◌, ◌↔◌, ℕ, length, IfOk, OnOk, IfSome, IfNone, MatchOption};
 ghost use Rattle.std.specs.BTreeSet.{btree_set_len};
 ghost use Rattle.ar_base.specs.Lists.{IsOneOf, Stands};
 ghost use Rattle.flow_propagate.specs.Plan.{Reader};
 ghost use Rattle.flow_propagate.specs.Closing.{IsAgain};
-ghost use Rattle.flow_changes.specs.Queue.{Rises, IsLater, WaitsAt, IsQueue, TakesPlace, AddsPlaces, IsPlaceOf};
+ghost use Rattle.flow_changes.specs.Queue.{WaitsAt, IsQueue, TakesPlace, AddsPlaces, IsPlaceOf};
 
 use ar_base::{AssignId, Memory, VarId};
 use std::collections::BTreeSet;
@@ -60,19 +60,10 @@ fn add(place: usize, work: &mut Queue) -> Result<(), Memory>
     requires one { IsOneOf work.old.list.items place }
     ensures { IfOk result (λ _. AddsPlaces 1 (λ q. q ≡ place) work.old work.new) }
 {
-    if is_later(&work.list, work.next, place) {
+    if work.next < work.list.len() && work.list[work.next] <= place {
         return Ok(());
     }
     add_again(&mut work.again, place)
-}
-
-// Whether the place stands in the list where it was not taken.
-fn is_later(list: &[usize], next: usize, place: usize) -> bool
-    requires rises { Rises list.now }
-    requires one { IsOneOf list.now place }
-    ensures { result ≡ true → IsLater list.now next place }
-{
-    next < list.len() && list[next] <= place
 }
 
 // Adds a place to those that were added again.

@@ -51,11 +51,6 @@ pub record IsState (p : GtsParts) (n : ℕ) : Type 0 where
 abbrev pub AreToState : GtsParts → List Effect → Type 0
 AreToState p effects = (n : ℕ) (v : Value) → Gives effects n v → IsState p n
 
--- the effect's value is outside the variable's domain, or in it, as the test says
-abbrev pub LeavesOrKeeps : Bool → Variable → Effect → Type 0
-LeavesOrKeeps true x e = Holds x.domain e.value → ⊥
-LeavesOrKeeps false x e = Holds x.domain e.value
-
 -- the variable receives a value outside its domain
 pub record Leaves (p : GtsParts) (effects : List Effect) (n : ℕ) : Type 0 where
   pub variable : Variable

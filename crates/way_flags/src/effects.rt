@@ -4,7 +4,7 @@ ghost use Rattle.std.specs.Prelude.{◌≡◌, ◌<◌, ◌++◌, ℕ, length, I
 ghost use Rattle.std.specs.List.Sorted.{IsPermutation, IsNonDecreasingBy};
 ghost use Rattle.ar_base.specs.Lists.{Stands};
 ghost use Rattle.ar_base.specs.Numbers.{WayId as Number};
-ghost use Rattle.way_flags.specs.Effects.{action_effects, body_effects, taken_effects};
+ghost use Rattle.way_flags.specs.Effects.{action_effects, taken_effects};
 
 use ar_base::{Memory, VarId, WayId};
 use domains::Value;
@@ -33,19 +33,12 @@ pub(crate) fn effects(
 {
     let mut all = Vec::new(alloc);
     for way in ways {
-        add_effects(values, &parts.ways[way.n as usize].body, &mut all)?;
+        match &parts.ways[way.n as usize].body {
+            WayBody::Local(_, action) => add_reached(values, action, &mut all)?,
+            WayBody::Sync(_) => {}
+        }
     }
     Ok(all)
-}
-
-// Adds the effects of a way's own action.
-fn add_effects(values: &[Value], body: &WayBody, all: &mut Vec<Effect>) -> Result<(), Memory>
-    ensures { OnOk result (all.new.items ≡ all.old.items ++ body_effects values.now body.now) }
-{
-    match body {
-        WayBody::Local(_, action) => add_reached(values, action, all),
-        WayBody::Sync(_) => Ok(()),
-    }
 }
 
 // Adds the effects of the assignments that are reached.

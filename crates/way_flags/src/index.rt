@@ -2,11 +2,11 @@
 
 ghost use Rattle.std.specs.Prelude.{◌≡◌, ◌<◌, ◌+◌, ◌^◌, length, IfOk};
 ghost use Rattle.gts_core.specs.Sound.{IsSound};
-ghost use Rattle.way_flags.specs.Ways.{IsOrder, parts_of};
-ghost use Rattle.way_flags.specs.Index.{IsWayIndex, AreGuards, AreAbove, AddsGuards, AddsParts, ArePlacedUpTo};
+ghost use Rattle.way_flags.specs.Ways.{IsOrder};
+ghost use Rattle.way_flags.specs.Index.{IsWayIndex, AreGuards, AreAbove, AddsParts, ArePlacedUpTo};
 
 use crate::order::way_order;
-use ar_base::{Memory, VarId, WayId};
+use ar_base::{Memory, WayId};
 use flow_propagate::add_named_pairs;
 use gts_core::{GtsParts, WayBody};
 use number_pairs::{IndexedPairs, index_pairs};
@@ -68,24 +68,12 @@ fn guards(alloc: Global, parts: &GtsParts) -> Result<Vec<(u32, u32)>, Memory>
     let mut names = Vec::new(alloc);
     let mut pairs = Vec::new(alloc);
     for (n, way) in parts.ways.iter().enumerate() {
-        add_guards(&way.body, n as u32, &mut names, &mut pairs)?;
+        match &way.body {
+            WayBody::Local(guard, _) => add_named_pairs(guard, n as u32, &mut names, &mut pairs)?,
+            WayBody::Sync(_) => {}
+        }
     }
     Ok(pairs)
-}
-
-// Adds the pairs of a way; the variables that its guard names are gathered in `names`, in place of what it has.
-fn add_guards(
-    body: &WayBody,
-    n: u32,
-    names: &mut Vec<VarId>,
-    pairs: &mut Vec<(u32, u32)>,
-) -> Result<(), Memory>
-    ensures { IfOk result (λ _. AddsGuards body.now n pairs.old.items pairs.new.items) }
-{
-    match body {
-        WayBody::Local(guard, _) => add_named_pairs(guard, n, names, pairs),
-        WayBody::Sync(_) => Ok(()),
-    }
 }
 
 // The pairs of a way and a way that has it as a part.
@@ -95,19 +83,12 @@ fn ways_above(alloc: Global, parts: &GtsParts) -> Result<Vec<(u32, u32)>, Memory
 {
     let mut pairs = Vec::new(alloc);
     for (n, way) in parts.ways.iter().enumerate() {
-        add_parts(&way.body, n as u32, &mut pairs)?;
+        match &way.body {
+            WayBody::Local(_, _) => {}
+            WayBody::Sync(parts) => add_each(parts, n as u32, &mut pairs)?,
+        }
     }
     Ok(pairs)
-}
-
-// Adds the pairs of a way.
-fn add_parts(body: &WayBody, n: u32, pairs: &mut Vec<(u32, u32)>) -> Result<(), Memory>
-    ensures { IfOk result (λ _. AddsParts (parts_of body.now) n pairs.old.items pairs.new.items) }
-{
-    match body {
-        WayBody::Local(_, _) => Ok(()),
-        WayBody::Sync(parts) => add_each(parts, n, pairs),
-    }
 }
 
 // Adds the pairs of these parts.

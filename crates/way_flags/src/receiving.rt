@@ -3,14 +3,13 @@
 ghost use Rattle.std.specs.Prelude.{◌≡◌, ◌<◌, ℕ, true, length, IfErr, IfOk, OnOk};
 ghost use Rattle.std.specs.List.Sorted.{IsNonDecreasingBy};
 ghost use Rattle.ar_meaning.specs.Systems.{Way};
-ghost use Rattle.domains.specs.Domains.{IsDomain};
 ghost use Rattle.gts_core.specs.View.{net_of, IsWayAt};
 ghost use Rattle.gts_core.specs.Sound.{IsSound};
 ghost use Rattle.gts_core.specs.Readings.{IsTotal};
 ghost use Rattle.flow_propagate.specs.Answers.{IsState};
 ghost use Rattle.flow_propagate.specs.NewValues.{AreNewValues, written};
 ghost use Rattle.way_flags.specs.Ways.{AreFlags, flag_at};
-ghost use Rattle.way_flags.specs.Receiving.{AddsOne, AreOneEach, AreToState, ClashOrAgree, IsLeastClash, IsLeastLeaving, LastOrOther, LeavesOrKeeps};
+ghost use Rattle.way_flags.specs.Receiving.{AddsOne, AreOneEach, AreToState, ClashOrAgree, IsLeastClash, IsLeastLeaving, LastOrOther};
 ghost use Rattle.way_flags.specs.Ready.{AreReceived, IsReady, IsReceiveFault};
 
 use crate::effects::{Effect, effects, in_order};
@@ -18,7 +17,7 @@ use crate::faults::ReceiveFault;
 use crate::takers::takers;
 use ar_base::{Memory, VarId, WayId};
 use domains::Value;
-use gts_core::{GtsParts, Variable};
+use gts_core::GtsParts;
 use std::alloc::Global;
 
 /// What the state variables receive where a way is fired that can be: each variable that receives a value, ascending, with
@@ -87,19 +86,14 @@ fn first_leaving(parts: &GtsParts, effects: &[Effect]) -> Option<VarId>
     ensures { IsLeastLeaving parts.now effects.now result }
 {
     for effect in effects {
-        if leaves(&parts.variables[effect.target.n as usize], effect) {
+        if !parts.variables[effect.target.n as usize]
+            .domain
+            .holds(effect.value)
+        {
             return Some(effect.target);
         }
     }
     None
-}
-
-// Whether an effect's value is outside the variable's domain.
-fn leaves(variable: &Variable, effect: &Effect) -> bool
-    requires { IsDomain variable.now.domain }
-    ensures { LeavesOrKeeps result variable.now effect.now }
-{
-    !variable.domain.holds(effect.value)
 }
 
 // The first effect on each variable, as its number and the value.

@@ -5,7 +5,7 @@ ghost use Rattle.std.specs.BTreeSet.{contains};
 ghost use Rattle.std.specs.Ordering.{nat_cmp};
 ghost use Rattle.gts_core.specs.Sound.{IsSound};
 ghost use Rattle.way_flags.specs.Taking.{AreTakers, takes_part};
-ghost use Rattle.way_flags.specs.Meeting.{AreMet, IsAlone, IsIn, Meets, MeetsParts};
+ghost use Rattle.way_flags.specs.Meeting.{AreMet, IsIn, Meets, MeetsParts};
 
 use crate::is_set;
 use ar_base::{Memory, WayId};
@@ -36,7 +36,11 @@ pub(crate) fn takers(
     requires inside { way.n < length parts.now.ways.items }
     ensures { IfOk result (λ ways. AreTakers parts.now flags.now way.n ways.items) }
 {
-    let mut met = alone(alloc, way)?;
+    let mut met = Met {
+        ways: Vec::new(alloc),
+        numbers: BTreeSet::new(alloc),
+    };
+    meet(way, &mut met)?;
     let mut done = 0;
     while done < met.ways.len() {
         let next = met.ways[done];
@@ -45,18 +49,6 @@ pub(crate) fn takers(
     }
     let Met { ways, numbers: _ } = met;
     Ok(ways)
-}
-
-// The way that is fired, alone.
-fn alone(alloc: Global, way: WayId) -> Result<Met, Memory>
-    ensures { IfOk result (IsAlone way) }
-{
-    let mut met = Met {
-        ways: Vec::new(alloc),
-        numbers: BTreeSet::new(alloc),
-    };
-    meet(way, &mut met)?;
-    Ok(met)
 }
 
 // Meets the parts of a way that take part.

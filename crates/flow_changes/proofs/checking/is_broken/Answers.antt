@@ -2,7 +2,7 @@ use Rattle.std.proofs.Common.{◌<◌, length, sym, ◌∙◌, ap}
 use Rattle.std.specs.List.{list_all}
 use Rattle.ar_base.proofs.Standing.{stands_get}
 use Rattle.domains.specs.declared.Value.TheVariants.{Truth}
-use Rattle.std.proofs.Common.{false}
+use Rattle.std.proofs.Common.{false, rules}
 use Rattle.gts_core.specs.Readings.{is_met}
 use Rattle.flow_changes.proofs.Breaking.{not_reached, broken_answer, target_within}
 use Rattle.flow_changes.proofs.checking.is_broken.Goals as goal
@@ -26,4 +26,4 @@ returns c =
     let met = ap (list_all (is_met t)) (sym c.deref.ensures.value) ∙ sym c.are_met.ensures ∙ c.if-not-are_met.false in
     let read = c.value_in.ensures in
     broken_answer p c.requires.sound a c.requires.one t c.requires.total met c.value_in.result read _
-    (stands_get t a.target.n (Truth false) below) c.differs.result c.differs.ensures
+    (stands_get t a.target.n (Truth false) below) _ (search rules)

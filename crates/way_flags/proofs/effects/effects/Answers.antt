@@ -1,13 +1,16 @@
-use Rattle.std.proofs.Common.{◌≡◌, ◌<◌, ℕ, ◌+◌, ◌++◌, ◌∷◌, [], List, Option, Some, take, get_or, slice_get, sym, ap, subst, ◌∙◌}
+use Rattle.std.proofs.Common.{◌≡◌, ◌<◌, ℕ, ◌+◌, ◌++◌, ◌∷◌, [], List, Option, Some, take, get_or, slice_get, append-nil, Vec, Global, sym, ap, subst, ◌∙◌}
 use Rattle.std.proofs.lemmas.List.{take_all, take_more}
 use Rattle.ar_base.specs.Numbers.{WayId}
 use Rattle.ar_base.proofs.Standing.{stands_get}
+use Rattle.gts_core.specs.declared.system.Assign.{Assign}
 use Rattle.gts_core.specs.declared.system.Way.{Way}
+use Rattle.gts_core.specs.declared.system.WayBody.{WayBody}
 use Rattle.way_flags.proofs.Lists.{read_stands}
-use Rattle.way_flags.specs.Effects.{body_effects, found_effects, taken_effects}
+use Rattle.way_flags.specs.Effects.{action_effects, body_effects, found_effects, taken_effects}
 use Rattle.way_flags.specs.declared.effects.Effect.{Effect}
 use Rattle.way_flags.proofs.Growing.{taken_more}
 use Rattle.way_flags.proofs.effects.effects.Goals as goal
+use Rattle.way_flags.proofs.effects.effects.Goals.{in-Local+in_ok-add_reached-in-Local, in-Sync}
 
 no_way : WayId
 no_way = record { n = 0; of = record {} }
@@ -36,7 +39,17 @@ loop-way-preserved c =
     let more : take (i + 1) ids ≡ take i ids ++ id ∷ [] = take_more ids i no_way c.loop-way-test.true in
     let st : slice_get ways id.n ≡ Some w =
     read_stands ways id.n w (c.requires i id (stands_get ids i no_way c.loop-way-test.true)) c.index.ensures in
-    c.in_ok-add_effects.ensures ∙ ap (λ (z : List Effect). z ++ body_effects t w.body) c.loop-way.invariant
+    let old = c.loop-way.all.items in
+    let added : c.match-index.all.items ≡ old ++ body_effects t w.body = elim c.match-index.branch [
+      | in-Local+in_ok-add_reached-in-Local v ↦
+          ap (λ (z : Vec Effect Global). z.items) v.all-is ∙ v.in_ok-add_reached-in-Local.ensures
+          ∙ ap (λ (z : List Assign). old ++ action_effects t z) v.deref.ensures.value
+          ∙ ap (λ (z : WayBody). old ++ body_effects t z) (sym v.in-Local.is)
+      | in-Sync v ↦
+          ap (λ (z : Vec Effect Global). z.items) v.all-is ∙ sym (append-nil old)
+          ∙ ap (λ (z : WayBody). old ++ body_effects t z) (sym v.in-Sync.is)
+    ] in
+    added ∙ ap (λ (z : List Effect). z ++ body_effects t w.body) c.loop-way.invariant
     ∙ ap (λ (z : Option Way). taken_effects t ways (take i ids) ++ found_effects t z) (sym st)
     ∙ sym (taken_more t ways (take i ids) id) ∙ ap (taken_effects t ways) (sym more)
 

@@ -1,4 +1,4 @@
-use Rattle.std.proofs.Common.{◌≡◌, false, get_or, length, vec_len, refl, arith}
+use Rattle.std.proofs.Common.{◌≡◌, ◌∙◌, sym, false, true≢false, get_or, length, vec_len, refl, arith}
 use Rattle.ar_base.specs.Lists.{Stands}
 use Rattle.ar_base.proofs.Standing.{stands_get, stands_within}
 use Rattle.domains.specs.declared.Value.TheVariants.{Truth}
@@ -29,9 +29,9 @@ index-requires c =
     let count : vec_len p.variables ≡ length p.variables.items = omega (arith, p.variables.ok.0) in
     omega (arith, w, count)
 
-pub leaves-requires : goal.leaves-requires
+pub holds-requires : goal.holds-requires
 unfolding no_effect
-leaves-requires c =
+holds-requires c =
     let p = c.args.parts.now in
     let effects = c.args.effects.now in
     let i = c.loop-effect.effect-index in
@@ -48,9 +48,9 @@ leaves-requires c =
     (c.requires.sound.variables e.target.n c.index.result.now
     (read_stands p.variables.items e.target.n c.index.result.now w c.index.ensures)).domain
 
-pub returns-then-leaves : goal.returns-then-leaves
+pub returns-then-not-holds : goal.returns-then-not-holds
 unfolding no_effect
-returns-then-leaves c =
+returns-then-not-holds c =
     let p = c.args.parts.now in
     let effects = c.args.effects.now in
     let i = c.loop-effect.effect-index in
@@ -60,7 +60,8 @@ returns-then-leaves c =
     (record { place = i; effect = e; stands = at; target = refl; value = refl }) in
     let w = stands_within p.variables.items e.target.n x.variable x.stands in
     let there : Stands p.variables.items e.target.n c.index.result.now = read_stands p.variables.items e.target.n c.index.result.now w c.index.ensures in (
-      leaves_there p effects i e c.index.result.now at there c.if-leaves.ensures,
+      leaves_there p effects i e c.index.result.now at there
+          (λ h. true≢false (sym (c.holds.ensures.1 h) ∙ c.if-not-holds.true)),
       keeps_lesser p effects c.requires.ordered i e at c.loop-effect.invariant,
     )
 
@@ -77,7 +78,7 @@ loop-effect-preserved c =
     let w = stands_within p.variables.items e.target.n x.variable x.stands in
     let there : Stands p.variables.items e.target.n c.index.result.now =
     read_stands p.variables.items e.target.n c.index.result.now w c.index.ensures in
-    keep_next p effects i e c.index.result.now at there c.if-leaves.ensures c.loop-effect.invariant
+    keep_next p effects i e c.index.result.now at there (c.holds.ensures.0 c.if-not-holds.false) c.loop-effect.invariant
 
 pub returns : goal.returns
 returns c = keeps_all c.args.parts.now c.args.effects.now c.loop-effect.effect-index c.loop-effect-test.false

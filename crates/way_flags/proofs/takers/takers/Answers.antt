@@ -2,12 +2,14 @@ use Rattle.std.proofs.Common.{◌≡◌, ◌+◌, ◌-◌, ◌<◌, length, vec_
 use Rattle.ar_base.specs.Lists.{Stands}
 use Rattle.ar_base.specs.Numbers.{WayId}
 use Rattle.way_flags.proofs.Lists.{read_stands}
-use Rattle.way_flags.proofs.Meeting.{taking_first, taking_next, taking_all, met_within, few_met}
+use Rattle.way_flags.proofs.Meeting.{taking_first, taking_next, taking_all, met_within, few_met, is_alone}
 use Rattle.way_flags.proofs.takers.takers.Goals as goal
 
 pub loop-done-init : goal.loop-done-init
 loop-done-init c = taking_first c.args.parts.now c.requires.sound c.args.flags.now c.args.way.n c.requires.inside
-    c.args.way c.in_ok-met.met refl c.in_ok-met.ensures
+    c.args.way c.meet.new.met refl
+    (is_alone c.args.way (record { ways = c.new.result; numbers = c.new-2.result }) c.meet.new.met
+    c.new.ensures.items c.in_ok-meet.ensures)
 
 pub index-requires : goal.index-requires
 index-requires c =

@@ -8,7 +8,6 @@ ghost use Rattle.class_table.specs.Members.{owned_at as declared_at};
 ghost use Rattle.class_table.specs.Tables.{IsBodyOf, site_of};
 ghost use Rattle.hierarchy.specs.Listing.{all_in, asserted as asserted_by, form_of, forms_at};
 ghost use Rattle.hierarchy.specs.Models.{RootedModel};
-ghost use Rattle.hierarchy.specs.Tie.{IsUnitNode};
 ghost use Rattle.hierarchy.specs.Units.{UnitPath, members_at};
 ghost use Rattle.bind_scopes.specs.Scopes.{HasScopes};
 ghost use Rattle.bind_values.specs.Settled.{AreSettled};
@@ -21,27 +20,16 @@ use bind_scopes::{Scopes, members_of};
 use bind_values::{Values, assertion};
 use class_table::{Body, Owned, owned_at};
 use gts_core::Act;
-use hierarchy::UnitNode;
 use std::alloc::Global;
-
-// The instruction of an assertion.
-fn asserted(owned: &Owned) -> Option<&Instr>
-    ensures { option_copied result ≡ asserted_in (Some owned.now) }
-{
-    match owned {
-        Owned::Plain(Member::Assert(instr)) => Some(instr),
-        _ => None,
-    }
-}
 
 // The instruction of the assertion that stands there.
 fn asserted_at(bodies: &[Body], site: (BodyId, u32)) -> Option<&Instr>
     ensures { (d : Declared) → Along IsBodyOf bodies.now d.bodies
         → option_copied result ≡ asserted_in (declared_at d (site_of site)) }
 {
-    match owned_at(bodies, site) {
-        None => None,
-        Some(owned) => asserted(owned),
+    match owned_at(bodies, site)? {
+        Owned::Plain(Member::Assert(instr)) => Some(instr),
+        _ => None,
     }
 }
 
@@ -96,27 +84,6 @@ fn add_all(
     Ok(())
 }
 
-// Adds what the assertions of a unit become.
-fn add_unit(
-    acts: &mut Vec<Act>,
-    alloc: Global,
-    scopes: &Scopes<'_>,
-    values: &Values,
-    unit: UnitId,
-    node: &UnitNode,
-) -> Result<(), Memory>
-    requires scopes { HasScopes scopes.now }
-    requires in_range { unit.n < length scopes.now.tree.now.units.items }
-    ensures { (m : RootedModel) (units : List UnitPath) (u : UnitPath)
-        → AreSettled m units scopes.now values.now → Stands units unit.n u
-        → IsUnitNode m units u node.now
-        → OnOk result (AddsAssertions m units scopes.now.tree.now
-        (all_in u (flat_map asserted_by (forms_at m u))) acts.old.items acts.new.items) }
-{
-    let sites = members_of(&scopes.tree.classes, node.body);
-    add_all(acts, alloc, scopes, values, unit, sites)
-}
-
 /// The instructions of the assertions of a tree, by unit and member. Each unit's members are read
 /// once. The error is want of memory.
 pub fn assertions(alloc: Global, scopes: &Scopes<'_>, values: &Values) -> Result<Vec<Act>, Memory>
@@ -127,7 +94,8 @@ pub fn assertions(alloc: Global, scopes: &Scopes<'_>, values: &Values) -> Result
     let mut acts = Vec::new(alloc);
     for (place, node) in scopes.tree.units.iter().enumerate() {
         let unit = UnitId::new(place as u32);
-        add_unit(&mut acts, alloc, scopes, values, unit, node)?;
+        let sites = members_of(&scopes.tree.classes, node.body);
+        add_all(&mut acts, alloc, scopes, values, unit, sites)?;
     }
     Ok(acts)
 }

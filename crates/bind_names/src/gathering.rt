@@ -8,7 +8,7 @@ ghost use Rattle.class_table.specs.Members.{owned_at as declared_at};
 ghost use Rattle.class_table.specs.Tables.{site_of};
 ghost use Rattle.hierarchy.specs.Models.{RootedModel};
 ghost use Rattle.hierarchy.specs.Units.{UnitPath};
-ghost use Rattle.hierarchy.specs.Listing.{form_of, forms_at, events as events_of};
+ghost use Rattle.hierarchy.specs.Listing.{form_of, events as events_of};
 ghost use Rattle.bind_scopes.specs.Scopes.{HasScopes};
 ghost use Rattle.bind_values.specs.Settled.{AreSettled};
 ghost use Rattle.bind_names.specs.Ways.{AreMembers};
@@ -68,29 +68,6 @@ fn add(
     }
 }
 
-// The same of a member that may be a block.
-fn add_owned(
-    events: &mut Vec<DeclaredEvent>,
-    alloc: Global,
-    scopes: &Scopes<'_>,
-    values: &Values,
-    unit: UnitId,
-    owned: &Owned,
-) -> Result<(), Memory>
-    requires scopes { HasScopes scopes.now }
-    requires in_range { unit.n < length scopes.now.tree.now.units.items }
-    ensures { (m : RootedModel) (units : List UnitPath) (u : UnitPath)
-        → AreSettled m units scopes.now values.now → Stands units unit.n u
-        → AreMembers m u (form_of (Some owned.now))
-        → OnOk result (AddsMembers m units scopes.now.tree.now u (form_of (Some owned.now))
-        events.old.items events.new.items) }
-{
-    match owned {
-        Owned::Nested(_, _, _) => Ok(()),
-        Owned::Plain(member) => add(events, alloc, scopes, values, unit, member),
-    }
-}
-
 // The same of the member at a site.
 fn add_at(
     events: &mut Vec<DeclaredEvent>,
@@ -110,7 +87,8 @@ fn add_at(
 {
     match owned_at(&scopes.tree.classes.bodies, site) {
         None => Ok(()),
-        Some(owned) => add_owned(events, alloc, scopes, values, unit, owned),
+        Some(Owned::Nested(_, _, _)) => Ok(()),
+        Some(Owned::Plain(member)) => add(events, alloc, scopes, values, unit, member),
     }
 }
 
@@ -139,25 +117,6 @@ fn add_all(
     Ok(())
 }
 
-// Adds what the members of a unit are to the events of the unit.
-fn add_unit(
-    events: &mut Vec<DeclaredEvent>,
-    alloc: Global,
-    scopes: &Scopes<'_>,
-    values: &Values,
-    unit: UnitId,
-) -> Result<(), Memory>
-    requires scopes { HasScopes scopes.now }
-    requires in_range { unit.n < length scopes.now.tree.now.units.items }
-    ensures { (m : RootedModel) (units : List UnitPath) (u : UnitPath)
-        → AreSettled m units scopes.now values.now → Stands units unit.n u
-        → OnOk result (AddsMembers m units scopes.now.tree.now u (forms_at m u)
-        events.old.items events.new.items) }
-{
-    let sites = sites_of(scopes.tree, unit);
-    add_all(events, alloc, scopes, values, unit, sites)
-}
-
 /// Gives each of the events of a tree, which have none, its transitions and synchronisations in member
 /// order. The members of each unit are read once. The error is want of memory.
 pub(crate) fn add_ways(
@@ -173,7 +132,9 @@ pub(crate) fn add_ways(
         events.new.items) }
 {
     for place in 0..scopes.tree.units.len() {
-        add_unit(events, alloc, scopes, values, UnitId::new(place as u32))?;
+        let unit = UnitId::new(place as u32);
+        let sites = sites_of(scopes.tree, unit);
+        add_all(events, alloc, scopes, values, unit, sites)?;
     }
     Ok(())
 }

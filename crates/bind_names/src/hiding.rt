@@ -62,21 +62,6 @@ fn hide_by(marks: &mut Vec<bool>, scopes: &Scopes<'_>, unit: UnitId, member: &Me
     }
 }
 
-// Marks the event that a member hides, where it is no block.
-fn hide_owned(marks: &mut Vec<bool>, scopes: &Scopes<'_>, unit: UnitId, owned: &Owned)
-    requires scopes { HasScopes scopes.now }
-    requires in_range { unit.n < length scopes.now.tree.now.units.items }
-    ensures { (m : RootedModel) (units : List UnitPath) (u : UnitPath)
-        → IsTreeOf m units scopes.now.tree.now → Stands units unit.n u
-        → Marks (events_of m units) (HidesIn m u (form_of (Some owned.now)))
-        marks.old.items marks.new.items }
-{
-    match owned {
-        Owned::Nested(_, _, _) => {}
-        Owned::Plain(member) => hide_by(marks, scopes, unit, member),
-    }
-}
-
 // Marks the event that the member at a site hides.
 fn hide_at(marks: &mut Vec<bool>, scopes: &Scopes<'_>, unit: UnitId, site: (BodyId, u32))
     requires scopes { HasScopes scopes.now }
@@ -89,7 +74,8 @@ fn hide_at(marks: &mut Vec<bool>, scopes: &Scopes<'_>, unit: UnitId, site: (Body
 {
     match owned_at(&scopes.tree.classes.bodies, site) {
         None => {}
-        Some(owned) => hide_owned(marks, scopes, unit, owned),
+        Some(Owned::Nested(_, _, _)) => {}
+        Some(Owned::Plain(member)) => hide_by(marks, scopes, unit, member),
     }
 }
 

@@ -2,14 +2,11 @@
 
 ghost use Rattle.std.specs.Prelude.{◌≡◌, List, [], map, IfOk};
 ghost use Rattle.ar_base.specs.Lists.{Along};
-ghost use Rattle.ar_meaning.specs.Found.{IsAnswer};
 ghost use Rattle.hierarchy.specs.Models.{RootedModel};
-ghost use Rattle.hierarchy.specs.Units.{UnitPath, Thing};
+ghost use Rattle.hierarchy.specs.Units.{UnitPath};
 ghost use Rattle.hierarchy.specs.Listing.{events as events_of};
 ghost use Rattle.hierarchy.specs.Paths.{thing_path};
-ghost use Rattle.hierarchy.specs.Tie.{IsPlainNode, IsTreeOf};
-ghost use Rattle.hierarchy.specs.declared.tree.Tree.{Tree as TreeOf};
-ghost use Rattle.source_meaning.specs.Systems.{IsHidden};
+ghost use Rattle.hierarchy.specs.Tie.{IsTreeOf};
 ghost use Rattle.bind_scopes.specs.Scopes.{HasScopes};
 ghost use Rattle.bind_values.specs.Settled.{AreSettled};
 ghost use Rattle.bind_names.specs.Bound.{IsBoundEvent};
@@ -22,25 +19,7 @@ use ar_base::{Memory, Text};
 use bind_scopes::Scopes;
 use bind_values::Values;
 use gts_core::DeclaredEvent;
-use hierarchy::MemNode;
 use std::alloc::Global;
-
-// An event by numbers without its ways, where its path is known, and whether a `hide` clause names it.
-fn head_of(alloc: Global, path: &str, node: &MemNode, hidden: bool) -> Result<DeclaredEvent, Memory>
-    ensures { (m : RootedModel) (units : List UnitPath) (tree : TreeOf) (t : Thing)
-        → path.now ≡ thing_path m t → IsPlainNode m units t node.now
-        → IsAnswer hidden (IsHidden m units t) → IfOk result (HasWays m units tree [] t) }
-{
-    let text = String::from_str(alloc, path)?;
-    let path = Text::new(text);
-    let ways = Vec::new(alloc);
-    Ok(DeclaredEvent {
-        path,
-        unit: node.unit,
-        hidden,
-        ways,
-    })
-}
 
 // The events of a tree without their ways, where these are their canonical paths.
 fn heads(alloc: Global, scopes: &Scopes<'_>, paths: &[Text]) -> Result<Vec<DeclaredEvent>, Memory>
@@ -53,9 +32,15 @@ fn heads(alloc: Global, scopes: &Scopes<'_>, paths: &[Text]) -> Result<Vec<Decla
     let hidden = hidden_events(alloc, scopes)?;
     let mut events = Vec::new(alloc);
     for (place, node) in scopes.tree.events.iter().enumerate() {
-        let path = text_there(paths, place);
-        let event = head_of(alloc, path, node, hidden[place])?;
-        events.push(event)?;
+        let text = String::from_str(alloc, text_there(paths, place))?;
+        let path = Text::new(text);
+        let ways = Vec::new(alloc);
+        events.push(DeclaredEvent {
+            path,
+            unit: node.unit,
+            hidden: hidden[place],
+            ways,
+        })?;
     }
     Ok(events)
 }

@@ -1,14 +1,9 @@
 //! How long the paths of a model are together.
 
 use crate::paths::text_of;
-use ar_base::{Memory, NameId, Names, UnitId};
+use ar_base::{Memory, Names, UnitId};
 use hierarchy::{MemNode, Tree};
 use std::alloc::Global;
-
-// The bytes of a name.
-fn name_bytes(names: &Names, name: NameId) -> usize {
-    text_of(names, name).len()
-}
 
 // The number at the place of a unit, 0 past the end.
 fn bytes_there(fronts: &[usize], unit: UnitId) -> usize {
@@ -25,7 +20,7 @@ fn front_bytes(alloc: Global, tree: &Tree) -> Result<Vec<usize>, Memory> {
     for node in &tree.units {
         let bytes = match node.owner {
             Some(owner) => bytes_there(&fronts, owner)
-                .saturating_add(name_bytes(&tree.classes.names, node.name))
+                .saturating_add(text_of(&tree.classes.names, node.name).len())
                 .saturating_add(1),
             None => 0,
         };
@@ -36,7 +31,7 @@ fn front_bytes(alloc: Global, tree: &Tree) -> Result<Vec<usize>, Memory> {
 
 // The bytes of the path of a thing.
 fn thing_bytes(names: &Names, fronts: &[usize], node: &MemNode) -> usize {
-    bytes_there(fronts, node.unit).saturating_add(name_bytes(names, node.name))
+    bytes_there(fronts, node.unit).saturating_add(text_of(names, node.name).len())
 }
 
 // The bytes of the paths of these things.
@@ -57,24 +52,17 @@ fn variables_bytes(tree: &Tree, fronts: &[usize]) -> usize {
     total
 }
 
-// The bytes of the paths of the units, and of what stands before names in them.
-fn units_bytes(fronts: &[usize]) -> usize {
-    let mut total: usize = 0;
-    for bytes in fronts {
-        total = total.saturating_add(*bytes).saturating_add(*bytes);
-    }
-    total
-}
-
 /// The bytes of the paths of all units, variables, events and observers, and of what stands before
 /// names in units. The error is want of memory.
 pub(crate) fn path_bytes(alloc: Global, tree: &Tree) -> Result<usize, Memory> {
     let names = &tree.classes.names;
     let fronts = front_bytes(alloc, tree)?;
-    Ok(
-        units_bytes(&fronts)
-            .saturating_add(variables_bytes(tree, &fronts))
-            .saturating_add(things_bytes(names, &fronts, &tree.events))
-            .saturating_add(things_bytes(names, &fronts, &tree.observers)),
-    )
+    let mut total = variables_bytes(tree, &fronts)
+        .saturating_add(things_bytes(names, &fronts, &tree.events))
+        .saturating_add(things_bytes(names, &fronts, &tree.observers));
+    // Each unit has its path, and what stands before names in it.
+    for bytes in &fronts {
+        total = total.saturating_add(*bytes).saturating_add(*bytes);
+    }
+    Ok(total)
 }

@@ -2,8 +2,6 @@
 
 ghost use Rattle.std.specs.Prelude.{◌<◌, List, length, IfOk, OnOk};
 ghost use Rattle.ar_base.specs.Lists.{Stands, IsOneOf, Along};
-ghost use Rattle.ar_base.specs.Numbers.{NameId as Name};
-ghost use Rattle.ar_base.specs.declared.places.Place.{Place as Position};
 ghost use Rattle.ar_syntax.specs.declared.members.Part.{Part as WrittenPart};
 ghost use Rattle.ar_syntax.specs.declared.members.Member.{out-Member};
 ghost use Rattle.ar_syntax.specs.declared.members.Member.TheOpen.{Local, Sync};
@@ -15,11 +13,11 @@ ghost use Rattle.hierarchy.specs.Walks.{is_event};
 ghost use Rattle.source_meaning.specs.Rules.{FindsNone};
 ghost use Rattle.bind_scopes.specs.Scopes.{HasScopes};
 ghost use Rattle.bind_values.specs.Settled.{AreSettled};
-ghost use Rattle.bind_names.specs.Ways.{IsBoundPart, IsBoundWay, AddsPart};
+ghost use Rattle.bind_names.specs.Ways.{IsBoundPart, AddsPart};
 ghost use Rattle.bind_names.specs.Gathering.{IsNamedWay};
 
 use ar_base::{EventId, Memory, NameId, UnitId};
-use ar_syntax::{Instr, Member, Part, RawExpr};
+use ar_syntax::{Member, Part};
 use bind_scopes::Scopes;
 use bind_values::{Values, action as bind_action, expression};
 use gts_core::DeclaredWay;
@@ -69,27 +67,6 @@ fn parts_of(
     Ok(bound)
 }
 
-// A transition.
-fn local(
-    alloc: Global,
-    scopes: &Scopes<'_>,
-    values: &Values,
-    unit: UnitId,
-    guard: &RawExpr,
-    action: &Instr,
-) -> Result<DeclaredWay, Memory>
-    requires scopes { HasScopes scopes.now }
-    requires in_range { unit.n < length scopes.now.tree.now.units.items }
-    ensures { (m : RootedModel) (units : List UnitPath) (u : UnitPath) (x : Name) (at : Position)
-        → AreSettled m units scopes.now values.now → Stands units unit.n u
-        → IsOneOf (forms_at m u) (Local x at guard.now action.now)
-        → IfOk result (IsBoundWay m units scopes.now.tree.now u (Local x at guard.now action.now)) }
-{
-    let test = expression(alloc, scopes, values, unit, guard)?;
-    let act = bind_action(alloc, scopes, values, unit, action)?;
-    Ok(DeclaredWay::Local(test, act))
-}
-
 /// The transition or the synchronisation that a member is, with the name of its event. None of a
 /// member that is neither.
 pub(crate) fn way_of(
@@ -108,8 +85,9 @@ pub(crate) fn way_of(
 {
     match member {
         Member::Local(name, _, guard, action) => {
-            let way = local(alloc, scopes, values, unit, guard, action)?;
-            Ok(Some((*name, way)))
+            let test = expression(alloc, scopes, values, unit, guard)?;
+            let act = bind_action(alloc, scopes, values, unit, action)?;
+            Ok(Some((*name, DeclaredWay::Local(test, act))))
         }
         Member::Sync(name, at, parts) => {
             let bound = parts_of(alloc, scopes, unit, parts)?;

@@ -1,11 +1,11 @@
 //! All members of each body, the inherited ones first.
 
-ghost use Rattle.std.specs.Prelude.{◌≡◌, ◌++◌, ◌<◌, ◌≤◌, ℕ, List, [], ◌∷◌, length, map, OnOk, IfOk, option_map};
+ghost use Rattle.std.specs.Prelude.{◌≡◌, ◌++◌, ◌<◌, ◌≤◌, ℕ, List, length, map, OnOk, IfOk, option_map};
 ghost use Rattle.class_table.specs.Declaring.{Declared};
 ghost use Rattle.class_table.specs.Members.{Members, Inherits, own_at, sites_from, extended as declared_extended};
 ghost use Rattle.class_table.specs.Tables.{site_of};
 ghost use Rattle.class_table.specs.Shown.{Shows, IsListed};
-ghost use Rattle.class_table.specs.Listing.{ListsDone, IsDone, AreDone, CanList, IsOfClass, InheritsMore};
+ghost use Rattle.class_table.specs.Listing.{ListsDone, IsDone, AreDone, CanList, IsOfClass};
 
 use crate::tables::{Body, MOST_MEMBERS, Owned};
 use crate::types::TypeKinds;
@@ -103,32 +103,11 @@ fn inherited(
 {
     let mut all = Vec::with_capacity(alloc, count)?;
     for owned in own {
-        inherit(&mut all, bodies, types, owned)?;
-    }
-    Ok(all)
-}
-
-// Adds what a member brings of the class that it extends, if it extends one.
-fn inherit(
-    all: &mut Vec<(BodyId, u32)>,
-    bodies: &[Body],
-    types: &TypeKinds,
-    owned: &Owned,
-) -> Result<(), Memory>
-    requires { (d : Declared) × (done : List ℕ) × ListsDone d done bodies.now types.now
-        × AreDone d done (owned.now ∷ []) }
-    ensures { (d : Declared) (done : List ℕ) → ListsDone d done bodies.now types.now
-        → AreDone d done (owned.now ∷ [])
-        → OnOk result (InheritsMore d owned.now (map site_of all.old.items)
-        (map site_of all.new.items)) }
-{
-    match extended(owned) {
-        None => Ok(()),
-        Some(name) => {
+        if let Some(name) = extended(owned) {
             all.extend_from_slice(listed_of(bodies, types, name))?;
-            Ok(())
         }
     }
+    Ok(all)
 }
 
 /// The name of the class that a member extends. Takes no memory.

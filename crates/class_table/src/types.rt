@@ -1,14 +1,12 @@
 //! Types by their names.
 
-ghost use Rattle.std.specs.Prelude.{◌≡◌, ◌++◌, ◌∷◌, [], ℕ, List, IfOk, OnOk, option_map};
+ghost use Rattle.std.specs.Prelude.{◌≡◌, IfOk, option_map};
 ghost use Rattle.ar_base.specs.Lists.{Along};
-ghost use Rattle.ar_base.specs.Numbers.{NameId as Name};
-ghost use Rattle.class_table.specs.declared.tables.TypeBody.{TypeBody as Body};
 ghost use Rattle.class_table.specs.Declaring.{Declared};
 ghost use Rattle.class_table.specs.Members.{class_named};
 ghost use Rattle.class_table.specs.Tables.{IsNamedType};
 ghost use Rattle.class_table.specs.Kinds.{KnowsTypes, kind_at};
-ghost use Rattle.class_table.specs.Kinding.{kind_of_type, kind_in};
+ghost use Rattle.class_table.specs.Kinding.{kind_of_type};
 
 use crate::tables::TypeBody;
 use ar_base::{BodyId, Memory, NameId};
@@ -49,22 +47,11 @@ impl TypeKinds {
             kinds: HashMap::new(alloc),
         };
         for (name, body) in types {
-            kinds.add(*name, body)?;
+            if !kinds.kinds.contains_key(&name.n) {
+                kinds.kinds.insert(name.n, kind_of(body))?;
+            }
         }
         Ok(kinds)
-    }
-
-    // Adds a type, where its name has none.
-    fn add(&mut self, name: NameId, body: &TypeBody) -> Result<(), Memory>
-        ensures { (types : List (Name × Body)) → ((x : ℕ) → kind_at self.old x ≡ kind_in types x)
-            → OnOk result ((x : ℕ) → kind_at self.new x
-            ≡ kind_in (types ++ (name, body.now) ∷ []) x) }
-    {
-        if self.kinds.contains_key(&name.n) {
-            return Ok(());
-        }
-        self.kinds.insert(name.n, kind_of(body))?;
-        Ok(())
     }
 
     /// What the name names, where it is a type's. Takes no memory.

@@ -7,8 +7,8 @@ ghost use Rattle.ar_syntax.specs.declared.members.Member.{out-Member};
 ghost use Rattle.class_table.specs.Declaring.{Declared};
 ghost use Rattle.class_table.specs.Members.{names_of, named_at};
 ghost use Rattle.class_table.specs.Tables.{HoldsDeclared, site_of};
-ghost use Rattle.hierarchy.specs.Models.{RootedModel, IsRootedTable};
-ghost use Rattle.hierarchy.specs.Units.{UnitPath, body_of, names_at};
+ghost use Rattle.hierarchy.specs.Models.{RootedModel};
+ghost use Rattle.hierarchy.specs.Units.{UnitPath};
 ghost use Rattle.hierarchy.specs.Listing.{things_in};
 ghost use Rattle.hierarchy.specs.Tie.{AreOutlines};
 ghost use Rattle.unit_rules.specs.Typing.{KnowsPlaces};
@@ -147,27 +147,6 @@ fn add_sites(
     Ok(())
 }
 
-// Adds the nodes of what the members of a unit give of the kind.
-fn add_unit(
-    nodes: &mut Vec<MemNode>,
-    unit: UnitId,
-    body: BodyId,
-    classes: &Classes,
-    places: &TypePlaces,
-    listed: Listed,
-) -> Result<(), Memory>
-    ensures { (m : RootedModel) (u : UnitPath) → IsRootedTable m classes.now
-        → KnowsPlaces classes.now.types.items places.now
-        → body.n ≡ body_of m u
-        → OnOk result (nodes.new.items ≡ nodes.old.items
-        ++ nodes_of unit (test_of listed) (names_at m u)) }
-{
-    match classes.bodies.get(body.n as usize) {
-        None => Ok(()),
-        Some(found) => add_sites(nodes, unit, &found.all, classes, places, listed),
-    }
-}
-
 /// The nodes of all things of the kind, by unit and member.
 pub(crate) fn nodes(
     alloc: Global,
@@ -185,14 +164,10 @@ pub(crate) fn nodes(
 {
     let mut nodes = Vec::new(alloc);
     for (place, outline) in outlines.iter().enumerate() {
-        add_unit(
-            &mut nodes,
-            UnitId::new(place as u32),
-            outline.body,
-            classes,
-            places,
-            listed,
-        )?;
+        let unit = UnitId::new(place as u32);
+        if let Some(body) = classes.bodies.get(outline.body.n as usize) {
+            add_sites(&mut nodes, unit, &body.all, classes, places, listed)?;
+        }
     }
     Ok(nodes)
 }

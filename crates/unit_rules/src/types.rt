@@ -1,14 +1,12 @@
 //! Types by their names.
 
-ghost use Rattle.std.specs.Prelude.{◌≡◌, ◌++◌, ◌∷◌, [], ℕ, List, IfOk, OnOk, nat_eq, length, option_copied};
+ghost use Rattle.std.specs.Prelude.{◌≡◌, IfOk, option_copied};
 ghost use Rattle.std.specs.HashMap as hash;
 ghost use Rattle.ar_base.specs.Lists.{Along};
-ghost use Rattle.ar_base.specs.Numbers.{NameId as Name};
-ghost use Rattle.class_table.specs.declared.tables.TypeBody.{TypeBody as Body};
 ghost use Rattle.class_table.specs.Declaring.{Declared};
 ghost use Rattle.class_table.specs.Members.{type_named};
 ghost use Rattle.class_table.specs.Tables.{IsNamedType};
-ghost use Rattle.unit_rules.specs.Typing.{type_place_in, KnowsPlaces, IsFound, bounds_variables};
+ghost use Rattle.unit_rules.specs.Typing.{KnowsPlaces, IsFound, bounds_variables};
 
 use ar_base::{Memory, NameId};
 use ar_syntax::TypeForm;
@@ -32,23 +30,11 @@ impl TypePlaces {
             places: HashMap::new(alloc),
         };
         for (place, (name, _)) in types.iter().enumerate() {
-            known.add(*name, place)?;
+            if !known.places.contains_key(&name.n) {
+                known.places.insert(name.n, place)?;
+            }
         }
         Ok(known)
-    }
-
-    // Adds the place of a type, where its name has none.
-    fn add(&mut self, name: NameId, place: usize) -> Result<(), Memory>
-        ensures { (types : List (Name × Body)) (body : Body) → length types ≡ place
-            → ((x : ℕ) → hash.get nat_eq self.old.places x ≡ type_place_in types x)
-            → OnOk result ((x : ℕ) → hash.get nat_eq self.new.places x
-            ≡ type_place_in (types ++ (name, body) ∷ []) x) }
-    {
-        if self.places.contains_key(&name.n) {
-            return Ok(());
-        }
-        self.places.insert(name.n, place)?;
-        Ok(())
     }
 
     /// The type of this name, among the types of the table, where there is one. Takes no memory.

@@ -1,4 +1,4 @@
-use Rattle.std.proofs.Common.{◌≤◌, ◌+◌, ℕ, List, [], take, take_all, length, refl, sym, subst, arith}
+use Rattle.std.proofs.Common.{◌≤◌, ◌+◌, ℕ, List, [], take, take_all, length, unwrap_or, slice_get, refl, sym, ap, ◌∙◌, subst, arith}
 use Rattle.std.specs.List.{flat_map}
 use Rattle.ar_base.specs.Lists.{Stands}
 use Rattle.ar_base.proofs.Standing.{along_back, along_length}
@@ -25,8 +25,10 @@ loop-place-preserved c = λ m units st.
     let w = along_back units tree.units.items st.are.is_tree.units_are i c.node-item.result s in
     let at = subst (λ (n : ℕ). Stands units n w.0) (sym c.new-unit.ensures) w.1 in
     adds_join m units tree (assertions m (take i units)) (all_in w.0 (flat_map asserted (forms_at m w.0)))
-    (assertions m (take (i + 1) units)) [] c.loop-place.acts.items c.add_unit.new.acts.items
-    (units_next m units i w.0 w.1) (c.loop-place.invariant m units st) (c.in_ok-add_unit.ensures m units w.0 st at w.2)
+    (assertions m (take (i + 1) units)) [] c.loop-place.acts.items c.add_all.new.acts.items
+    (units_next m units i w.0 w.1) (c.loop-place.invariant m units st) (c.in_ok-add_all.ensures m units w.0 st at
+    (c.members_of-sites.ensures m st.are.is_tree.table.table
+    ∙ ap (λ (k : ℕ). unwrap_or (slice_get m.members k) []) w.2.body))
 
 pub returns : goal.returns
 returns c = λ m units st.

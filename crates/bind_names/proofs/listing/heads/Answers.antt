@@ -1,10 +1,12 @@
-use Rattle.std.proofs.Common.{◌≤◌, List, None, length, get_or, arith, ◌∙◌, subst}
-use Rattle.ar_base.specs.Lists.{Stands}
+use Rattle.std.proofs.Common.{◌<◌, ◌≤◌, ◌^◌, List, [], None, length, get_or, arith, sym, ◌∙◌, subst}
+use Rattle.ar_base.specs.Lists.{Stands, Along, none}
 use Rattle.ar_base.proofs.Standing.{along_back, along_length, stands_get, stands_within}
 use Rattle.class_table.proofs.Taken.{item_stands}
 use Rattle.hierarchy.specs.Listing.{events}
 use Rattle.hierarchy.specs.Paths.{thing_path}
 use Rattle.hierarchy.specs.declared.tree.MemNode.{MemNode}
+use Rattle.gts_core.specs.declared.bound.DeclaredWay.{DeclaredWay}
+use Rattle.bind_names.specs.Ways.{IsBoundWay}
 use Rattle.bind_names.proofs.Named.{text_here}
 use Rattle.bind_names.proofs.Wayed.{rows_start, rows_more, rows_end}
 use Rattle.bind_names.proofs.listing.heads.Goals as goal
@@ -38,7 +40,7 @@ loop-place-preserved c = λ m units is pre.
     let there = stands_get c.deref-node-items.result.now c.loop-place.place no_node c.loop-place-test.true in
     let s = subst (λ (ds : List MemNode). Stands ds c.loop-place.place node) c.deref-node-items.ensures.value there in
     let w = along_back (events m units) nodes is.events_are c.loop-place.place node s in
-    let path = c.text_there-path.ensures
+    let path = c.text_there.ensures
     ∙ text_here (thing_path m) (events m units) c.args.paths.now pre c.loop-place.place w.0 w.1 in
     let hidden = c.in_ok-hidden.ensures m units is in
     let marks = c.in_ok-hidden.hidden.items in
@@ -46,9 +48,15 @@ loop-place-preserved c = λ m units is pre.
     let same = hidden.same in
     let marked = item_stands marks c.loop-place.place c.index.result.now (omega (arith, long, same)) c.index.ensures in
     let told = hidden.tell c.loop-place.place w.0 c.index.result.now w.1 marked in
-    rows_more (events m units) c.loop-place.place w.0 c.in_ok-event.event c.loop-place.events.items
+    let tree = c.args.scopes.now.tree.now in
+    let e = sym c.new-ways.ensures.items in
+    rows_more (events m units) c.loop-place.place w.0 _ c.loop-place.events.items
     c.push.new.self.items w.1 (c.loop-place.invariant m units is pre)
-    (c.in_ok-event.ensures m units c.args.scopes.now.tree.now w.0 path w.2 told) c.in_ok-push.ensures.items
+    (record {
+      head = record { path = c.new-path.ensures ∙ c.in_ok-text.ensures.ok ∙ path; unit = w.2.node.unit; hidden = told };
+      few = subst (λ (ws : List DeclaredWay). length ws < 2 ^ 32) e (omega arith);
+      ways = subst (λ (ws : List DeclaredWay). Along (IsBoundWay m units tree w.0.unit) [] ws) e none;
+    }) c.in_ok-push.ensures.items
 
 pub returns : goal.returns
 returns c = λ m units is pre.

@@ -1,4 +1,4 @@
-use Rattle.std.proofs.Common.{◌∙◌, List, ap, subst, sym}
+use Rattle.std.proofs.Common.{◌∙◌, List, ap, refl, subst, sym}
 use Rattle.ar_base.proofs.Standing.{along_back, along_on}
 use Rattle.class_table.proofs.Taken.{item_stands}
 use Rattle.domains.specs.Domains.{Holds}
@@ -6,7 +6,7 @@ use Rattle.domains.specs.declared.Value.{Value}
 use Rattle.gts_core.specs.Readings.{value_at}
 use Rattle.hierarchy.specs.Listing.{variables}
 use Rattle.bind_values.specs.Values.{IsValue}
-use Rattle.bind_names.proofs.Varied.{value_found, along_at, first_none, first_next, first_all}
+use Rattle.bind_names.proofs.Varied.{bound_variable, sound_variable, value_found, along_at, first_none, first_next, first_all}
 use Rattle.bind_names.proofs.variable_list.variables.Goals as goal
 
 pub loop-place-init : goal.loop-place-init
@@ -27,10 +27,14 @@ loop-place-preserved c = λ m units tied are pre.
     let value = subst (IsValue m w.0) (sym (e ∙ found)) v.2 in
     let held = subst (Holds c.node-item.result.domain) (sym (e ∙ found))
     (along_at nodes values are.variables_held place c.node-item.result v.0 s v.1) in
-    first_next m units c.args.tree.now tied place w.0 c.node-item.result c.in_ok-variable.variable
+    first_next m units c.args.tree.now tied place w.0 c.node-item.result _
     c.loop-place.variables.items c.push.new.self.items w.1 s (c.loop-place.invariant m units tied are pre)
-    (c.in_ok-variable.ensures.bound m units w.0 tied pre w.2 value)
-    (c.in_ok-variable.ensures.sound m units w.0 tied w.2 held) c.in_ok-push.ensures.items
+    (bound_variable m units w.0 c.node-item.result w.2 _
+    (record { unit = refl; domain = c.in_ok-domain.ensures; state = refl }) value
+    (c.in_ok-path.ensures m units w.0 w.2.given tied pre w.2.node))
+    (sound_variable m units w.0 c.node-item.result w.2 _
+    (record { unit = refl; domain = c.in_ok-domain.ensures; state = refl }) c.args.tree.now tied held)
+    c.in_ok-push.ensures.items
 
 pub returns : goal.returns
 returns c = λ m units tied are pre.

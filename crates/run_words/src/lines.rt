@@ -85,21 +85,6 @@ fn fault(kind: ErrorKind) -> JobFault
     }
 }
 
-// The value of an option, or the command's word.
-fn value<'a>(matches: &ArgMatches<'a>, id: &str) -> Option<&'a str>
-    ensures { option_map (λ s. s.now) result ≡ first_of id.now (rows_of (found_of matches.now)) }
-{
-    matches.get_str(id)
-}
-
-// The words behind the command that belong to no option, where there are any.
-fn files<'m, 'a>(matches: &'m ArgMatches<'a>) -> Option<&'m [&'a str]>
-    ensures { option_map (λ s. map (λ w. w.now) s.now) result
-        ≡ all_of (codes "file") (rows_of (found_of matches.now)) }
-{
-    matches.get_strs("file")
-}
-
 // What a command line says.
 #[derive(Drop)]
 pub struct CommandLine<'m, 'a> {
@@ -120,12 +105,12 @@ pub(crate) fn command_line<'m, 'a>(matches: &'m ArgMatches<'a>) -> CommandLine<'
     ensures { told result ≡ command_words_of (rows_of (found_of matches.now)) }
 {
     CommandLine {
-        command: value(matches, "command"),
-        files: files(matches),
-        main: value(matches, "main"),
-        observer: value(matches, "observer"),
-        value: value(matches, "value"),
-        nodes: value(matches, "nodes"),
-        dropped: value(matches, "drop"),
+        command: matches.get_str("command"),
+        files: matches.get_strs("file"),
+        main: matches.get_str("main"),
+        observer: matches.get_str("observer"),
+        value: matches.get_str("value"),
+        nodes: matches.get_str("nodes"),
+        dropped: matches.get_str("drop"),
     }
 }

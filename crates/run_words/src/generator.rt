@@ -39,7 +39,7 @@ pub fn make_text(alloc: Global, number: u32) -> Result<Vec<u8>, Memory>
     ensures { IfOk result (λ text. text.items ≡ generated number) }
 {
     let mut text = Vec::new(alloc);
-    put_classes(&mut text)?;
+    put(&mut text, CLASSES)?;
     put_components(&mut text, number)?;
     put_flows(&mut text, pairs(number))?;
     put_observer(&mut text, pairs(number))?;
@@ -72,13 +72,6 @@ fn put_number(text: &mut Vec<u8>, number: u32) -> Result<(), Memory>
 {
     let mut buffer = Buffer::new();
     put(text, buffer.format(number))
-}
-
-// Puts the domains, the classes and the head of the block.
-fn put_classes(text: &mut Vec<u8>) -> Result<(), Memory>
-    ensures { OnOk result (text.new.items ≡ text.old.items ++ lines classes) }
-{
-    put(text, CLASSES)
 }
 
 // Puts the components: a short one for each odd number, a long one for each even number.

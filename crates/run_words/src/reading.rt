@@ -3,9 +3,7 @@
 ghost use Rattle.std.specs.Prelude.{◌≡◌, ◌↔◌, ℕ, Option, map, option_map, IfOk, IfErr, IsTrue, MatchOption, Some};
 ghost use Rattle.ar_base.specs.Texts.{bytes_of_all};
 ghost use Rattle.run_words.specs.declared.jobs.Job.{Job as Jobs};
-ghost use Rattle.run_words.specs.declared.verbs.Verb.{Verb as Verbs};
 ghost use Rattle.run_words.specs.declared.jobs.JobFault.TheVariants.{Usage, Memory as OutOfMemory};
-ghost use Rattle.run_words.specs.Commands.{word_of};
 ghost use Rattle.run_words.specs.Jobs.{IsJob, IsJobOf, IsTaken, IsUsed, IsNodes, OptionsFit, given_words};
 ghost use Rattle.run_words.specs.Told.{told};
 
@@ -14,7 +12,7 @@ use crate::jobs::{Job, JobFault};
 use crate::lines::{CommandLine, command_line, matches};
 use crate::numbers::number;
 use crate::shapes::{Form, Shape, Takes};
-use crate::verbs::{Verb, named as named_verb};
+use crate::verbs::named as named_verb;
 use ar_base::{MOST_NODES, Text, USUAL_NODES};
 use std::alloc::Global;
 

@@ -2,7 +2,7 @@
 
 ghost use Rattle.std.specs.Prelude.{◌≡◌, ℕ, List, Option, map, option_map, IfOk, IfErr};
 ghost use Rattle.run_words.specs.declared.jobs.JobFault.TheVariants.{Usage, Memory as OutOfMemory};
-ghost use Rattle.run_words.specs.declared.shapes.Form.TheVariants.{Model, ModelAndScript, Number};
+ghost use Rattle.run_words.specs.declared.shapes.Form.TheVariants.{Number};
 ghost use Rattle.run_words.specs.Jobs.{NamesFiles};
 ghost use Rattle.run_words.specs.Lines.{or_none};
 
@@ -39,8 +39,22 @@ pub(crate) fn named_files(
         script number → ⊥ }
 {
     match form {
-        Form::Model => only_model(alloc, files),
-        Form::ModelAndScript | Form::ModelAndList => model_and_second(alloc, files),
+        Form::Model => match files {
+            Some([model]) => Ok(Named {
+                model: text(alloc, model)?,
+                script: None,
+                number: 0,
+            }),
+            _ => Err(JobFault::Usage),
+        },
+        Form::ModelAndScript | Form::ModelAndList => match files {
+            Some([model, second]) => Ok(Named {
+                model: text(alloc, model)?,
+                script: Some(text(alloc, second)?),
+                number: 0,
+            }),
+            _ => Err(JobFault::Usage),
+        },
         Form::Number => components(alloc, files),
     }
 }
@@ -52,42 +66,6 @@ pub(crate) fn text(alloc: Global, word: &str) -> Result<Text, JobFault>
 {
     let text = String::from_str(alloc, word)?;
     Ok(Text::new(text))
-}
-
-fn only_model(alloc: Global, files: Option<&[&str]>) -> Result<Named, JobFault>
-    ensures found { IfOk result (λ n.
-        NamesFiles Model (or_none (option_map (λ s. map (λ w. w.now) s.now) files.entry)) n.model
-        n.script n.number) }
-    ensures usage { result ≡ Err Usage → (model : List ℕ) (script : Option (List ℕ)) (number : ℕ)
-        → NamesFiles Model (or_none (option_map (λ s. map (λ w. w.now) s.now) files.entry)) model
-        script number → ⊥ }
-{
-    match files {
-        Some([model]) => Ok(Named {
-            model: text(alloc, model)?,
-            script: None,
-            number: 0,
-        }),
-        _ => Err(JobFault::Usage),
-    }
-}
-
-fn model_and_second(alloc: Global, files: Option<&[&str]>) -> Result<Named, JobFault>
-    ensures found { IfOk result (λ n.
-        NamesFiles ModelAndScript (or_none (option_map (λ s. map (λ w. w.now) s.now) files.entry))
-        n.model n.script n.number) }
-    ensures usage { result ≡ Err Usage → (model : List ℕ) (script : Option (List ℕ)) (number : ℕ)
-        → NamesFiles ModelAndScript (or_none (option_map (λ s. map (λ w. w.now) s.now) files.entry))
-        model script number → ⊥ }
-{
-    match files {
-        Some([model, script]) => Ok(Named {
-            model: text(alloc, model)?,
-            script: Some(text(alloc, script)?),
-            number: 0,
-        }),
-        _ => Err(JobFault::Usage),
-    }
 }
 
 fn components(alloc: Global, files: Option<&[&str]>) -> Result<Named, JobFault>

@@ -39,7 +39,7 @@ pub fn make_text(alloc: Global, number: u32) -> Result<Vec<u8>, Memory>
     ensures { IfOk result (λ text. text.items ≡ generated number) }
 {
     let mut text = Vec::new(alloc);
-    put_classes(&mut text)?;
+    put(&mut text, CLASSES)?;
     put_components(&mut text, number)?;
     put_flows(&mut text, pairs(number))?;
     put_observer(&mut text, pairs(number))?;
@@ -74,32 +74,18 @@ fn put_number(text: &mut Vec<u8>, number: u32) -> Result<(), Memory>
     put(text, buffer.format(number))
 }
 
-// Puts the domains, the classes and the head of the block.
-fn put_classes(text: &mut Vec<u8>) -> Result<(), Memory>
-    ensures { OnOk result (text.new.items ≡ text.old.items ++ lines classes) }
-{
-    put(text, CLASSES)
-}
-
-// Puts the components.
+// Puts the components: a short one for each odd number, a long one for each even number.
 fn put_components(text: &mut Vec<u8>, number: u32) -> Result<(), Memory>
     requires { number ≤ 200 }
     ensures { OnOk result (text.new.items ≡ text.old.items ++ up_to component number) }
 {
     for i in 0..number {
-        put_component(text, i + 1)?;
+        let class = if i % 2 == 0 { "  Short c" } else { "  Long c" };
+        put(text, class)?;
+        put_number(text, i + 1)?;
+        put(text, ";\n")?;
     }
     Ok(())
-}
-
-// Puts a component: a short one for an odd number, a long one for an even number.
-fn put_component(text: &mut Vec<u8>, i: u32) -> Result<(), Memory>
-    ensures { OnOk result (text.new.items ≡ text.old.items ++ component i) }
-{
-    let class = if i % 2 == 1 { "  Short c" } else { "  Long c" };
-    put(text, class)?;
-    put_number(text, i)?;
-    put(text, ";\n")
 }
 
 // Puts the flows.

@@ -1,9 +1,9 @@
 //! The command line, as `clap` takes it apart.
 
-ghost use Rattle.std.specs.Prelude.{◌≡◌, ◌≢◌, [], ◌∷◌, List, ℕ, map, codes, IfOk, option_map};
-ghost use Rattle.clap.specs.Words.{app_of, fault_of, found_of, matches_of, rows_of, first_of, all_of, rule_of};
-ghost use Rattle.run_words.specs.declared.jobs.JobFault.TheVariants.{Memory, Usage};
-ghost use Rattle.run_words.specs.Lines.{program, command as command_rule, files as files_rule};
+ghost use Rattle.std.specs.Prelude.{◌≡◌, ◌≢◌, [], map, IfOk};
+ghost use Rattle.clap.specs.Words.{app_of, fault_of, found_of, matches_of, rows_of, rule_of};
+ghost use Rattle.run_words.specs.declared.jobs.JobFault.TheVariants.{Usage};
+ghost use Rattle.run_words.specs.Lines.{program};
 ghost use Rattle.run_words.specs.Lines.{command_words_of, option, rules};
 ghost use Rattle.run_words.specs.Told.{told};
 
@@ -19,27 +19,14 @@ fn option<'a>(alloc: Global, name: &'a str) -> Arg<'a>
     Arg::new(alloc, name).long(name).action(ArgAction::Set)
 }
 
-// The command's word, which must be there.
-fn command_word<'a>(alloc: Global) -> Arg<'a>
-    ensures { rule_of result ≡ command_rule }
-{
-    Arg::new(alloc, "command").required(true)
-}
-
-// Any number of further words.
-fn further_words<'a>(alloc: Global) -> Arg<'a>
-    ensures { rule_of result ≡ files_rule }
-{
-    Arg::new(alloc, "file").num_args(0..)
-}
-
-// The arguments of the program, in their order.
+// The arguments of the program, in their order: the command's word, which must be there, any number of further words, and
+// the options.
 fn arguments<'a>(alloc: Global) -> Result<Vec<Arg<'a>>, AllocError>
     ensures { IfOk result (λ args. map rule_of args.items ≡ rules) }
 {
     let args = vec![in alloc;
-        command_word(alloc),
-        further_words(alloc),
+        Arg::new(alloc, "command").required(true),
+        Arg::new(alloc, "file").num_args(0..),
         option(alloc, "main"),
         option(alloc, "observer"),
         option(alloc, "value"),
@@ -70,34 +57,11 @@ pub(crate) fn matches<'a>(alloc: Global, words: &'a [&'a str]) -> Result<ArgMatc
     let command = described(alloc)?;
     match command.try_get_matches_from(words) {
         Ok(matches) => Ok(matches),
-        Err(error) => Err(fault(error.kind())),
+        Err(error) => match error.kind() {
+            ErrorKind::OutOfMemory => Err(JobFault::Memory),
+            _ => Err(JobFault::Usage),
+        },
     }
-}
-
-// What an error of `clap` says of the words.
-fn fault(kind: ErrorKind) -> JobFault
-    ensures memory { kind ≡ ErrorKind.OutOfMemory → result ≡ Memory }
-    ensures usage { kind ≢ ErrorKind.OutOfMemory → result ≡ Usage }
-{
-    match kind {
-        ErrorKind::OutOfMemory => JobFault::Memory,
-        _ => JobFault::Usage,
-    }
-}
-
-// The value of an option, or the command's word.
-fn value<'a>(matches: &ArgMatches<'a>, id: &str) -> Option<&'a str>
-    ensures { option_map (λ s. s.now) result ≡ first_of id.now (rows_of (found_of matches.now)) }
-{
-    matches.get_str(id)
-}
-
-// The words behind the command that belong to no option, where there are any.
-fn files<'m, 'a>(matches: &'m ArgMatches<'a>) -> Option<&'m [&'a str]>
-    ensures { option_map (λ s. map (λ w. w.now) s.now) result
-        ≡ all_of (codes "file") (rows_of (found_of matches.now)) }
-{
-    matches.get_strs("file")
 }
 
 // What a command line says.
@@ -120,12 +84,12 @@ pub(crate) fn command_line<'m, 'a>(matches: &'m ArgMatches<'a>) -> CommandLine<'
     ensures { told result ≡ command_words_of (rows_of (found_of matches.now)) }
 {
     CommandLine {
-        command: value(matches, "command"),
-        files: files(matches),
-        main: value(matches, "main"),
-        observer: value(matches, "observer"),
-        value: value(matches, "value"),
-        nodes: value(matches, "nodes"),
-        dropped: value(matches, "drop"),
+        command: matches.get_str("command"),
+        files: matches.get_strs("file"),
+        main: matches.get_str("main"),
+        observer: matches.get_str("observer"),
+        value: matches.get_str("value"),
+        nodes: matches.get_str("nodes"),
+        dropped: matches.get_str("drop"),
     }
 }

@@ -3,18 +3,16 @@
 ghost use Rattle.std.specs.Prelude.{◌≡◌, ◌↔◌, ℕ, Option, map, option_map, IfOk, IfErr, IsTrue, MatchOption, Some};
 ghost use Rattle.ar_base.specs.Texts.{bytes_of_all};
 ghost use Rattle.run_words.specs.declared.jobs.Job.{Job as Jobs};
-ghost use Rattle.run_words.specs.declared.verbs.Verb.{Verb as Verbs};
 ghost use Rattle.run_words.specs.declared.jobs.JobFault.TheVariants.{Usage, Memory as OutOfMemory};
-ghost use Rattle.run_words.specs.Commands.{word_of};
-ghost use Rattle.run_words.specs.Jobs.{IsJob, IsJobOf, IsTaken, IsUsed, IsNodes, OptionsFit, given_words, nodes_by_default};
-ghost use Rattle.run_words.specs.Told.{told, AreOptionsOf};
+ghost use Rattle.run_words.specs.Jobs.{IsJob, IsJobOf, IsTaken, IsUsed, IsNodes, OptionsFit, given_words};
+ghost use Rattle.run_words.specs.Told.{told};
 
 use crate::files::{named_files, text};
 use crate::jobs::{Job, JobFault};
 use crate::lines::{CommandLine, command_line, matches};
 use crate::numbers::number;
 use crate::shapes::{Form, Shape, Takes};
-use crate::verbs::{Verb, named as named_verb};
+use crate::verbs::named as named_verb;
 use ar_base::{MOST_NODES, Text, USUAL_NODES};
 use std::alloc::Global;
 
@@ -56,7 +54,10 @@ fn job_of(alloc: Global, line: &CommandLine<'_, '_>) -> Result<Job, JobFault>
     ensures found { IfOk result (λ job. IsJobOf (told line.now) job) }
     ensures usage { result ≡ Err Usage → (job : Jobs) → IsJobOf (told line.now) job → ⊥ }
 {
-    let Some(command) = command_of(line.command) else {
+    let Some(word) = line.command else {
+        return Err(JobFault::Usage);
+    };
+    let Some(command) = named_verb(word) else {
         return Err(JobFault::Usage);
     };
     let shape = command.shape();
@@ -67,52 +68,17 @@ fn job_of(alloc: Global, line: &CommandLine<'_, '_>) -> Result<Job, JobFault>
         return Err(JobFault::Usage);
     };
     let named = named_files(alloc, shape.files, line.files)?;
-    let options = options_of(alloc, line)?;
     Ok(Job {
         command,
         model: named.model,
         script: named.script,
-        main: options.main,
-        observer: options.observer,
-        value: options.value,
-        dropped: options.dropped,
-        nodes,
-        number: named.number,
-    })
-}
-
-// The texts of the options, but for `--nodes`.
-#[derive(Drop)]
-struct Options {
-    main: Option<Text>,
-    observer: Option<Text>,
-    value: Option<Text>,
-    dropped: Option<Text>,
-}
-
-// The texts of the options that are used.
-fn options_of(alloc: Global, line: &CommandLine<'_, '_>) -> Result<Options, JobFault>
-    ensures found { IfOk result (λ options. AreOptionsOf (told line.now) options) }
-    ensures memory { IfErr result (λ e. e ≡ OutOfMemory) }
-{
-    Ok(Options {
         main: given(alloc, line.main)?,
         observer: given(alloc, line.observer)?,
         value: given(alloc, line.value)?,
         dropped: given(alloc, line.dropped)?,
+        nodes,
+        number: named.number,
     })
-}
-
-// The command that the word names.
-fn command_of(word: Option<&str>) -> Option<Verb>
-    ensures { MatchOption result ((verb : Verbs)
-        → option_map (λ s. s.now) word.entry ≡ Some (word_of verb) → ⊥)
-        (λ verb. option_map (λ s. s.now) word.entry ≡ Some (word_of verb)) }
-{
-    match word {
-        Some(word) => named_verb(word),
-        None => None,
-    }
 }
 
 // Whether each option that is used is taken, but for `--nodes`, and each that is needed is used.
@@ -149,24 +115,10 @@ fn nodes_of(shape: Shape, given: Option<&str>) -> Option<u32>
         → ⊥) (λ n. IsNodes shape (option_map (λ s. s.now) given.entry) n) }
 {
     match given {
-        None => Some(usual_nodes(shape.files)),
-        Some(word) => {
-            if shape.nodes {
-                number(word, 1, MOST_NODES)
-            } else {
-                None
-            }
-        }
-    }
-}
-
-// The node limit where none is given.
-fn usual_nodes(files: Form) -> u32
-    ensures { result ≡ nodes_by_default files }
-{
-    match files {
-        Form::Number => MOST_NODES,
-        _ => USUAL_NODES,
+        None if matches!(shape.files, Form::Number) => Some(MOST_NODES),
+        None => Some(USUAL_NODES),
+        Some(word) if shape.nodes => number(word, 1, MOST_NODES),
+        Some(_) => None,
     }
 }
 

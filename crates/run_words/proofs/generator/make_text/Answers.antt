@@ -7,16 +7,16 @@ use Rattle.run_words.proofs.generator.make_text.Goals as goal
 pub returns : goal.returns
 returns c =
     let n = c.args.number in
-    let first = c.in_ok-put_classes.ensures ∙ ap (λ t. t ++ lines classes) c.new-text.ensures.items in
+    let first = c.in_ok-put.ensures ∙ ap (λ t. t ++ lines classes) c.new-text.ensures.items in
     let second = c.in_ok-put_components.ensures ∙ ap (λ t. t ++ up_to component n) first in
     let third = c.in_ok-put_flows.ensures ∙ ap (λ t. t ++ up_to flow c.pairs.result) second
     ∙ ap (λ k. (lines classes ++ up_to component n) ++ up_to flow k) c.pairs.ensures in
     let fourth = c.in_ok-put_observer.ensures ∙ ap (λ t. t ++ observer c.pairs-2.result) third
     ∙ ap (λ k. ((lines classes ++ up_to component n) ++ up_to flow (pairs n)) ++ observer k)
     c.pairs-2.ensures in
-    let fifth = c.in_ok-put.ensures ∙ ap (λ t. t ++ line (codes "  assertion")) fourth in
+    let fifth = c.in_ok-put-2.ensures ∙ ap (λ t. t ++ line (codes "  assertion")) fourth in
     let sixth = c.in_ok-put_first_link.ensures ∙ ap (λ t. t ++ first_link n) fifth in
     let seventh = c.in_ok-put_links.ensures ∙ ap (λ t. t ++ up_to (link n) (pairs n - 1)) sixth in
-    c.in_ok-put-2.ensures ∙ ap (λ t. t ++ line (codes "end")) seventh
+    c.in_ok-put-3.ensures ∙ ap (λ t. t ++ line (codes "end")) seventh
     ∙ eight (lines classes) (up_to component n) (up_to flow (pairs n)) (observer (pairs n)) (line (codes "  assertion"))
     (first_link n) (up_to (link n) (pairs n - 1)) (line (codes "end"))

@@ -2,7 +2,7 @@
 
 ghost use Rattle.std.specs.Prelude.{◌≡◌, ◌≤◌, ◌+◌, ◌-◌, ◌*◌, ◌<◌, ◌++◌, IfOk, OnOk, decimal};
 ghost use Rattle.ar_base.specs.Texts.{line};
-ghost use Rattle.run_words.specs.Generator.{classes, component, first_link, flow, generated, lines, link, observer, pair_works, pairs, up_to, works};
+ghost use Rattle.run_words.specs.Generator.{component, first_link, flow, generated, link, observer, pair_works, pairs, up_to, works};
 
 use ar_base::Memory;
 use itoa::Buffer;

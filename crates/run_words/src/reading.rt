@@ -4,7 +4,7 @@ ghost use Rattle.std.specs.Prelude.{◌≡◌, ◌↔◌, ℕ, Option, map, opti
 ghost use Rattle.ar_base.specs.Texts.{bytes_of_all};
 ghost use Rattle.run_words.specs.declared.jobs.Job.{Job as Jobs};
 ghost use Rattle.run_words.specs.declared.jobs.JobFault.TheVariants.{Usage, Memory as OutOfMemory};
-ghost use Rattle.run_words.specs.Jobs.{IsJob, IsJobOf, IsTaken, IsUsed, IsNodes, OptionsFit, given_words};
+ghost use Rattle.run_words.specs.Jobs.{IsJob, IsJobOf, IsTaken, IsUsed, IsNodes, given_words};
 ghost use Rattle.run_words.specs.Told.{told};
 
 use crate::files::{named_files, text};
@@ -61,7 +61,12 @@ fn job_of(alloc: Global, line: &CommandLine<'_, '_>) -> Result<Job, JobFault>
         return Err(JobFault::Usage);
     };
     let shape = command.shape();
-    if !options_fit(shape, line) {
+    // Each option that is used is taken, but for `--nodes`, and each that is needed is used.
+    let fit = is_taken(shape.main, line.main)
+        && is_used(shape.observer, line.observer)
+        && is_taken(shape.value, line.value)
+        && is_taken(shape.dropped, line.dropped);
+    if !fit {
         return Err(JobFault::Usage);
     }
     let Some(nodes) = nodes_of(shape, line.nodes) else {
@@ -79,16 +84,6 @@ fn job_of(alloc: Global, line: &CommandLine<'_, '_>) -> Result<Job, JobFault>
         nodes,
         number: named.number,
     })
-}
-
-// Whether each option that is used is taken, but for `--nodes`, and each that is needed is used.
-fn options_fit(shape: Shape, line: &CommandLine<'_, '_>) -> bool
-    ensures { IsTrue result ↔ OptionsFit shape (told line.now) }
-{
-    is_taken(shape.main, line.main)
-        && is_used(shape.observer, line.observer)
-        && is_taken(shape.value, line.value)
-        && is_taken(shape.dropped, line.dropped)
 }
 
 // Whether an option is used only where it is taken.

@@ -2,7 +2,7 @@
 
 ghost use Rattle.std.specs.Prelude.{◌≡◌, ◌≤◌, ◌+◌, ◌-◌, ◌*◌, ◌<◌, ◌++◌, IfOk, OnOk, decimal};
 ghost use Rattle.ar_base.specs.Texts.{line};
-ghost use Rattle.run_words.specs.Generator.{component, first_link, flow, generated, link, observer, pair_works, pairs, up_to, works};
+ghost use Rattle.run_words.specs.Generator.{component, flow, generated, link, pair_works, pairs, up_to, works};
 
 use ar_base::Memory;
 use itoa::Buffer;
@@ -42,9 +42,14 @@ pub fn make_text(alloc: Global, number: u32) -> Result<Vec<u8>, Memory>
     put(&mut text, CLASSES)?;
     put_components(&mut text, number)?;
     put_flows(&mut text, pairs(number))?;
-    put_observer(&mut text, pairs(number))?;
+    // The observer names the last flow.
+    put(&mut text, "  observer Boolean lost = not f")?;
+    put_number(&mut text, pairs(number))?;
+    put(&mut text, ";\n")?;
     put(&mut text, "  assertion\n")?;
-    put_first_link(&mut text, number)?;
+    put(&mut text, "    f1 := ")?;
+    put_pair_works(&mut text, number, 1)?;
+    put(&mut text, ";\n")?;
     put_links(&mut text, number)?;
     put(&mut text, "end\n")?;
     Ok(text)
@@ -94,28 +99,11 @@ fn put_flows(text: &mut Vec<u8>, count: u32) -> Result<(), Memory>
     ensures { OnOk result (text.new.items ≡ text.old.items ++ up_to flow count) }
 {
     for j in 0..count {
-        put_flow(text, j + 1)?;
+        put(text, "  Boolean f")?;
+        put_number(text, j + 1)?;
+        put(text, " (reset = false);\n")?;
     }
     Ok(())
-}
-
-// Puts a flow.
-fn put_flow(text: &mut Vec<u8>, j: u32) -> Result<(), Memory>
-    ensures { OnOk result (text.new.items ≡ text.old.items ++ flow j) }
-{
-    put(text, "  Boolean f")?;
-    put_number(text, j)?;
-    put(text, " (reset = false);\n")?;
-    Ok(())
-}
-
-// Puts the observer, which names the last flow.
-fn put_observer(text: &mut Vec<u8>, last: u32) -> Result<(), Memory>
-    ensures { OnOk result (text.new.items ≡ text.old.items ++ observer last) }
-{
-    put(text, "  observer Boolean lost = not f")?;
-    put_number(text, last)?;
-    put(text, ";\n")
 }
 
 // Puts that a component works.
@@ -141,15 +129,6 @@ fn put_pair_works(text: &mut Vec<u8>, number: u32, j: u32) -> Result<(), Memory>
     put_works(text, 2 * j)
 }
 
-// Puts what the first flow is.
-fn put_first_link(text: &mut Vec<u8>, number: u32) -> Result<(), Memory>
-    ensures { OnOk result (text.new.items ≡ text.old.items ++ first_link number) }
-{
-    put(text, "    f1 := ")?;
-    put_pair_works(text, number, 1)?;
-    put(text, ";\n")
-}
-
 // Puts what the later flows are.
 fn put_links(text: &mut Vec<u8>, number: u32) -> Result<(), Memory>
     requires at_least { 1 ≤ number }
@@ -158,21 +137,14 @@ fn put_links(text: &mut Vec<u8>, number: u32) -> Result<(), Memory>
         ++ up_to (link number) (pairs number - 1)) }
 {
     for j in 0..pairs(number) - 1 {
-        put_link(text, number, j + 1)?;
+        let flow = j + 1;
+        put(text, "    f")?;
+        put_number(text, flow + 1)?;
+        put(text, " := f")?;
+        put_number(text, flow)?;
+        put(text, " and (")?;
+        put_pair_works(text, number, flow + 1)?;
+        put(text, ");\n")?;
     }
     Ok(())
-}
-
-// Puts what the flow behind flow `j` is.
-fn put_link(text: &mut Vec<u8>, number: u32, j: u32) -> Result<(), Memory>
-    requires at_most { j < 200 }
-    ensures { OnOk result (text.new.items ≡ text.old.items ++ link number j) }
-{
-    put(text, "    f")?;
-    put_number(text, j + 1)?;
-    put(text, " := f")?;
-    put_number(text, j)?;
-    put(text, " and (")?;
-    put_pair_works(text, number, j + 1)?;
-    put(text, ");\n")
 }

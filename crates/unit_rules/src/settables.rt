@@ -5,8 +5,7 @@ ghost use Rattle.std.specs.List.{flat_map};
 ghost use Rattle.ar_base.specs.Numbers.{NameId as Name};
 ghost use Rattle.ar_base.specs.declared.places.Place.{Place as PlaceOf};
 ghost use Rattle.class_table.specs.Declaring.{Declared};
-ghost use Rattle.ar_syntax.specs.declared.members.Member.{out-Member};
-ghost use Rattle.class_table.specs.Members.{Site, names_of, names_of_form, named_at, declared_kind};
+ghost use Rattle.class_table.specs.Members.{Site, names_of, named_at, declared_kind};
 ghost use Rattle.class_table.specs.Tables.{HoldsDeclared, site_of};
 ghost use Rattle.hierarchy.specs.Models.{RootedModel};
 ghost use Rattle.hierarchy.specs.Units.{UnitPath};
@@ -112,19 +111,23 @@ impl Settables {
         Ok(())
     }
 
-    // Keeps what the names of a member are that is no block.
-    fn add_plain(
+    // Keeps what the names of a member are.
+    fn add_member(
         &mut self,
         body: BodyId,
-        member: &Member,
+        owned: &Owned,
         classes: &Classes,
         places: &TypePlaces,
     ) -> Result<(), Memory>
         ensures { (d : Declared) (s : Site)
             → HoldsDeclared d classes.now → KnowsPlaces classes.now.types.items places.now
-            → OnOk result (Adds body.n (entries_of (names_of_form d s (out-Member member.now)))
+            → OnOk result (Adds body.n (entries_of (names_of d s (Some owned.now)))
             self.old self.new) }
     {
+        let member = match owned {
+            Owned::Nested(name, _, _) => return self.keep(body, *name, Settable::Inner),
+            Owned::Plain(member) => member,
+        };
         match member {
             Member::Declare(type_name, names, settings) => {
                 let kind = declared(type_name.form, settings, classes, places);
@@ -142,25 +145,6 @@ impl Settables {
             Member::Local(_, _, _, _) => Ok(()),
             Member::Sync(_, _, _) => Ok(()),
             Member::Assert(_) => Ok(()),
-        }
-    }
-
-    // Keeps what the names of a member are.
-    fn add_member(
-        &mut self,
-        body: BodyId,
-        owned: &Owned,
-        classes: &Classes,
-        places: &TypePlaces,
-    ) -> Result<(), Memory>
-        ensures { (d : Declared) (s : Site)
-            → HoldsDeclared d classes.now → KnowsPlaces classes.now.types.items places.now
-            → OnOk result (Adds body.n (entries_of (names_of d s (Some owned.now)))
-            self.old self.new) }
-    {
-        match owned {
-            Owned::Plain(member) => self.add_plain(body, member, classes, places),
-            Owned::Nested(name, _, _) => self.keep(body, *name, Settable::Inner),
         }
     }
 

@@ -81,22 +81,6 @@ fn broken_among(
     found
 }
 
-// The earliest such place in a unit.
-fn broken_in(
-    classes: &Classes,
-    walks: &Walks,
-    unit: UnitId,
-    body: BodyId,
-    looping: bool,
-) -> Option<Place>
-    ensures { (m : RootedModel) (units : List UnitPath) (u : UnitPath) → IsKeptTable m classes.now
-        → AreOutcomes m units walks.now → Stands units unit.n u → body.n ≡ body_of m u
-        → IsEarliest (EndsIn m u (broken_so looping)) result }
-{
-    let body = classes.bodies.get(body.n as usize)?;
-    broken_among(&classes.bodies, walks, unit, &body.all, looping)
-}
-
 // The earliest such place in all units.
 fn first_broken(
     classes: &Classes,
@@ -112,10 +96,11 @@ fn first_broken(
     let mut found = None;
     for (place, outline) in outlines.iter().enumerate() {
         let unit = UnitId::new(place as u32);
-        found = earliest(
-            found,
-            broken_in(classes, walks, unit, outline.body, looping),
-        );
+        let broken = match classes.bodies.get(outline.body.n as usize) {
+            None => None,
+            Some(body) => broken_among(&classes.bodies, walks, unit, &body.all, looping),
+        };
+        found = earliest(found, broken);
     }
     found
 }

@@ -1,13 +1,13 @@
 //! Counts of bodies and of all units.
 
-ghost use Rattle.std.specs.Prelude.{List, [], ◌∷◌, map, IfOk, unwrap_or, slice_get};
+ghost use Rattle.std.specs.Prelude.{List, [], ◌∷◌, map, IfOk};
 ghost use Rattle.std.specs.List.{flat_map};
 ghost use Rattle.ar_base.specs.Lists.{Along};
 ghost use Rattle.class_table.specs.Declaring.{Declared};
 ghost use Rattle.class_table.specs.declared.tables.Body.{Body as BodyOf};
 ghost use Rattle.class_table.specs.declared.tables.Classes.{Classes as Table};
 ghost use Rattle.class_table.specs.Tables.{IsBodyOf, IsNamedType, site_of};
-ghost use Rattle.hierarchy.specs.Models.{RootedModel, IsRootedTable};
+ghost use Rattle.hierarchy.specs.Models.{RootedModel};
 ghost use Rattle.hierarchy.specs.Units.{UnitPath, names_at};
 ghost use Rattle.unit_rules.specs.Sizes.{tree_nodes};
 ghost use Rattle.hierarchy.specs.Tie.{AreOutlines};
@@ -99,18 +99,6 @@ fn of_bodies(alloc: Global, rows: &[Vec<Counts>], bodies: &[Body]) -> Result<Vec
     Ok(counts)
 }
 
-// The counts of a body.
-fn at_body(counts: &[Counts], body: BodyId) -> Counts
-    ensures { (m : RootedModel) (classes : Table) → IsRootedTable m classes
-        → Along (AreOfBody m.declared) classes.bodies.items counts.now
-        → AreAt m.declared (unwrap_or (slice_get m.members body.n) []) result }
-{
-    match counts.get(body.n as usize) {
-        None => Counts::none(),
-        Some(counts) => *counts,
-    }
-}
-
 // The counts of all units, by those of their bodies.
 fn of_units(counts: &[Counts], outlines: &[Outline]) -> Counts
     ensures { (m : RootedModel) (units : List UnitPath) (classes : Table)
@@ -120,7 +108,11 @@ fn of_units(counts: &[Counts], outlines: &[Outline]) -> Counts
 {
     let mut total = Counts::none();
     for outline in outlines {
-        total = total.with(at_body(counts, outline.body));
+        let own = match counts.get(outline.body.n as usize) {
+            None => Counts::none(),
+            Some(own) => *own,
+        };
+        total = total.with(own);
     }
     total
 }

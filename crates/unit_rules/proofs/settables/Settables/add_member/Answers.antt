@@ -4,11 +4,11 @@ use Rattle.class_table.specs.Members.{declared_kind}
 use Rattle.unit_rules.specs.declared.settables.Settable.{Settable}
 use Rattle.unit_rules.specs.Settables.{Adds}
 use Rattle.unit_rules.proofs.Entries.{same_entries, declared_entries}
-use Rattle.unit_rules.proofs.settables.Settables.add_plain.Goals as goal
+use Rattle.unit_rules.proofs.settables.Settables.add_member.Goals as goal
 
 pub returns-in-Declare : goal.returns-in-Declare
 unfolding out-Member denote.Hole.Carrier.out
-returns-in-Declare c = λ d s holds known. rw c.in-Declare.is (
+returns-in-Declare c = λ d s holds known. rw (c.in-Plain.is, c.in-Declare.is) (
     let kind = rw c.deref.ensures.value at (c.declared-kind.ensures d s holds known) in
     let entries = ap (λ (o : Option Settable). same_entries o c.in-Declare.names.items) kind
     ∙ sym (declared_entries s (declared_kind d s c.in-Declare.type_name.form c.in-Declare.settings.items)

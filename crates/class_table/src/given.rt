@@ -1,8 +1,7 @@
 //! Which member of a body gives which name.
 
-ghost use Rattle.std.specs.Prelude.{◌≡◌, ◌∷◌, [], ◌↔◌, true, map, OnOk, IfOk, Some};
+ghost use Rattle.std.specs.Prelude.{◌≡◌, ◌∷◌, [], ◌↔◌, true, map, OnOk, IfOk};
 ghost use Rattle.class_table.specs.Declaring.{Declared};
-ghost use Rattle.class_table.specs.Members.{Site};
 ghost use Rattle.class_table.specs.Tables.{site_of};
 ghost use Rattle.class_table.specs.Earliest.{IsEarliest};
 ghost use Rattle.class_table.specs.Names.{name_and_place};
@@ -35,17 +34,6 @@ fn may_give(giver: Option<Giver>, site: (BodyId, u32)) -> bool
         None => false,
         Some(Giver::Only(body, place)) => body.n == site.0.n && place == site.1,
         Some(Giver::Several) => true,
-    }
-}
-
-// These with the member at the site.
-fn joined_by(giver: Option<Giver>, site: (BodyId, u32)) -> Giver
-    ensures one { MayGive (Some result) (site_of site) }
-    ensures others { (s : Site) → MayGive giver s → MayGive (Some result) s }
-{
-    match giver {
-        None => Giver::Only(site.0, site.1),
-        Some(_) => Giver::Several,
     }
 }
 
@@ -108,7 +96,10 @@ impl Given {
     fn add(&mut self, site: (BodyId, u32), name: NameId) -> Result<(), Memory>
         ensures { OnOk result (AddsGivenName (site_of site) name.n self.old self.new) }
     {
-        let giver = joined_by(self.givers.get(&name.n).copied(), site);
+        let giver = match self.givers.get(&name.n) {
+            None => Giver::Only(site.0, site.1),
+            Some(_) => Giver::Several,
+        };
         self.givers.insert(name.n, giver)?;
         self.names.insert(((site.0.n, site.1), name.n))?;
         Ok(())

@@ -119,7 +119,10 @@ impl<'a> Scopes<'a> {
             → AreScopes m units self.now → Stands (parameters m units) place t
             → IsTrue result ↔ PassesTest m is_valued t }
     {
-        self.is_read_at(place)
+        match self.tree.parameters.get(place as usize) {
+            Some(node) => is_read(&self.tree.classes, node.node.source),
+            None => false,
+        }
     }
 
     /// The kind of the values of a type: none for a name that is no domain's. Takes no memory.
@@ -138,16 +141,6 @@ impl<'a> Scopes<'a> {
         }
     }
 
-    // Whether the parameter at this place has a value that is read.
-    fn is_read_at(&self, place: u32) -> bool
-        ensures { result ≡ is_read_in self.now.tree.now place }
-    {
-        match self.tree.parameters.get(place as usize) {
-            Some(node) => is_read(&self.tree.classes, node.node.source),
-            None => false,
-        }
-    }
-
     /// What the path names in the unit, where every variable, every parameter with a value that is
     /// read, and every symbol may be named. None exactly where it names none of these. Takes no
     /// memory.
@@ -159,7 +152,10 @@ impl<'a> Scopes<'a> {
             → AreScopes m units self.now → Stands units unit.n u
             → IsNamedIn m units u path.now result }
     {
-        self.found(unit, path)
+        match self.index.var_at(self.tree, unit, path.start, &path.names) {
+            Some(variable) => Some(Named::Variable(variable)),
+            None => self.constant(unit, path),
+        }
     }
 
     /// The event that the names name, read in the unit. None exactly where they name no event. Takes
@@ -175,19 +171,7 @@ impl<'a> Scopes<'a> {
         self.index.event_at(self.tree, unit, start, names)
     }
 
-    // What the path names in the unit, as the lists of the tree tell it.
-    fn found(&self, unit: UnitId, path: &Path) -> Option<Named>
-        requires scopes { HasScopes self.now }
-        requires in_range { unit.n < length self.now.tree.now.units.items }
-        ensures { result ≡ named_in self.now unit.n path.now }
-    {
-        match self.index.var_at(self.tree, unit, path.start, &path.names) {
-            Some(variable) => Some(Named::Variable(variable)),
-            None => self.constant(unit, path),
-        }
-    }
-
-    // The same of a path that names no variable.
+    // What a path names in the unit that names no variable.
     fn constant(&self, unit: UnitId, path: &Path) -> Option<Named>
         requires scopes { HasScopes self.now }
         requires in_range { unit.n < length self.now.tree.now.units.items }
@@ -198,7 +182,7 @@ impl<'a> Scopes<'a> {
     {
         match self.index.par_at(self.tree, unit, path.start, &path.names) {
             Some(place) => {
-                if self.is_read_at(place) {
+                if self.is_read(place) {
                     Some(Named::Parameter(place))
                 } else {
                     None
@@ -234,7 +218,7 @@ impl<'a> Scopes<'a> {
         requires in_range { unit.n < length self.now.tree.now.units.items }
         ensures { result ≡ scoped_in self.now unit.n scope path.now }
     {
-        let named = self.found(unit, path)?;
+        let named = self.named(unit, path)?;
         if is_allowed(named, scope, lone_name(path).is_some()) {
             Some(named)
         } else {

@@ -1,5 +1,4 @@
 use Rattle.std.proofs.Common.{◌<◌, ℕ, length, arith, rules}
-use Rattle.ar_base.specs.Lists.{Stands}
 use Rattle.ar_base.specs.Numbers.{NameId}
 use Rattle.ar_base.proofs.Standing.{stands_get, stands_within, stands_map}
 use Rattle.class_table.proofs.Taken.{length_map, below_next}

@@ -1,4 +1,4 @@
-use Rattle.std.proofs.Common.{◌≤◌, List, [], length, map, ap, sym, ◌∙◌, subst, ltb-false}
+use Rattle.std.proofs.Common.{map, ap, sym, ◌∙◌, ltb-false}
 use Rattle.class_table.specs.Tables.{site_of}
 use Rattle.class_table.proofs.Taken.{item_stands}
 use Rattle.instantiate.proofs.OneName.{members_past, members_there}

@@ -2,21 +2,21 @@ use Rattle.std.proofs.Common.{◌∙◌, Some, None, true, false, sym}
 use Rattle.bind_scopes.proofs.NamedPaths.{parameter_there, first_parameter, first_symbol}
 use Rattle.bind_scopes.proofs.scopes.Scopes.constant.Goals as goal
 
-pub returns-then-is_read_at : goal.returns-then-is_read_at
-returns-then-is_read_at c =
+pub returns-then-is_read : goal.returns-then-is_read
+returns-then-is_read c =
     first_parameter c.args.self.now c.requires.scopes c.args.unit.n c.requires.in_range c.args.path.now c.in-Some.place
     true
     (parameter_there c.args.self.now c.requires.scopes c.args.unit.n c.requires.in_range c.args.path.now _
     (rw c.deref.ensures.value at c.in-Some.ensures))
-    (sym c.is_read_at.ensures ∙ c.if-is_read_at.true)
+    (sym c.is_read.ensures.value ∙ c.if-is_read.true)
 
-pub returns-else-is_read_at : goal.returns-else-is_read_at
-returns-else-is_read_at c =
+pub returns-else-is_read : goal.returns-else-is_read
+returns-else-is_read c =
     first_parameter c.args.self.now c.requires.scopes c.args.unit.n c.requires.in_range c.args.path.now c.in-Some.place
     false
     (parameter_there c.args.self.now c.requires.scopes c.args.unit.n c.requires.in_range c.args.path.now _
     (rw c.deref.ensures.value at c.in-Some.ensures))
-    (sym c.is_read_at.ensures ∙ c.if-is_read_at.false)
+    (sym c.is_read.ensures.value ∙ c.if-is_read.false)
 
 pub returns-in-Some-symbol : goal.returns-in-Some-symbol
 returns-in-Some-symbol c =

@@ -4,7 +4,7 @@ ghost use Rattle.std.specs.Prelude.{◌≡◌, ◌<◌, ◌≤◌, ◌^◌, IfSo
 ghost use Rattle.std.specs.List.{prefix_len};
 ghost use Rattle.std.specs.Char.{is_ascii_digit};
 ghost use Rattle.ar_lexer.specs.Spelling.{IsFraction, IsExponent, IsTail, AllPass, number_of};
-ghost use Rattle.ar_lexer.specs.Scans.{IsLongestFront, is_exponent_mark, sign_len};
+ghost use Rattle.ar_lexer.specs.Scans.{IsLongestFront, sign_len};
 
 use crate::runs::digits_len;
 
@@ -25,13 +25,6 @@ fn fraction_len(bytes: &[u8]) -> usize
     if digits == 0 { 0 } else { 1 + digits }
 }
 
-// `e` or `E`.
-fn is_exponent_mark(b: u8) -> bool
-    ensures { result ≡ is_exponent_mark b }
-{
-    b == b'e' || b == b'E'
-}
-
 // How many bytes at the front are `+` or `-`: 1 or 0.
 fn sign_len(bytes: &[u8]) -> usize
     ensures value { result ≡ sign_len bytes.now }
@@ -50,7 +43,7 @@ fn exponent_len(bytes: &[u8]) -> usize
     let Some((mark, rest)) = bytes.split_first() else {
         return 0;
     };
-    if !is_exponent_mark(*mark) {
+    if *mark != b'e' && *mark != b'E' {
         return 0;
     }
     let sign = sign_len(rest);

@@ -1,7 +1,7 @@
 //! What stands at the front of a text: a blank, a comment, a token, or a fault.
 
 ghost use Rattle.std.specs.Prelude.{◌≡◌, ◌<◌, ◌≤◌, ◌++◌, IfSome, IfNone, length, Some};
-ghost use Rattle.ar_lexer.specs.Spelling.{place_in, signs, is_letter};
+ghost use Rattle.ar_lexer.specs.Spelling.{place_in, signs};
 ghost use Rattle.std.specs.Char.{is_ascii_digit};
 ghost use Rattle.ar_lexer.specs.Scans.{ClosesFirst, IsSignFront, IsSignOfLen, IsPieceAt, HeadPasses};
 ghost use Rattle.ar_lexer.specs.Tokens.{BeginsComment, Closes};
@@ -95,18 +95,6 @@ fn sign_at(rest: &[u8]) -> Option<(u8, usize)>
     }
 }
 
-// The word at the front.
-fn word_at(rest: &[u8]) -> Piece
-    requires { HeadPasses is_letter rest.now }
-    ensures { IsPieceAt rest.now result }
-{
-    let len = word_len(rest);
-    match word_of(&rest[..len]) {
-        Some(word) => Piece::Text(TokenKind::Reserved(word), len),
-        None => Piece::Text(TokenKind::Name, len),
-    }
-}
-
 // The number at the front.
 fn number_at(rest: &[u8]) -> Piece
     requires { HeadPasses is_ascii_digit rest.now }
@@ -133,7 +121,12 @@ pub fn piece_at(rest: &[u8]) -> Piece
         return Piece::Gap(1);
     }
     if is_letter(first) {
-        return word_at(rest);
+        let len = word_len(rest);
+        let kind = match word_of(&rest[..len]) {
+            Some(word) => TokenKind::Reserved(word),
+            None => TokenKind::Name,
+        };
+        return Piece::Text(kind, len);
     }
     if first.is_ascii_digit() {
         return number_at(rest);

@@ -220,10 +220,10 @@ ready s t first next u p k h d e j q f =
     record { from = u; here = v.0; frame = v.1; table = k }
 
 -- the answer for one name is that for the same name
-pub known_of : (s : RootedModel) (old new : Table) {a b x y : ℕ} {E : Type 0} (r : Result Known E) → a ≡ b → x ≡ y
-    → IfOk r (IsKnown s old new a x) → IfOk r (IsKnown s old new b y)
-known_of s old new {a = a} {b = b} {x = x} {y = y} r e f h = if_ok r
-    (λ c k. subst (λ y. IsKnown s old new b y c) f (subst (λ a. IsKnown s old new a x c) e k)) h
+pub known_of : (s : RootedModel) (old new : Table) {a b x y : ℕ} (c : Known) → a ≡ b → x ≡ y
+    → IsKnown s old new a x c → IsKnown s old new b y c
+known_of s old new {a = a} {b = b} {x = x} {y = y} c e f k =
+    subst (λ y. IsKnown s old new b y c) f (subst (λ a. IsKnown s old new a x c) e k)
 
 pub on_ok : {T E : Type 0} (r : Result T E) {P Q : Type 0} → (P → Q) → OnOk r P → OnOk r Q
 on_ok (Ok x) k h = k h

@@ -203,7 +203,10 @@ fn grow_insides(
 fn outlines_of(alloc: Global, nodes: &[Node]) -> Result<Vec<Outline>, Memory>
     ensures { IfOk result (λ outlines. outlines.items ≡ map (λ (n : NodeOf). n.outline) nodes.now) }
 {
-    let outlines = nodes.iter().map(|node| node.outline).collect(alloc)?;
+    let mut outlines = Vec::new(alloc);
+    for node in nodes {
+        outlines.push(node.outline)?;
+    }
     Ok(outlines)
 }
 

@@ -1,16 +1,14 @@
 //! The names of bodies that may be units, listed and indexed once.
 
-ghost use Rattle.std.specs.Prelude.{◌≡◌, ◌++◌, ◌∷◌, ◌+◌, [], ℕ, List, Vec, length, map, OnOk, IfOk, Some};
+ghost use Rattle.std.specs.Prelude.{◌≡◌, ◌+◌, List, Vec, length, map, OnOk, IfOk, Some};
 ghost use Rattle.std.specs.Global.{Global};
 ghost use Rattle.ar_base.specs.Lists.{Along, Stands};
-ghost use Rattle.ar_base.specs.Numbers.{NameId as Name};
 ghost use Rattle.ar_syntax.specs.declared.members.Member.{out-Member};
 ghost use Rattle.class_table.specs.Declaring.{Declared};
-ghost use Rattle.class_table.specs.Members.{names_of, names_of_form, named_at, owned_at as declared_at};
+ghost use Rattle.class_table.specs.Members.{names_of, names_of_form, named_at};
 ghost use Rattle.class_table.specs.Tables.{IsBodyOf, IsNamedType, site_of};
-ghost use Rattle.class_table.specs.declared.tables.TypeBody.{TypeBody as Kind};
 ghost use Rattle.hierarchy.specs.Models.{RootedModel, IsKeptTable, sites_kept};
-ghost use Rattle.unit_walks.specs.Classes.{AreClasses, class_in, class_at, class_by, instance_in};
+ghost use Rattle.unit_walks.specs.Classes.{AreClasses, class_by, instance_in};
 ghost use Rattle.unit_walks.specs.Forms.{IsFormsFor, IsUnitName, IsUnitList, AddsNames, AreIndexed, only_units, instances};
 ghost use Rattle.unit_walks.specs.declared.forms.UnitName.{UnitName as Named};
 
@@ -40,19 +38,6 @@ fn class_of(body: &TypeBody) -> Option<BodyId>
     }
 }
 
-// Adds a type, where its name has none.
-fn add_class(classes: &mut ClassBodies, name: NameId, body: &TypeBody) -> Result<(), Memory>
-    ensures { (types : List (Name × Kind)) → ((x : ℕ) → class_at classes.old x ≡ class_in types x)
-        → OnOk result ((x : ℕ)
-        → class_at classes.new x ≡ class_in (types ++ (name, body.now) ∷ []) x) }
-{
-    if classes.contains_key(&name.n) {
-        return Ok(());
-    }
-    classes.insert(name.n, class_of(body))?;
-    Ok(())
-}
-
 // The bodies of these types by their names; of two of one name the first counts.
 fn class_bodies(alloc: Global, types: &[(NameId, TypeBody)]) -> Result<ClassBodies, Memory>
     ensures { (d : Declared) → Along (IsNamedType d.symbols) types.now d.types
@@ -60,7 +45,9 @@ fn class_bodies(alloc: Global, types: &[(NameId, TypeBody)]) -> Result<ClassBodi
 {
     let mut classes = HashMap::new(alloc);
     for (name, body) in types {
-        add_class(&mut classes, *name, body)?;
+        if !classes.contains_key(&name.n) {
+            classes.insert(name.n, class_of(body))?;
+        }
     }
     Ok(classes)
 }
@@ -161,24 +148,6 @@ fn add_member<'a>(
     }
 }
 
-// Lists the names of the member at a site that may be units.
-fn add_site<'a>(
-    list: &mut Vec<UnitName<'a>>,
-    classes: &ClassBodies,
-    bodies: &'a [Body],
-    site: (BodyId, u32),
-) -> Result<(), Memory>
-    ensures { (d : Declared) → AreClasses d classes.now → Along IsBodyOf bodies.now d.bodies
-        → OnOk result (AddsNames (only_units
-        (names_of d (site_of site) (declared_at d (site_of site))))
-        list.old.items list.new.items) }
-{
-    match owned_at(bodies, site) {
-        None => Ok(()),
-        Some(owned) => add_member(list, classes, owned, site),
-    }
-}
-
 // The names of a body that may be units, of which there are at most so many.
 fn list_body<'a>(
     alloc: Global,
@@ -193,7 +162,9 @@ fn list_body<'a>(
 {
     let mut list = Vec::new(alloc);
     for site in all {
-        add_site(&mut list, classes, bodies, *site)?;
+        if let Some(owned) = owned_at(bodies, *site) {
+            add_member(&mut list, classes, owned, *site)?;
+        }
         if list.len() > room {
             return Err(Memory::from(Cap::WalkEntries));
         }

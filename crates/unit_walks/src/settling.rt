@@ -5,18 +5,16 @@ ghost use Rattle.ar_base.specs.Lists.{Stands, IsOneOf};
 ghost use Rattle.hierarchy.specs.Models.{RootedModel};
 ghost use Rattle.hierarchy.specs.Units.{UnitPath, body_of};
 ghost use Rattle.hierarchy.specs.Listing.{AreUnits};
-ghost use Rattle.hierarchy.specs.Tie.{IsOutline};
 ghost use Rattle.unit_walks.specs.Forms.{AreOnce, IsFormsFor};
 ghost use Rattle.unit_walks.specs.Tables.{paths_of, IsTable, Means};
 ghost use Rattle.unit_walks.specs.Growing.{IsUnfolded, Tied};
-ghost use Rattle.unit_walks.specs.Settling.{IsLed, IsLedBy, Keeps, AreChildrenTo, AreChildren, IsNumber, AreOutcomes, IsSettledTo, SettlesUnit};
+ghost use Rattle.unit_walks.specs.Settling.{IsLed, AreChildren, IsNumber, AreOutcomes, IsSettledTo, SettlesUnit};
 
 use crate::forms::Forms;
 use crate::growing::{Node, Unfolded};
 use crate::tables::{Known, Table};
 use crate::walking::known;
 use ar_base::{Memory, NameId, UnitId};
-use hierarchy::Outline;
 use std::alloc::Global;
 use std::collections::HashMap;
 
@@ -52,28 +50,6 @@ impl Walks {
             Some(led) => *led,
         }
     }
-
-    // Keeps what a name leads to in a unit.
-    fn keep(&mut self, unit: UnitId, name: NameId, led: Led) -> Result<(), Memory>
-        ensures { OnOk result (Keeps self.old self.new unit.n name.n led) }
-    {
-        self.led.insert((unit.n, name.n), led)?;
-        Ok(())
-    }
-}
-
-// Keeps the number of a unit, where there is one above it.
-fn add_child(children: &mut Children, outline: Outline, id: UnitId) -> Result<(), Memory>
-    ensures { (m : RootedModel) (units : List UnitPath) (u : UnitPath) → AreOnce m
-        → AreUnits m units → Stands units id.n u → IsOutline m units u outline
-        → AreChildrenTo units id.n children.old
-        → OnOk result (AreChildrenTo units (id.n + 1) children.new) }
-{
-    let Some(owner) = outline.owner else {
-        return Ok(());
-    };
-    children.insert((owner.n, outline.name.n), id)?;
-    Ok(())
 }
 
 // The numbers of these units by the numbers of those above them and by their names.
@@ -84,7 +60,10 @@ fn children_of(alloc: Global, nodes: &[Node]) -> Result<Children, Memory>
 {
     let mut children = HashMap::new(alloc);
     for (place, node) in nodes.iter().enumerate() {
-        add_child(&mut children, node.outline, UnitId::new(place as u32))?;
+        let outline = node.outline;
+        if let Some(owner) = outline.owner {
+            children.insert((owner.n, outline.name.n), UnitId::new(place as u32))?;
+        }
     }
     Ok(children)
 }
@@ -123,24 +102,6 @@ fn led_by(table: &Table, children: &Children, known: Known) -> Led
     }
 }
 
-// What the name leads to in the unit of this number in the table.
-fn led_from(
-    alloc: Global,
-    forms: &Forms,
-    table: &mut Table,
-    children: &Children,
-    unit: u32,
-    name: NameId,
-) -> Result<Led, Memory>
-    ensures { (m : RootedModel) (units : List UnitPath) (u : UnitPath) → IsFormsFor m forms.now
-        → AreUnits m units → IsTable m [] table.old → Stands (paths_of table.old) unit u
-        → IsOneOf units u → AreChildren units children.now
-        → IfOk result (IsLedBy m units table.old table.new u name.n) }
-{
-    let known = known(alloc, forms, table, unit, name)?;
-    Ok(led_by(table, children, known))
-}
-
 // Keeps what each name of a unit leads to.
 fn settle_unit(
     alloc: Global,
@@ -161,8 +122,9 @@ fn settle_unit(
         return Ok(());
     };
     for named in names {
-        let led = led_from(alloc, forms, table, children, node.unit, named.name)?;
-        walks.keep(at, named.name, led)?;
+        let known = known(alloc, forms, table, node.unit, named.name)?;
+        let led = led_by(table, children, known);
+        walks.led.insert((at.n, named.name.n), led)?;
     }
     Ok(())
 }

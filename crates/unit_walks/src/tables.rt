@@ -5,7 +5,7 @@ ghost use Rattle.hierarchy.specs.Models.{RootedModel};
 ghost use Rattle.hierarchy.specs.Units.{UnitPath, bodies_of, has_number, start_of};
 ghost use Rattle.ar_base.specs.Lists.{Stands};
 ghost use Rattle.unit_walks.specs.declared.tables.Frame.{Frame as Walk};
-ghost use Rattle.unit_walks.specs.Tables.{known_at, end_at, paths_of, StandsIf, IsTable, IsSet, IsForgotten, IsGrown, KeepsEnd};
+ghost use Rattle.unit_walks.specs.Tables.{known_at, end_at, paths_of, StandsIf, IsTable, IsSet, IsForgotten, IsGrown};
 
 use ar_base::{BodyId, Cap, Memory, NameId};
 use ar_syntax::PathStart;
@@ -146,20 +146,6 @@ impl Table {
         ensures { result ≡ end_at self.now body.n name.n start }
     {
         self.ends.get(&(body.n, name.n, start)).copied()
-    }
-
-    /// Keeps how far a path leads from the unit `start`.
-    pub(crate) fn keep_end(
-        &mut self,
-        body: BodyId,
-        name: NameId,
-        start: u32,
-        reach: Reach,
-    ) -> Result<(), Memory>
-        ensures { OnOk result (KeepsEnd self.old self.new body.n name.n start reach) }
-    {
-        self.ends.insert((body.n, name.n, start), reach)?;
-        Ok(())
     }
 
     /// Adds a unit, and gives its number.

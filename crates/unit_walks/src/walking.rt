@@ -2,15 +2,15 @@
 //! asked for again. A long path is walked once from each unit where it begins, and from the main block also where it
 //! leads to nothing: all instances of a class whose path begins at the main block share one walk.
 
-ghost use Rattle.std.specs.Prelude.{◌≡◌, ◌≤◌, ◌++◌, ℕ, List, [], ◌∷◌, true, length, IfOk, OnOk, Some};
+ghost use Rattle.std.specs.Prelude.{◌≡◌, ◌≤◌, List, [], true, length, IfOk, OnOk, Some};
 ghost use Rattle.ar_base.specs.Lists.{Stands};
 ghost use Rattle.ar_syntax.specs.declared.paths.Path.{Path as Written};
 ghost use Rattle.hierarchy.specs.Models.{RootedModel};
-ghost use Rattle.hierarchy.specs.Units.{UnitPath, kind_at, numbers};
+ghost use Rattle.hierarchy.specs.Units.{UnitPath, kind_at};
 ghost use Rattle.unit_walks.specs.Ends.{IsStatement};
 ghost use Rattle.unit_walks.specs.Forms.{IsFormsFor};
 ghost use Rattle.unit_walks.specs.Tables.{paths_of, IsTable, IsSet, IsEntered};
-ghost use Rattle.unit_walks.specs.Walking.{IsFrame, IsAtStart, IsStep, IsNameStep, IsStatementStep, Steps, Weighs, IsWalking, IsAnswered, IsKept, IsReady, IsRun, IsKnown};
+ghost use Rattle.unit_walks.specs.Walking.{IsFrame, IsAtStart, IsStep, IsNameStep, IsStatementStep, Steps, Weighs, IsWalking, IsAnswered, IsKept, IsRun, IsKnown};
 ghost use Rattle.unit_walks.specs.declared.tables.Frame.{Frame as Walk};
 
 use crate::forms::{Forms, UnitForm};
@@ -86,19 +86,8 @@ fn keep_end(table: &mut Table, top: &Frame) -> Result<(), Memory>
         unit: top.at,
         rest: top.rest.len(),
     };
-    table.keep_end(here.body, top.name, start, reach)
-}
-
-// The path of the top statement has been walked to its end.
-fn arrive<'a>(table: &mut Table, top: &Frame) -> Result<Step<'a>, Memory>
-    ensures step { top.now.rest.now ≡ [] → IfOk result (IsStep top.now table.old table.new) }
-    ensures weighs { IfOk result (Weighs top.now table.old table.new) }
-{
-    if top.is_clone {
-        copy(table, top)
-    } else {
-        answer(table, top, Known::ToUnit(top.at))
-    }
+    table.ends.insert((here.body.n, top.name.n, start), reach)?;
+    Ok(())
 }
 
 // A unit that stands in the text, met for the first time.
@@ -108,16 +97,6 @@ fn enter(table: &mut Table, unit: u32, met: Met) -> Result<u32, Memory>
     let number = table.meet(met)?;
     table.add(unit, met.name, Known::ToUnit(number))?;
     Ok(number)
-}
-
-// The last so many names.
-fn last(names: &[NameId], count: usize) -> &[NameId]
-    ensures rest { (before rest : List ℕ) → numbers names.now ≡ before ++ rest → length rest ≡ count
-        → numbers result.now ≡ rest }
-    ensures short { length result.now ≤ length names.now }
-{
-    let before = names.len().saturating_sub(count);
-    &names[before..]
 }
 
 // The walk of a statement: from the start of its path, or, where it is kept how far a long path leads from there,
@@ -141,11 +120,14 @@ fn begin<'a>(table: &Table, first: Frame<'a>) -> Frame<'a>
             start: Some(first.at),
             ..first
         },
-        Some(reach) => Frame {
-            at: reach.unit,
-            rest: last(first.rest, reach.rest),
-            ..first
-        },
+        Some(reach) => {
+            let passed = first.rest.len().saturating_sub(reach.rest);
+            Frame {
+                at: reach.unit,
+                rest: &first.rest[passed..],
+                ..first
+            }
+        }
     }
 }
 
@@ -224,7 +206,10 @@ fn take_step<'a>(forms: &Forms<'a>, table: &mut Table, top: &Frame<'a>) -> Resul
     ensures weighs { IfOk result (Weighs top.now table.old table.new) }
 {
     let Some((name, rest)) = top.rest.split_first() else {
-        return arrive(table, top);
+        if top.is_clone {
+            return copy(table, top);
+        }
+        return answer(table, top, Known::ToUnit(top.at));
     };
     match table.at(top.at, *name) {
         None => look(forms, table, top, *name),
@@ -265,24 +250,6 @@ fn run<'a>(
     }
 }
 
-// Walks a statement of which nothing is kept.
-fn walk<'a>(
-    alloc: Global,
-    forms: &Forms<'a>,
-    table: &mut Table,
-    first: Frame<'a>,
-) -> Result<Known, Memory>
-    ensures { (m : RootedModel) → IsFormsFor m forms.now → IsReady m first.entry table.old
-        → IfOk result (IsKnown m table.old table.new first.entry.unit first.entry.name.n) }
-{
-    table.add(first.unit, first.name, Known::Following)?;
-    run(alloc, forms, table, first)?;
-    match table.at(first.unit, first.name) {
-        None => Ok(Known::Nothing),
-        Some(known) => Ok(known),
-    }
-}
-
 // What a clone or an alias of the unit leads to, of which nothing is known.
 fn statement(
     alloc: Global,
@@ -312,7 +279,12 @@ fn statement(
                 start: None,
             };
             let next = begin(table, first);
-            walk(alloc, forms, table, next)
+            table.add(next.unit, next.name, Known::Following)?;
+            run(alloc, forms, table, next)?;
+            match table.at(next.unit, next.name) {
+                None => Ok(Known::Nothing),
+                Some(known) => Ok(known),
+            }
         }
     }
 }

@@ -2,7 +2,6 @@
 
 ghost use Rattle.std.specs.Prelude.{◌≡◌, ℕ, Bool, List, length, IfOk};
 ghost use Rattle.ar_base.specs.Sets.{Ascends};
-ghost use Rattle.ar_meaning.specs.Found.{IsAnswer};
 ghost use Rattle.domains.specs.declared.Value.{Value};
 ghost use Rattle.gts_core.specs.Readings.{IsTotal};
 ghost use Rattle.gts_core.specs.Sound.{IsSound};
@@ -91,19 +90,12 @@ fn changed_values(
     let mut codes = Vec::new(alloc);
     for (place, n) in members.iter().enumerate() {
         let x = *n as usize;
-        if differs(values[x], old[place]) {
+        if values[x] != old[place] {
             variables.push(VarId::new(*n))?;
             codes.push(code_of(&parts.variables[x].domain, old[place]))?;
         }
     }
     Ok(OldCodes { variables, codes })
-}
-
-// Whether two values are different.
-fn differs(a: Value, b: Value) -> bool
-    ensures { IsAnswer result (a ≡ b → ⊥) }
-{
-    a != b
 }
 
 // Which of these variables have other marks than they had, ascending.

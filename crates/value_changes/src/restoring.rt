@@ -1,8 +1,8 @@
 //! The way back.
 
-ghost use Rattle.std.specs.Prelude.{◌≡◌, length, not, slice_set};
+ghost use Rattle.std.specs.Prelude.{◌≡◌, length};
 ghost use Rattle.gts_core.specs.Sound.{IsSound};
-ghost use Rattle.value_changes.specs.Restoring.{decoded_at, mark_at, restored, turned};
+ghost use Rattle.value_changes.specs.Restoring.{decoded_at, restored, turned};
 
 use crate::changes::Changes;
 use crate::codes::value_of;
@@ -40,17 +40,11 @@ fn put(parts: &GtsParts, values: &mut Vec<Value>, variables: &[VarId], codes: &[
     ensures { values.new.items ≡ restored parts.now values.old.items variables.now codes.now }
 {
     for (place, variable) in variables.iter().enumerate() {
-        put_one(values, *variable, value_at(parts, *variable, codes[place]));
-    }
-}
-
-// Writes the value of a variable.
-fn put_one(values: &mut Vec<Value>, variable: VarId, value: Value)
-    ensures { values.new.items ≡ slice_set values.old.items variable.n value }
-{
-    let n = variable.n as usize;
-    if n < values.len() {
-        values[n] = value;
+        let n = variable.n as usize;
+        let value = value_at(parts, *variable, codes[place]);
+        if n < values.len() {
+            values[n] = value;
+        }
     }
 }
 
@@ -59,17 +53,9 @@ fn turn(marks: &mut Vec<bool>, variables: &[VarId])
     ensures { marks.new.items ≡ turned marks.old.items variables.now }
 {
     for variable in variables {
-        turn_one(marks, *variable);
-    }
-}
-
-// Turns the mark of a variable round.
-fn turn_one(marks: &mut Vec<bool>, variable: VarId)
-    ensures { marks.new.items ≡ slice_set marks.old.items variable.n
-        (not (mark_at marks.old.items variable.n)) }
-{
-    let n = variable.n as usize;
-    if n < marks.len() {
-        marks[n] = !marks[n];
+        let n = variable.n as usize;
+        if n < marks.len() {
+            marks[n] = !marks[n];
+        }
     }
 }

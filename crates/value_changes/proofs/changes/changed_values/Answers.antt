@@ -2,12 +2,11 @@ use Rattle.std.proofs.Common.{◌≡◌, ◌<◌, ◌+◌, ◌++◌, ◌∷◌, 
 use Rattle.ar_base.specs.Lists.{Stands}
 use Rattle.ar_base.specs.Numbers.{VarId}
 use Rattle.ar_base.proofs.Standing.{stands_get, stands_item}
-use Rattle.ar_meaning.proofs.OneAnswer.{same_value}
 use Rattle.domains.specs.declared.Value.TheVariants.{Truth}
 use Rattle.value_changes.specs.Codes.{coded}
 use Rattle.value_changes.proofs.Found.{AreFound, found_none, found_more, found_same, found_all}
 use Rattle.value_changes.proofs.changes.changed_values.Goals as goal
-use Rattle.value_changes.proofs.changes.changed_values.Goals.{then-differs+in_ok-push+in_ok-push-2, else-differs}
+use Rattle.value_changes.proofs.changes.changed_values.Goals.{then-ne+in_ok-push+in_ok-push-2, else-ne}
 
 pub loop-place-init : goal.loop-place-init
 loop-place-init c =
@@ -59,28 +58,28 @@ loop-place-preserved c =
     let also : i < length old = omega (arith, c.loop-place-test.true, c.requires.old_long) in
     let at : Stands old i v = stands_get old i (Truth false) also in
     let there : Stands new n w = stands_get new n (Truth false) below in
-    elim c.if-differs.branch [
-      | then-differs+in_ok-push+in_ok-push-2 b ↦
+    elim c.if-ne.branch [
+      | then-ne+in_ok-push+in_ok-push-2 b ↦
           let x = b.new.result in
           let one = b.index.result.now in
           let d = coded one.domain v in
-          let variables : c.if-differs.variables.items ≡ xs ++ x ∷ [] =
+          let variables : c.if-ne.variables.items ≡ xs ++ x ∷ [] =
           ap (λ (z : Vec VarId Global). z.items) b.variables-is ∙ b.in_ok-push.ensures.items in
-          let pushed : c.if-differs.codes.items ≡ cs ++ b.code_of.result ∷ [] =
+          let pushed : c.if-ne.codes.items ≡ cs ++ b.code_of.result ∷ [] =
           ap (λ (z : Vec ℕ Global). z.items) b.codes-is ∙ b.in_ok-push-2.ensures.items in
-          let codes : c.if-differs.codes.items ≡ cs ++ d ∷ [] =
+          let codes : c.if-ne.codes.items ≡ cs ++ d ∷ [] =
           pushed ∙ ap (λ (z : ℕ). cs ++ z ∷ []) b.code_of.ensures in
           let more : AreFound p m (i + 1) old new (xs ++ x ∷ []) (cs ++ d ∷ []) =
           found_more p m old new c.requires.ascend i n xs cs s c.loop-place.invariant v w at there
-          (λ e. b.if-differs.ensures (sym e)) x b.new.ensures one
+          (let d : w ≡ v → ⊥ = search rules in λ e. d (sym e)) x b.new.ensures one
           (stands_item p.variables.items n one h b.index.ensures) in
-          subst (λ (z : List ℕ). AreFound p m (i + 1) old new c.if-differs.variables.items z) (sym codes)
+          subst (λ (z : List ℕ). AreFound p m (i + 1) old new c.if-ne.variables.items z) (sym codes)
           (subst (λ (z : List VarId). AreFound p m (i + 1) old new z (cs ++ d ∷ [])) (sym variables) more)
-      | else-differs b ↦
+      | else-ne b ↦
           let more : AreFound p m (i + 1) old new xs cs =
           found_same p m old new c.requires.ascend i n xs cs s c.loop-place.invariant v w at there
-          (sym (same_value w v b.if-differs.ensures)) in
-          subst (λ (z : Vec ℕ Global). AreFound p m (i + 1) old new c.if-differs.variables.items z.items)
+          (let e : w ≡ v = search rules in sym e) in
+          subst (λ (z : Vec ℕ Global). AreFound p m (i + 1) old new c.if-ne.variables.items z.items)
           (sym b.codes-is) (subst (λ (z : Vec VarId Global). AreFound p m (i + 1) old new z.items cs)
           (sym b.variables-is) more)
     ]

@@ -1,10 +1,12 @@
-use Rattle.std.proofs.Common.{◌<◌, List, length, get_or, set, take, take_all, sym, ap, ◌∙◌, arith}
+use Rattle.std.proofs.Common.{◌≡◌, ◌<◌, ◌≤◌, List, Vec, Global, length, get_or, set, take, take_all, sym, ap, ◌∙◌, arith}
+use Rattle.std.proofs.lemmas.List.{set_past}
 use Rattle.domains.specs.declared.Value.{Value}
 use Rattle.ar_base.specs.Numbers.{VarId}
 use Rattle.ar_base.proofs.Standing.{stands_get}
 use Rattle.value_changes.specs.Restoring.{decoded_at, restored}
 use Rattle.value_changes.proofs.Restored.{restored_next}
 use Rattle.value_changes.proofs.restoring.put.Goals as goal
+use Rattle.value_changes.proofs.restoring.put.Goals.{then-n-len, else-n-len}
 
 pub loop-place-preserved : goal.loop-place-preserved
 loop-place-preserved c =
@@ -18,7 +20,14 @@ loop-place-preserved c =
     let d = get_or cs i 0 in
     let below : i < length xs = c.loop-place-test.true in
     let also : i < length cs = omega (arith, below, c.requires.long) in
-    c.put_one.ensures ∙ ap (λ (z : Value). set c.loop-place.values.items x.n z) c.value_at.ensures
+    let old = c.loop-place.values.items in
+    let one : c.if-n-len.values.items ≡ set old x.n c.value_at-value.result = elim c.if-n-len.branch [
+      | then-n-len h ↦ ap (λ (z : Vec Value Global). z.items) h.values-is
+      | else-n-len h ↦
+          let past : length old ≤ x.n = (let e = h.if-n-len.false in omega (arith, e, c.len.ensures)) in
+          ap (λ (z : Vec Value Global). z.items) h.values-is ∙ sym (set_past old x.n c.value_at-value.result past)
+    ] in
+    one ∙ ap (λ (z : Value). set old x.n z) c.value_at-value.ensures
     ∙ ap (λ (z : List Value). set z x.n (decoded_at p x.n d)) c.loop-place.invariant
     ∙ sym (restored_next p t xs cs i x d c.requires.long below (stands_get xs i none below) (stands_get cs i 0 also))
 

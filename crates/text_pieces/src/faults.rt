@@ -1,12 +1,10 @@
 //! The texts of faults of the flows and of steps.
 
-ghost use Rattle.std.specs.Prelude.{◌<◌, ◌+◌, ◌++◌, codes, length};
+ghost use Rattle.std.specs.Prelude.{◌++◌, codes};
 ghost use Rattle.ar_base.specs.Texts.{text_at};
 ghost use Rattle.ar_io.specs.Writing.{Writes};
-ghost use Rattle.ar_meaning.specs.Flows.{Broken};
 ghost use Rattle.ar_meaning.specs.TraceText.{flow_fault_text};
 ghost use Rattle.flow_propagate.specs.Answers.{fault_of};
-ghost use Rattle.gts_core.specs.Sound.{IsSound};
 ghost use Rattle.gts_flatten.specs.Flat.{naming_of_parts};
 ghost use Rattle.text_pieces.specs.Faults.{step_text, IsInRange, IsFaultInRange};
 
@@ -26,7 +24,13 @@ pub fn print_flow_fault<K: Sink>(gts: &Gts, fault: FlowFault, out: &mut K) -> Re
     match fault {
         FlowFault::Two(x) => about_flow(out, parts, x.n, " has two values"),
         FlowFault::Outside(x) => about_flow(out, parts, x.n, " is outside its domain"),
-        FlowFault::Broken(a) => about_assignment(out, parts, a.n),
+        FlowFault::Broken(a) => {
+            write_text(out, "assignment ")?;
+            write_number(out, a.n + 1)?;
+            write_text(out, " at ")?;
+            place(out, parts.assigns[a.n as usize].at)?;
+            write_text(out, " does not hold")
+        }
     }
 }
 
@@ -40,20 +44,6 @@ fn about_flow<K: Sink>(out: &mut K, parts: &GtsParts, n: u32, what: &str) -> Res
     write_text(out, what)
 }
 
-// That an assignment does not hold.
-fn about_assignment<K: Sink>(out: &mut K, parts: &GtsParts, n: u32) -> Result<(), SinkFailed>
-    requires sound { IsSound parts.now }
-    requires inside { n < length parts.now.assigns.items }
-    ensures { Writes (K.state out.old) (K.state out.new)
-        (flow_fault_text (naming_of_parts parts.now) (Broken n)) result }
-{
-    write_text(out, "assignment ")?;
-    write_number(out, n + 1)?;
-    write_text(out, " at ")?;
-    place(out, parts.assigns[n as usize].at)?;
-    write_text(out, " does not hold")
-}
-
 /// Writes what a fault of a step is, without a line feed, and nothing for want of memory. Takes no memory.
 pub fn print_step_fault<K: Sink>(gts: &Gts, fault: StepFault, out: &mut K) -> Result<(), SinkFailed>
     requires { IsFaultInRange gts.now fault }
@@ -61,27 +51,15 @@ pub fn print_step_fault<K: Sink>(gts: &Gts, fault: StepFault, out: &mut K) -> Re
 {
     match fault {
         StepFault::NotEnabled => write_text(out, "not enabled"),
-        StepFault::Clash(x) => clash(out, gts, x.n),
-        StepFault::Range(x) => outside(out, gts, x.n),
+        StepFault::Clash(x) => {
+            write_text(out, "two values for ")?;
+            write_text(out, variable_path(gts.parts(), x.n))
+        }
+        StepFault::Range(x) => {
+            write_text(out, variable_path(gts.parts(), x.n))?;
+            write_text(out, " outside its domain")
+        }
         StepFault::Flow(flow) => print_flow_fault(gts, flow, out),
         StepFault::Memory => write_text(out, ""),
     }
-}
-
-// That a variable receives two values.
-fn clash<K: Sink>(out: &mut K, gts: &Gts, n: u32) -> Result<(), SinkFailed>
-    ensures { Writes (K.state out.old) (K.state out.new)
-        (codes "two values for " ++ text_at (naming_of_parts gts.now).variables n) result }
-{
-    write_text(out, "two values for ")?;
-    write_text(out, variable_path(gts.parts(), n))
-}
-
-// That a variable receives a value outside its domain.
-fn outside<K: Sink>(out: &mut K, gts: &Gts, n: u32) -> Result<(), SinkFailed>
-    ensures { Writes (K.state out.old) (K.state out.new)
-        (text_at (naming_of_parts gts.now).variables n ++ codes " outside its domain") result }
-{
-    write_text(out, variable_path(gts.parts(), n))?;
-    write_text(out, " outside its domain")
 }

@@ -1,6 +1,6 @@
 //! Canonical labels.
 
-ghost use Rattle.std.specs.Prelude.{◌<◌, ◌-◌, ◌++◌, codes, decimal, length, slice_get};
+ghost use Rattle.std.specs.Prelude.{◌<◌, ◌-◌, length, slice_get};
 ghost use Rattle.ar_base.specs.Texts.{text_at};
 ghost use Rattle.ar_io.specs.Writing.{Writes};
 ghost use Rattle.ar_meaning.specs.TraceText.{way_text};
@@ -34,16 +34,8 @@ fn label<K: Sink>(out: &mut K, parts: &GtsParts, event: u32, k: u32) -> Result<(
     if way_count(parts, event) == 1 {
         write_text(out, path)
     } else {
-        numbered(out, path, k)
+        write_text(out, path)?;
+        write_text(out, "#")?;
+        write_number(out, k)
     }
-}
-
-// A path and the number of a way.
-fn numbered<K: Sink>(out: &mut K, path: &str, k: u32) -> Result<(), SinkFailed>
-    ensures { Writes (K.state out.old) (K.state out.new) (path.now ++ (codes "#" ++ decimal k))
-        result }
-{
-    write_text(out, path)?;
-    write_text(out, "#")?;
-    write_number(out, k)
 }

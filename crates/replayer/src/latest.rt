@@ -4,9 +4,9 @@ ghost use Rattle.std.specs.Prelude.{◌≡◌, length, IfOk};
 ghost use Rattle.gts_core.specs.Sound.{IsSound};
 ghost use Rattle.value_changes.specs.Changes.{AreChanges};
 ghost use Rattle.replayer.specs.Listing.{IsReady};
-ghost use Rattle.replayer.specs.Observing.{AreObserved, AreInOrder};
+ghost use Rattle.replayer.specs.Observing.{AreInOrder};
 
-use crate::ready::{Ready, not_found};
+use crate::ready::{Ready, visible_ways};
 use ar_base::{Memory, VarId};
 use domains::Value;
 use flow_propagate::add_named_pairs;
@@ -35,7 +35,11 @@ pub(crate) fn at_start(alloc: Global, parts: &GtsParts, values: &[Value]) -> Res
 {
     let values = Vec::from_slice(alloc, values)?;
     let observed = observed(alloc, parts)?;
-    let ready = not_found(alloc, &parts.events)?;
+    let ready = Ready {
+        visible: visible_ways(alloc, &parts.events)?,
+        ways: Vec::new(alloc),
+        found: false,
+    };
     Ok(Latest {
         values,
         observed,
@@ -48,22 +52,12 @@ fn observed(alloc: Global, parts: &GtsParts) -> Result<Vec<(u32, u32)>, Memory>
     requires { IsSound parts.now }
     ensures { IfOk result (λ pairs. AreInOrder parts.now pairs.items) }
 {
-    let mut pairs = all_named(alloc, parts)?;
-    pairs.sort_unstable_by_key(|pair| pair.0);
-    Ok(pairs)
-}
-
-// The same in any order, and as often as the observers name them.
-fn all_named(alloc: Global, parts: &GtsParts) -> Result<Vec<(u32, u32)>, Memory>
-    requires { IsSound parts.now }
-    ensures { IfOk result (λ pairs. AreObserved parts.now (length parts.now.observers.items)
-        pairs.items) }
-{
     let mut names = Vec::new(alloc);
     let mut pairs = Vec::new(alloc);
     for (place, observer) in parts.observers.iter().enumerate() {
         add_named_pairs(&observer.value, place as u32, &mut names, &mut pairs)?;
     }
+    pairs.sort_unstable_by_key(|pair| pair.0);
     Ok(pairs)
 }
 

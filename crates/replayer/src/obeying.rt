@@ -48,8 +48,15 @@ pub(crate) fn obey<K: Sink>(
     match command {
         Command::Fire(way) => fire(alloc, gts, stepper, latest, way, out),
         Command::Back => back(alloc, gts, stepper, latest, out),
-        Command::Show => show(gts, stepper, out),
-        Command::Enabled => list(alloc, gts, stepper, latest, out),
+        Command::Show => {
+            shown(out, gts, &stepper.values().values)?;
+            Ok(End::Done)
+        }
+        Command::Enabled => {
+            find(alloc, stepper, &mut latest.ready)?;
+            listed(out, gts, &latest.ready.ways)?;
+            Ok(End::Done)
+        }
     }
 }
 
@@ -144,39 +151,4 @@ fn back<K: Sink>(
             Ok(End::Fault)
         }
     }
-}
-
-// Shows all values.
-fn show<K: Sink>(gts: &Gts, stepper: &Stepper, out: &mut K) -> Result<End, ReplayFault>
-    requires sound { IsSound gts.now }
-    requires same { stepper.now.system ≡ gts.now }
-    requires below { AreTotal gts.now stepper.now.below }
-    ensures { (system : System ℕ) → Views gts.now system
-        → Answers (naming_of_parts gts.now) system stepper.now stepper.now
-        (command_of gts.now Command.Show) (K.state out.old) (K.state out.new) result }
-{
-    shown(out, gts, &stepper.values().values)?;
-    Ok(End::Done)
-}
-
-// Lists the ways that can fire.
-fn list<K: Sink>(
-    alloc: Global,
-    gts: &Gts,
-    stepper: &Stepper,
-    latest: &mut Latest,
-    out: &mut K,
-) -> Result<End, ReplayFault>
-    requires sound { IsSound gts.now }
-    requires same { stepper.now.system ≡ gts.now }
-    requires below { AreTotal gts.now stepper.now.below }
-    requires latest { IsLatest gts.now stepper.now.values latest.old }
-    ensures latest { OnOk result (IsLatest gts.now stepper.now.values latest.new) }
-    ensures answers { (system : System ℕ) → Views gts.now system
-        → Answers (naming_of_parts gts.now) system stepper.now stepper.now
-        (command_of gts.now Command.Enabled) (K.state out.old) (K.state out.new) result }
-{
-    find(alloc, stepper, &mut latest.ready)?;
-    listed(out, gts, &latest.ready.ways)?;
-    Ok(End::Done)
 }

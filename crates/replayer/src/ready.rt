@@ -1,6 +1,6 @@
 //! The visible ways that can fire, found once where no step comes between.
 
-ghost use Rattle.std.specs.Prelude.{◌≡◌, [], if◌then◌else◌, ℕ, Bool, false, IfOk, OnOk};
+ghost use Rattle.std.specs.Prelude.{◌≡◌, ℕ, Bool, IfOk, OnOk};
 ghost use Rattle.gts_core.specs.Sound.{IsSound};
 ghost use Rattle.replayer.specs.Listing.{AreAnswers, AreInside, visible_ways, able, AreReady, IsReady};
 
@@ -21,35 +21,17 @@ pub(crate) struct Ready {
     pub found: bool,
 }
 
-/// The visible ways of these events; which of them can fire is not found.
-pub(crate) fn not_found(alloc: Global, events: &[Event]) -> Result<Ready, Memory>
-    ensures visible { IfOk result (λ ready. ready.visible.items ≡ visible_ways events.now) }
-    ensures found { IfOk result (λ ready. ready.found ≡ false) }
-{
-    let visible = visible_ways(alloc, events)?;
-    Ok(Ready {
-        visible,
-        ways: Vec::new(alloc),
-        found: false,
-    })
-}
-
-// The ways of those of these events that are visible.
-fn visible_ways(alloc: Global, events: &[Event]) -> Result<Vec<WayId>, Memory>
+/// The ways of those of these events that are visible.
+pub(crate) fn visible_ways(alloc: Global, events: &[Event]) -> Result<Vec<WayId>, Memory>
     ensures { IfOk result (λ ways. ways.items ≡ visible_ways events.now) }
 {
     let mut ways = Vec::new(alloc);
     for event in events {
-        ways.extend_from_slice(ways_of(event))?;
+        if !event.hidden {
+            ways.extend_from_slice(&event.ways)?;
+        }
     }
     Ok(ways)
-}
-
-// The ways of an event, where it is visible.
-fn ways_of(event: &Event) -> &[WayId]
-    ensures { result.now ≡ (if event.now.hidden then [] else event.now.ways.items) }
-{
-    if event.hidden { &[] } else { &event.ways }
 }
 
 /// Finds the visible ways that can fire, where they are not found or a step came since.

@@ -1,6 +1,6 @@
 //! Where runs stand at their end.
 
-ghost use Rattle.std.specs.Prelude.{◌≡◌, ◌<◌, ℕ, List, [], length, map, IfOk, IfSome};
+ghost use Rattle.std.specs.Prelude.{◌≡◌, ℕ, List, [], map, IfOk, IfSome};
 ghost use Rattle.ar_meaning.specs.Runs.{Start, Command as RunCommand};
 ghost use Rattle.ar_meaning.specs.Systems.{System};
 ghost use Rattle.gts_core.specs.Readings.{IsTotal};
@@ -15,7 +15,7 @@ ghost use Rattle.stepper.specs.Steps.{IsStartFault};
 use crate::obeying::refuse;
 use crate::replaying::{End, ReplayFault};
 use crate::trace::{no_step, not_started};
-use ar_base::{Memory, WayId};
+use ar_base::Memory;
 use ar_io::Sink;
 use domains::Value;
 use flow_propagate::PropagateFault;
@@ -120,48 +120,18 @@ fn take<K: Sink>(
         (command_of gts.now command) (K.state out.old) (K.state out.new) result }
 {
     match command {
-        Command::Fire(way) => fire(gts, stepper, way, out),
-        Command::Back => back(gts, stepper, out),
+        Command::Fire(way) => match stepper.fire(way) {
+            Ok(_) => Ok(End::Done),
+            Err(fault) => refuse(gts, way, fault, out),
+        },
+        Command::Back => match stepper.back() {
+            Ok(_) => Ok(End::Done),
+            Err(NoStep {}) => {
+                no_step(out)?;
+                Ok(End::Fault)
+            }
+        },
         Command::Show => Ok(End::Done),
         Command::Enabled => Ok(End::Done),
-    }
-}
-
-// Fires a way.
-fn fire<K: Sink>(
-    gts: &Gts,
-    stepper: &mut Stepper,
-    way: WayId,
-    out: &mut K,
-) -> Result<End, ReplayFault>
-    requires sound { IsSound gts.now }
-    requires same { stepper.old.system ≡ gts.now }
-    requires inside { way.n < length gts.now.ways.items }
-    ensures system { stepper.new.system ≡ stepper.old.system }
-    ensures answers { (system : System ℕ) → Views gts.now system
-        → AnswersCommand (naming_of_parts gts.now) system stepper.old stepper.new
-        (command_of gts.now (Command.Fire way)) (K.state out.old) (K.state out.new) result }
-{
-    match stepper.fire(way) {
-        Ok(_) => Ok(End::Done),
-        Err(fault) => refuse(gts, way, fault, out),
-    }
-}
-
-// Takes a step back.
-fn back<K: Sink>(gts: &Gts, stepper: &mut Stepper, out: &mut K) -> Result<End, ReplayFault>
-    requires sound { IsSound gts.now }
-    requires same { stepper.old.system ≡ gts.now }
-    ensures system { stepper.new.system ≡ stepper.old.system }
-    ensures answers { (system : System ℕ) → Views gts.now system
-        → AnswersCommand (naming_of_parts gts.now) system stepper.old stepper.new
-        (command_of gts.now Command.Back) (K.state out.old) (K.state out.new) result }
-{
-    match stepper.back() {
-        Ok(_) => Ok(End::Done),
-        Err(NoStep {}) => {
-            no_step(out)?;
-            Ok(End::Fault)
-        }
     }
 }

@@ -6,7 +6,6 @@ ghost use Rattle.ar_base.specs.Texts.{line};
 ghost use Rattle.ar_io.specs.Writing.{Writes};
 ghost use Rattle.ar_meaning.specs.TraceText.{variable_line, observer_line, lines_from};
 ghost use Rattle.ar_meaning.specs.ValueTexts.{value_text};
-ghost use Rattle.domains.specs.Same.{is_same};
 ghost use Rattle.gts_core.specs.Readings.{IsTotal, value_at};
 ghost use Rattle.gts_core.specs.Sound.{IsSound};
 ghost use Rattle.gts_flatten.specs.Flat.{naming_of_parts};
@@ -168,7 +167,7 @@ fn observer_change<K: Sink>(
 {
     let was = observer_value(parts, old, n);
     let is = observer_value(parts, new, n);
-    if is_same(was, is) {
+    if was == is {
         write_text(out, "")
     } else {
         observer_line(out, parts, n, is)
@@ -193,11 +192,4 @@ fn observer_line<K: Sink>(out: &mut K, parts: &GtsParts, n: u32, v: Value) -> Re
     write_text(out, "  observer ")?;
     named_value(out, parts, observer_path(parts, n), v)?;
     write_text(out, "\n")
-}
-
-// Whether two values are the same.
-fn is_same(a: Value, b: Value) -> bool
-    ensures { result ≡ is_same a b }
-{
-    a == b
 }

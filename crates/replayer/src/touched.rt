@@ -1,9 +1,8 @@
 //! The observers that are looked at after a step.
 
-ghost use Rattle.std.specs.Prelude.{◌≡◌, IfOk};
+ghost use Rattle.std.specs.Prelude.{IfOk};
 ghost use Rattle.std.specs.List.Sorted.{IsNonDecreasingBy};
 ghost use Rattle.gts_core.specs.declared.system.GtsParts.{GtsParts as Parts};
-ghost use Rattle.value_changes.specs.Changes.{numbers};
 ghost use Rattle.replayer.specs.Observing.{AreInOrder, AreTouched};
 
 use ar_base::{Memory, VarId};
@@ -20,18 +19,10 @@ pub(crate) fn touched(
     ensures { IfOk result (λ all. (p : Parts) → AreInOrder p pairs.now
         → AreTouched p variables.now all.items) }
 {
-    let firsts = plain_numbers(alloc, variables)?;
-    let all = paired(alloc, pairs, &firsts)?;
-    Ok(all)
-}
-
-// The numbers of variables.
-fn plain_numbers(alloc: Global, variables: &[VarId]) -> Result<Vec<u32>, Memory>
-    ensures { IfOk result (λ all. all.items ≡ numbers variables.now) }
-{
-    let mut all = Vec::new(alloc);
+    let mut firsts = Vec::new(alloc);
     for variable in variables {
-        all.push(variable.n)?;
+        firsts.push(variable.n)?;
     }
+    let all = paired(alloc, pairs, &firsts)?;
     Ok(all)
 }

@@ -1,10 +1,11 @@
-use Rattle.std.proofs.Common.{◌≡◌, ◌++◌, ◌∷◌, [], if◌then◌else◌, List, take, sym, ap, ◌∙◌, append_assoc}
+use Rattle.std.proofs.Common.{◌≡◌, ◌++◌, ◌∷◌, [], if◌then◌else◌, List, Vec, Global, take, sym, ap, ◌∙◌, append_assoc}
 use Rattle.std.proofs.lemmas.List.{append-nil, take_all}
 use Rattle.ar_base.proofs.Items.{take_item}
 use Rattle.ar_base.specs.Numbers.{WayId}
 use Rattle.gts_core.specs.declared.system.Event.{Event}
 use Rattle.replayer.specs.Listing.{visible_ways}
 use Rattle.replayer.proofs.ready.visible_ways.Goals as goal
+use Rattle.replayer.proofs.ready.visible_ways.Goals.{then-not-event+in_ok-extend_from_slice, else-not-event}
 
 -- the visible ways of one event more
 visible_more : (es : List Event) (e : Event)
@@ -24,10 +25,18 @@ loop-event-preserved c =
     let i = c.loop-event.event-index in
     let e = c.event-item.result in
     let more = ap visible_ways (take_item es i e c.loop-event-test.true c.event-item.is) ∙ visible_more (take i es) e in
-    c.in_ok-extend_from_slice.ensures.items
-    ∙ ap (λ (z : List WayId). z ++ c.ways_of.result.now) c.loop-event.invariant
-    ∙ ap (λ (z : List WayId). visible_ways (take i es) ++ z) c.ways_of.ensures
-    ∙ sym more
+    let old = c.loop-event.ways.items in
+    let added : c.if-not-event.ways.items ≡ old ++ (if e.hidden then [] else e.ways.items) =
+    elim c.if-not-event.branch [
+      | then-not-event+in_ok-extend_from_slice w ↦
+          ap (λ (z : Vec WayId Global). z.items) w.ways-is ∙ w.in_ok-extend_from_slice.ensures.items
+          ∙ ap (λ (z : List WayId). old ++ z) w.deref.ensures.value
+          ∙ ap (λ b. old ++ (if b then [] else e.ways.items)) (sym w.if-not-event.true)
+      | else-not-event w ↦
+          ap (λ (z : Vec WayId Global). z.items) w.ways-is ∙ sym (append-nil old)
+          ∙ ap (λ b. old ++ (if b then [] else e.ways.items)) (sym w.if-not-event.false)
+    ] in
+    added ∙ ap (λ (z : List WayId). z ++ (if e.hidden then [] else e.ways.items)) c.loop-event.invariant ∙ sym more
 
 pub returns : goal.returns
 returns c = c.loop-event.invariant ∙ ap visible_ways (take_all c.loop-event.event-index c.args.events.now

@@ -11,7 +11,7 @@ ghost use Rattle.cut_check.specs.LineSets.{HaveEventNumbers};
 ghost use Rattle.cut_text.specs.Answers.{Prints};
 ghost use Rattle.cut_text.specs.Printed.{edges_of, HaveOneWay, AreOfEdges};
 ghost use Rattle.cut_text.specs.Tables.{HaveWays, AllHaveWays};
-ghost use Rattle.check_text.specs.Printed.{verdict_text, verdict_line, verdict_lines, all_verdicts_good};
+ghost use Rattle.check_text.specs.Printed.{verdict_text, verdict_lines, all_verdicts_good};
 ghost use Rattle.check_text.specs.Printed.{listed_in, all_listed, missing_one, missing_at, check_text};
 ghost use Rattle.check_text.specs.Texts.{last_line};
 
@@ -99,20 +99,13 @@ fn verdict_lines<K: Sink>(
         result }
 {
     for (n, chain) in chains.iter().enumerate() {
-        verdict_line(out, chain.line, verdicts[n])?;
+        write_text(out, "line ")?;
+        write_number(out, chain.line)?;
+        write_text(out, " ")?;
+        said(out, verdicts[n])?;
+        write_text(out, "\n")?;
     }
     Ok(())
-}
-
-// The line of a verdict.
-fn verdict_line<K: Sink>(out: &mut K, line: u32, verdict: Verdict) -> Result<(), SinkFailed>
-    ensures { Writes (K.state out.old) (K.state out.new) (verdict_line line verdict) result }
-{
-    write_text(out, "line ")?;
-    write_number(out, line)?;
-    write_text(out, " ")?;
-    said(out, verdict)?;
-    write_text(out, "\n")
 }
 
 // What is said of a line.
@@ -122,17 +115,11 @@ fn said<K: Sink>(out: &mut K, verdict: Verdict) -> Result<(), SinkFailed>
     match verdict {
         Verdict::Good => write_text(out, "good"),
         Verdict::Fails => write_text(out, "fails"),
-        Verdict::Holds(line) => held(out, line),
+        Verdict::Holds(line) => {
+            write_text(out, "holds line ")?;
+            write_number(out, line)
+        }
     }
-}
-
-// That a line holds the line of this number.
-fn held<K: Sink>(out: &mut K, line: u32) -> Result<(), SinkFailed>
-    ensures { Writes (K.state out.old) (K.state out.new) (verdict_text (Verdict.Holds line))
-        result }
-{
-    write_text(out, "holds line ")?;
-    write_number(out, line)
 }
 
 // The lines of those of the sets that are left that are not listed; whether there is none of them.

@@ -8,9 +8,7 @@ ghost use Rattle.ar_firing.specs.Replays.{AreOpen};
 ghost use Rattle.ar_meaning.specs.Found.{IsAnswer};
 ghost use Rattle.ar_meaning.specs.Runs.{Start};
 ghost use Rattle.ar_meaning.specs.Systems.{System, Way};
-ghost use Rattle.domains.specs.Same.{is_same};
 ghost use Rattle.domains.specs.declared.Value.{Value as TheValue};
-ghost use Rattle.gts_core.specs.Readings.{value_in};
 ghost use Rattle.gts_core.specs.Sound.{IsSound};
 ghost use Rattle.gts_core.specs.View.{Views, net_of, numbered};
 ghost use Rattle.job_inputs.specs.Chains.{labels_of, HaveKnownWays};
@@ -22,13 +20,12 @@ ghost use Rattle.cut_check.specs.Truths.{HasFired, AreTruths};
 ghost use Rattle.cut_check.specs.Verdicts.{IsTrueLine};
 
 use crate::rows::Row;
-use ar_base::{Memory, VarId, WayId};
+use ar_base::{Memory, WayId};
 use domains::Value;
 use flow_propagate::PropagateFault;
 use gts_core::{Chain, Gts, Observer, value_in};
 use std::alloc::Global;
 use stepper::{NoStep, StepFault, Stepper};
-use typed_expr::Expr;
 
 /// Whether each line is true.
 pub(crate) fn true_lines(
@@ -63,19 +60,12 @@ fn unstarted(alloc: Global, fault: PropagateFault, count: usize) -> Result<Vec<b
     ensures fault { IfOk result (λ _. fault ≡ PropagateFault.Memory → ⊥) }
 {
     match fault {
-        PropagateFault::Flow(_) => none_true(alloc, count),
+        PropagateFault::Flow(_) => {
+            let truths = vec![in alloc; false; count]?;
+            Ok(truths)
+        }
         PropagateFault::Memory => Err(Memory {}),
     }
-}
-
-// That none of so many lines is true.
-fn none_true(alloc: Global, count: usize) -> Result<Vec<bool>, Memory>
-    ensures long { IfOk result (λ truths. length truths.items ≡ count) }
-    ensures none { IfOk result (λ truths. (n : ℕ) (b : Bool) → Stands truths.items n b
-        → b ≡ false) }
-{
-    let truths = vec![in alloc; false; count]?;
-    Ok(truths)
 }
 
 // Whether each line is true, by a run from the start.
@@ -153,14 +143,7 @@ fn is_true(
     if !done {
         return Ok(false);
     }
-    Ok(shows(&stepper.values().values, &observer.value, wanted))
-}
-
-// Whether an expression has the value.
-fn shows(values: &[Value], expr: &Expr<VarId>, wanted: Value) -> bool
-    ensures { result ≡ is_same (value_in values.now expr.now) wanted }
-{
-    value_in(values, expr) == wanted
+    Ok(value_in(&stepper.values().values, &observer.value) == wanted)
 }
 
 // Goes back to where what was fired differs from these ways.

@@ -113,16 +113,8 @@ fn add(row: &mut Row, allowed: &[bool], event: u32)
         (IsFreshEvent allowed.now row.old.words.items event)
         → row.new.fit ≡ (row.old.fit && fresh) }
 {
-    let fresh = is_fresh(&row.words, allowed, event);
-    row.fit = both(row.fit, fresh);
+    row.fit &= is_fresh(&row.words, allowed, event);
     set(&mut row.words, event);
-}
-
-// Whether both hold.
-fn both(a: bool, b: bool) -> bool
-    ensures { result ≡ (a && b) }
-{
-    a && b
 }
 
 // Whether the event is open, and not in the row.

@@ -1,4 +1,4 @@
-use Rattle.std.proofs.Common.{◌∙◌, Bool, List, ap, sym, subst}
+use Rattle.std.proofs.Common.{◌≡◌, ◌∙◌, Bool, List, ap, sym, subst, rules}
 use Rattle.domains.specs.Same.{is_same}
 use Rattle.domains.specs.declared.Value.{Value}
 use Rattle.ar_meaning.specs.Found.{IsAnswer}
@@ -50,7 +50,8 @@ returns-clause-answer c = λ system views dropped fit h.
     let end = c.go_on.new.stepper in
     let total = subst (λ (q : GtsParts). IsTotal q end.values)
     (c.in_ok-done.ensures.system ∙ c.go_back.ensures.system ∙ c.requires.same) c.values.ensures.total in
-    let same = c.shows.ensures ∙ ap (λ (t : List Value). is_same (value_in t o.value) c.args.wanted)
+    let shown : c.eq.result ≡ is_same (value_in c.deref.result.now o.value) c.args.wanted = search rules in
+    let same = shown ∙ ap (λ (t : List Value). is_same (value_in t o.value) c.args.wanted)
     (c.deref.ensures.value ∙ c.values.ensures.values) in
     subst (λ (b : Bool). IsAnswer b (IsTrueLine system dropped (numbered o.value) c.args.wanted
     (labels_of p c.args.ways.now))) (sym same)

@@ -1,5 +1,5 @@
 -- What the code's lines and labels say, and how far a script is read.
-use Rattle.std.specs.Prelude.{◌≡◌, ◌==◌, ◌||◌, ◌+◌, ◌-◌, ◌<◌, ◌≤◌, ℕ, Bool, true, false, List, [], ◌∷◌, ◌++◌, decimal, length, take, drop, slice_get, Option, Some, None, Result, Ok, Err, Vec}
+use Rattle.std.specs.Prelude.{◌≡◌, ◌==◌, ◌||◌, ◌+◌, ◌<◌, ◌≤◌, ℕ, Bool, true, false, List, [], ◌∷◌, ◌++◌, decimal, length, slice_get, Option, Some, None, Result, Ok, Err, Vec}
 use Rattle.std.specs.Global.{Global}
 use denote.Bor.{Bor}
 use Rattle.ar_base.specs.Lists.{Stands}
@@ -45,13 +45,6 @@ bytes_left (Some rest) = length rest.now + 1
 abbrev pub has_mark : List ℕ → Bool
 has_mark [] = false
 has_mark (b ∷ bs) = (b == 35) || has_mark bs
-
--- behind this place no `#` stands, and before it one does
-pub record IsMarkAt (label : List ℕ) (n : ℕ) : Type 0 where
-  pub some : 0 < n
-  pub within : n ≤ length label
-  pub split : label ≡ take (n - 1) label ++ (35 ∷ drop n label)
-  pub last : has_mark (drop n label) ≡ false
 
 -- Paths
 

@@ -2,8 +2,7 @@
 
 ghost use Rattle.std.specs.Prelude.{◌≡◌, ◌+◌, ◌<◌, ◌^◌, ◌++◌, ◌∷◌, ℕ, false, decimal, length, IfSome, IfNone, MatchOption};
 ghost use Rattle.ar_base.specs.Lists.{Stands};
-ghost use Rattle.ar_meaning.specs.Found.{IsAnswer};
-ghost use Rattle.job_inputs.specs.Reads.{has_mark, IsMarkAt};
+ghost use Rattle.job_inputs.specs.Reads.{has_mark};
 
 use ar_base::WayId;
 use itoa::Buffer;
@@ -15,19 +14,10 @@ pub(crate) fn marked(label: &[u8]) -> Option<(&[u8], &[u8])>
     ensures last { IfSome result (λ r. has_mark r.1.now ≡ false) }
     ensures none { IfNone result (has_mark label.now ≡ false) }
 {
-    let behind = mark_place(label)?;
-    Some((&label[..behind - 1], &label[behind..]))
-}
-
-// The place behind the last `#`.
-fn mark_place(label: &[u8]) -> Option<usize>
-    ensures found { IfSome result (λ n. IsMarkAt label.now n) }
-    ensures none { IfNone result (has_mark label.now ≡ false) }
-{
     let mut n = label.len();
     while n > 0 {
         if label[n - 1] == b'#' {
-            return Some(n);
+            return Some((&label[..n - 1], &label[n..]));
         }
         n -= 1;
     }
@@ -61,14 +51,11 @@ fn number_of(digits: &[u8]) -> Option<usize>
     let Ok(k) = text.parse::<usize>() else {
         return None;
     };
-    if is_written(k, digits) { Some(k) } else { None }
-}
-
-// Whether the number is written so.
-fn is_written(k: usize, digits: &[u8]) -> bool
-    ensures { IsAnswer result (digits.now ≡ decimal k) }
-{
     let mut buffer = Buffer::new();
-    let text = buffer.format(k);
-    text.as_bytes() == digits
+    let written = buffer.format(k);
+    if written.as_bytes() == digits {
+        Some(k)
+    } else {
+        None
+    }
 }

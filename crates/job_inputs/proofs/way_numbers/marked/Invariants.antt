@@ -1,6 +1,6 @@
 use Rattle.std.proofs.Common.{◌≡◌, ◌≤◌, false, length, drop}
 use Rattle.job_inputs.specs.Reads.{has_mark}
-use Rattle.job_inputs.proofs.way_numbers.mark_place.Given as goal
+use Rattle.job_inputs.proofs.way_numbers.marked.Given as goal
 
 -- no mark stands behind the place
 abbrev pub invariant-loop-n : goal.invariant-loop-n

@@ -1,6 +1,6 @@
 //! What is known, as expressions read it.
 
-ghost use Rattle.std.specs.Prelude.{◌≡◌, [], map, Contains, IfOk};
+ghost use Rattle.std.specs.Prelude.{◌≡◌, [], map, IfOk};
 ghost use Rattle.domains.specs.declared.Value.{Value};
 ghost use Rattle.typed_expr.specs.Kinds.{kind_of};
 ghost use Rattle.typed_expr.specs.Rows.{first_of};
@@ -64,13 +64,6 @@ pub(crate) fn is_set(marks: &[bool], n: usize) -> bool
     }
 }
 
-// Whether the value is one of these.
-fn has(values: &[Value], v: Value) -> bool
-    ensures { IsAnswer result (Contains values.now v) }
-{
-    values.contains(&v)
-}
-
 // Whether every condition yields the truth value that it must have.
 fn reached(alloc: Global, conditions: &[(Expr<VarId>, bool)], known: &Known) -> Result<bool, Memory>
     ensures { IfOk result (λ b. IsAnswer b
@@ -79,7 +72,7 @@ fn reached(alloc: Global, conditions: &[(Expr<VarId>, bool)], known: &Known) -> 
 {
     for (test, must) in conditions {
         let set = eval_set(alloc, test, known)?;
-        if !has(set.values(), Value::Truth(*must)) {
+        if !set.values().contains(&Value::Truth(*must)) {
             return Ok(false);
         }
     }

@@ -40,19 +40,15 @@ fn put(
     }
     let place = target as usize;
     if known[place] {
-        return confirm(values[place], v);
+        return if values[place] == v {
+            Some(false)
+        } else {
+            None
+        };
     }
     values[place] = v;
     known[place] = true;
     Some(true)
-}
-
-// Nothing new where the values are the same; none where they differ.
-fn confirm(old: Value, v: Value) -> Option<bool>
-    ensures same { IfSome result (λ changed. (changed ≡ false) × (old ≡ v)) }
-    ensures other { IfNone result (old ≡ v → ⊥) }
-{
-    if old == v { Some(false) } else { None }
 }
 
 // The same for what an assignment yields, which is one value at most; none where it has more.

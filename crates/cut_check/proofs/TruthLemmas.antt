@@ -1,5 +1,5 @@
 -- How far lines are fired, and which are true.
-use Rattle.std.proofs.Common.{◌≡◌, ℕ, zero, suc, ◌+◌, ◌<◌, Bool, true, false, List, [], ◌∷◌, ◌++◌, take, drop, reverse, length, get_or, Result, Ok, Err, IfOk, OnOk, Vec, Global, refl, sym, ap, ◌∙◌, subst, arith, inl, inr}
+use Rattle.std.proofs.Common.{◌≡◌, ℕ, zero, suc, ◌+◌, ◌<◌, Bool, true, false, List, [], ◌∷◌, ◌++◌, take, drop, reverse, length, get_or, Result, Ok, Err, IfOk, Vec, Global, refl, sym, ap, ◌∙◌, subst, arith, inl, inr}
 use Rattle.std.proofs.lemmas.List.{map-append, reverse-append, take_more, take-append-drop}
 use Rattle.ar_base.specs.Lists.{Stands, IsOneOf}
 use Rattle.ar_base.specs.Numbers.{WayId}
@@ -358,21 +358,6 @@ module _ (sys : s.System ℕ) (dropped : List ℕ) (observer : Expr ℕ) (wanted
     each = λ n ls b s t. subst (λ (z : Bool). IsAnswer z (IsTrueLine sys dropped observer wanted ls)) (sym (none n b t))
         (λ h. start_not sys dropped f (reverse ls) h.values fails h.reaches);
   }
-
--- a fault that is no want of memory
-pub never_done : (P : Type 0) (r : Result Bool Memory) → IfOk r (λ done. done ≡ false)
-    → IfOk r (λ done. done ≡ true → P)
-never_done P (Ok b) h = λ e. let z : false ≡ true = sym h ∙ e in absurd (cc z)
-never_done P (Err f) h = tt
-
-pub where_some : (P Q : Type 0) (r : Result Bool Memory) → IfOk r (λ done. P) → (P → Q)
-    → IfOk r (λ done. done ≡ false → Q)
-where_some P Q (Ok b) h on = λ e. on h
-where_some P Q (Err f) h on = tt
-
-pub on_ok : (P : Type 0) (r : Result Bool Memory) → P → OnOk r P
-on_ok P (Ok b) h = h
-on_ok P (Err f) h = tt
 
 -- a line, and the row of it
 pub line_stands : (p : GtsParts) (chains : List Chain) (n k : ℕ) (c : Chain) (ways : List WayId) → Stands chains n c

@@ -256,17 +256,9 @@ fn fire(
             fired.push(way)?;
             Ok(true)
         }
-        Err(fault) => refused(fault),
-    }
-}
-
-// That a way meets this fault, unless it is want of memory.
-fn refused(fault: StepFault) -> Result<bool, Memory>
-    ensures refused { IfOk result (λ done. done ≡ false) }
-    ensures fault { IfOk result (λ _. fault ≡ StepFault.Memory → ⊥) }
-{
-    match fault {
-        StepFault::Memory => Err(Memory {}),
-        _ => Ok(false),
+        Err(fault) => match fault {
+            StepFault::Memory => Err(Memory {}),
+            _ => Ok(false),
+        },
     }
 }

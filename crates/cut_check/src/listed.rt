@@ -19,25 +19,12 @@ pub fn is_listed(gts: &Gts, chains: &[Chain], cut: &[EventId]) -> bool
 {
     let parts = gts.parts();
     for chain in chains {
-        if has_events(parts, &chain.ways, cut) {
+        let ways: &[WayId] = &chain.ways;
+        if are_among(parts, ways, cut) && has_all(parts, ways, cut) {
             return true;
         }
     }
     false
-}
-
-// Whether the events of a line are exactly these.
-fn has_events(parts: &GtsParts, ways: &[WayId], cut: &[EventId]) -> bool
-    requires { AreKnownWays parts.now ways.now }
-    ensures { IsAnswer result (Within (events_of (labels_of parts.now ways.now))
-        (numbers_of cut.now)
-        × Within (numbers_of cut.now) (events_of (labels_of parts.now ways.now))) }
-{
-    if are_among(parts, ways, cut) {
-        has_all(parts, ways, cut)
-    } else {
-        false
-    }
 }
 
 // Whether each event of a line is one of these.

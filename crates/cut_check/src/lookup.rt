@@ -81,24 +81,12 @@ fn is_any(rows: &[Row], asked: &[u64], events: &[EventId]) -> bool
         → IsAnswer result (IsListed lines (numbers_of events.now)) }
 {
     for row in rows {
-        if is_row_of(&row.words, asked, events) {
+        let words: &[u64] = &row.words;
+        if is_within(words, asked) && has_all_bits(words, events) {
             return true;
         }
     }
     false
-}
-
-// Whether a row has no other bit than the row that is asked for, and has these events.
-fn is_row_of(row: &[u64], asked: &[u64], events: &[EventId]) -> bool
-    requires { length row.now ≡ length asked.now }
-    ensures { IsAnswer result (((n : ℕ) → IsOneOf (numbers_of events.now) n → IsSet row.now n)
-        × ((n : ℕ) → IsSet row.now n → IsSet asked.now n)) }
-{
-    if is_within(row, asked) {
-        has_all_bits(row, events)
-    } else {
-        false
-    }
 }
 
 // Whether a row has the bit of each of these events.

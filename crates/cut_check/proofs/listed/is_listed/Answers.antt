@@ -1,9 +1,19 @@
+use Rattle.ar_base.specs.Sets.{Within}
+use Rattle.job_inputs.specs.Chains.{labels_of}
 use Rattle.cut_check.specs.Flat.{numbers_of}
+use Rattle.cut_check.specs.Verdicts.{events_of}
 use Rattle.cut_check.proofs.ListedLemmas.{listed_step}
 use Rattle.cut_check.proofs.listed.is_listed.Goals as goal
+use Rattle.cut_check.proofs.listed.is_listed.Goals.{else-are_among-via-then-are_among+else-has_all, else-are_among-via-else-are_among}
 
 pub loop-chain-preserved : goal.loop-chain-preserved
 loop-chain-preserved c =
+    let own = events_of (labels_of c.parts-parts.result.now c.deref-ways.result.now) in
+    let set = numbers_of c.args.cut.now in
+    let differ : Within own set × Within set own → ⊥ = elim c.else-are_among.branch [
+      | else-are_among-via-then-are_among+else-has_all w ↦ λ h. w.if-has_all.ensures h.1
+      | else-are_among-via-else-are_among w ↦ λ h. w.if-are_among.ensures h.0
+    ] in
     listed_step c.args.gts.now c.parts-parts.result.now c.args.chains.now c.loop-chain.chain-index c.chain-item.result
-    c.deref.result.now (numbers_of c.args.cut.now) c.loop-chain-test.true c.chain-item.is
-    c.parts-parts.ensures.parts c.deref.ensures.value c.if-has_events.ensures c.loop-chain.invariant
+    c.deref-ways.result.now (numbers_of c.args.cut.now) c.loop-chain-test.true c.chain-item.is
+    c.parts-parts.ensures.parts c.deref-ways.ensures.value differ c.loop-chain.invariant

@@ -1,5 +1,5 @@
 -- The walk of one statement, and of those that have to be walked before it.
-use Rattle.std.proofs.Common.{◌≡◌, ◌<◌, ◌+◌, ◌-◌, ◌*◌, ◌^◌, ◌++◌, inl, ℕ, Bool, true, false, List, [], ◌∷◌, Option, Some, None, option_map, length, slice_get, refl, sym, ◌∙◌, ap, subst, arith, Result, Ok, Err, IfOk, OnOk}
+use Rattle.std.proofs.Common.{◌≡◌, ◌<◌, ◌+◌, ◌-◌, ◌*◌, ◌^◌, ◌++◌, inl, ℕ, Bool, true, false, List, [], ◌∷◌, Option, Some, None, option_map, length, slice_get, refl, sym, ◌∙◌, ap, subst, arith, Result, Ok, Err, OnOk}
 use Rattle.std.specs.Borrow.{Bor}
 use Rattle.ar_base.specs.Lists.{Stands}
 use Rattle.ar_base.specs.Numbers.{NameId, BodyId}
@@ -25,7 +25,7 @@ use Rattle.ar_base.proofs.Standing.{stands_one}
 use Rattle.ar_base.proofs.Items.{last_one}
 use Rattle.unit_walks.proofs.LookUps.{looked_up}
 use Rattle.unit_walks.proofs.TableSteps.{IsWider, extends_both, extends_none, extends_forgotten, table_forgotten, means_forgotten, set_wide, set_extends, grown_wide, grown_extends, grown_stands, frame_wide, table_set, table_grown, met_there}
-use Rattle.unit_walks.proofs.Stepping.{if_ok, none_some, looked_none, looked_inner, looked_clone, looked_alias, entered_level, starts_none, none_ends}
+use Rattle.unit_walks.proofs.Stepping.{none_some, looked_none, looked_inner, looked_clone, looked_alias, entered_level, starts_none, none_ends}
 
 -- the walk of the top frame is under way, and what was known stays known
 pub record IsUnderWay (s : RootedModel) (below : List Frame) (top : Frame) (old new : Table) : Type 0 where

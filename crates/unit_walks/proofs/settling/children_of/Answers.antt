@@ -1,4 +1,4 @@
-use Rattle.std.proofs.Common.{◌≡◌, length, get_or, None, sym, subst, ap, rules, arith}
+use Rattle.std.proofs.Common.{◌≡◌, length, get_or, None, subst, ap, rules, arith}
 use Rattle.std.specs.Map.{lookup}
 use Rattle.ar_base.specs.Lists.{Stands}
 use Rattle.ar_base.proofs.Standing.{along_back, along_length, stands_get}

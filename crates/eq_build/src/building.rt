@@ -5,16 +5,15 @@ ghost use Rattle.typed_expr.specs.declared.expr.Expr.{out-Expr};
 ghost use Rattle.ar_base.specs.Numbers.{VarId as VarNumber};
 ghost use Rattle.eq_build.specs.Builds.{Builds, NeedsMore, most_gates};
 ghost use Rattle.eq_build.specs.Views.{row_of, entry_of, entries_in, gates_in, built_of, Stops};
-ghost use Rattle.eq_build.specs.Entries.{only};
 ghost use Rattle.eq_core.specs.Gates.{Always as AlwaysTaken};
 ghost use Rattle.eq_build.specs.Answers.{AnswersEntries, AnswersEach, AnswersParts, AnswersCases};
 
 use crate::entries::{BuildFault, Entry};
 use crate::forms::{chosen, combined, folded, joined, led, summed, turned};
 use crate::steps::Step;
-use ar_base::{Memory, VarId};
+use ar_base::VarId;
 use domains::Value;
-use eq_core::{Gate, Joint, Operand};
+use eq_core::{Gate, Operand};
 use std::alloc::Global;
 use typed_expr::Expr;
 
@@ -51,19 +50,23 @@ fn entries_of(
         result gates.new.items }
 {
     match expr {
-        Expr::Constant(v) => Ok(only(alloc, *v)?),
-        Expr::Variable(x) => Ok(row(alloc, rows, *x)?),
+        Expr::Constant(v) => Ok(Vec::from_slice(alloc, &[always(*v)])?),
+        Expr::Variable(x) => match rows.get(x.n as usize) {
+            Some(row) => Ok(Vec::from_slice(alloc, row)?),
+            // a variable without a row has no entry
+            None => Ok(Vec::new(alloc)),
+        },
         Expr::Not(a) => {
             let entries = entries_of(alloc, gates, rows, a)?;
             turned(alloc, gates, &entries)
         }
         Expr::All(es) => {
             let operands = each(alloc, gates, rows, es)?;
-            joined(alloc, gates, Joint::And, &operands)
+            joined(alloc, gates, true, &operands)
         }
         Expr::Any(es) => {
             let operands = each(alloc, gates, rows, es)?;
-            joined(alloc, gates, Joint::Or, &operands)
+            joined(alloc, gates, false, &operands)
         }
         Expr::Compare(relation, a, b) => {
             let left = entries_of(alloc, gates, rows, a)?;
@@ -175,22 +178,5 @@ fn always(value: Value) -> Entry
     Entry {
         value,
         operand: Operand::Always,
-    }
-}
-
-// A constant's entries.
-fn only(alloc: Global, value: Value) -> Result<Vec<Entry>, Memory>
-    ensures { IfOk result (λ entries. entries_in entries.items ≡ only value) }
-{
-    Ok(Vec::from_slice(alloc, &[always(value)])?)
-}
-
-// What the rows have for a variable.
-fn row(alloc: Global, rows: &[Vec<Entry>], x: VarId) -> Result<Vec<Entry>, Memory>
-    ensures { IfOk result (λ entries. entries_in entries.items ≡ row_of rows.now x) }
-{
-    match rows.get(x.n as usize) {
-        Some(row) => Ok(Vec::from_slice(alloc, row)?),
-        None => Ok(Vec::new(alloc)),
     }
 }

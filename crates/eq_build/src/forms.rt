@@ -1,7 +1,7 @@
 //! The entries that the forms of expressions make of those of their operands.
 
 ghost use Rattle.std.specs.Prelude.{◌≡◌, ◌≤◌, OnOk, IfOk, length, map};
-ghost use Rattle.eq_core.specs.Views.{all_needed, operand_of};
+ghost use Rattle.eq_core.specs.Views.{operand_of};
 ghost use Rattle.eq_build.specs.Entries.{with_terms, pair_term, combined, folded, led, with_step, with_signs, entries_for, opposite_terms, apart, each_for, joint_terms, behind, case_terms, chosen};
 ghost use Rattle.eq_build.specs.Builds.{most_gates};
 ghost use Rattle.eq_build.specs.Views.{entry_of, entries_in, operands_in, gates_in, lists_in, parts_in, cases_in, MakesEntries};
@@ -11,7 +11,7 @@ use crate::groups::Groups;
 use crate::steps::{Step, result_of, truth};
 use ar_base::Memory;
 use domains::Value;
-use eq_core::{Gate, Joint, Operand};
+use eq_core::{Gate, Operand};
 use std::alloc::Global;
 
 // A negation's entries.
@@ -32,33 +32,22 @@ pub(crate) fn turned(
     groups.entries(alloc, gates)
 }
 
-// The entries of a conjunction or a disjunction.
+// The entries of a conjunction, where all operands are needed, or of a disjunction.
 pub(crate) fn joined(
     alloc: Global,
     gates: &mut Vec<Gate>,
-    joint: Joint,
+    all_needed: bool,
     operands: &[Vec<Entry>],
 ) -> Result<Vec<Entry>, BuildFault>
     requires { length gates.old.items ≤ most_gates }
     ensures { MakesEntries (entries_for (gates_in gates.old.items)
-        (joint_terms (all_needed joint) (lists_in operands.now))) result gates.new.items }
+        (joint_terms all_needed (lists_in operands.now))) result gates.new.items }
 {
-    let all_needed = needs_all(joint);
     let mut groups = Groups::new(alloc);
     put_apart(alloc, &mut groups, Value::Truth(!all_needed), operands)?;
     let each = each_for(alloc, Value::Truth(all_needed), operands)?;
     groups.put(alloc, Value::Truth(all_needed), &each)?;
     groups.entries(alloc, gates)
-}
-
-// Whether all operands are needed.
-fn needs_all(joint: Joint) -> bool
-    ensures { result ≡ all_needed joint }
-{
-    match joint {
-        Joint::And => true,
-        Joint::Or => false,
-    }
 }
 
 // Each operand's operand for the value, as a term of its own.

@@ -2,7 +2,6 @@
 
 ghost use Rattle.std.specs.Prelude.{◌≡◌};
 ghost use Rattle.domains.specs.Values.{is_before, truth_of, whole_of};
-ghost use Rattle.typed_expr.specs.Values.{is_related};
 ghost use Rattle.eq_build.specs.Entries.{result_of};
 
 use domains::{Value, add, multiply, subtract};
@@ -39,7 +38,14 @@ pub(crate) fn result_of(step: Step, v: Value, w: Value) -> Value
         Step::Lesser => Value::Whole(whole(v).min(whole(w))),
         Step::Greater => Value::Whole(whole(v).max(whole(w))),
         Step::Counted => Value::Whole(if truth(w) { add(whole(v), 1) } else { whole(v) }),
-        Step::Compared(relation) => Value::Truth(related(relation, v, w)),
+        Step::Compared(relation) => Value::Truth(match relation {
+            Relation::Equal => !before(v, w) && !before(w, v),
+            Relation::Differs => before(v, w) || before(w, v),
+            Relation::Less => before(v, w),
+            Relation::AtMost => !before(w, v),
+            Relation::More => before(w, v),
+            Relation::AtLeast => !before(v, w),
+        }),
     }
 }
 
@@ -62,20 +68,6 @@ fn whole(v: Value) -> i64
         Value::Truth(_) => 0,
         Value::Whole(n) => n,
         Value::Symbol(_) => 0,
-    }
-}
-
-// Whether two values are so related.
-fn related(relation: Relation, v: Value, w: Value) -> bool
-    ensures { result ≡ is_related relation v w }
-{
-    match relation {
-        Relation::Equal => !before(v, w) && !before(w, v),
-        Relation::Differs => before(v, w) || before(w, v),
-        Relation::Less => before(v, w),
-        Relation::AtMost => !before(w, v),
-        Relation::More => before(w, v),
-        Relation::AtLeast => !before(v, w),
     }
 }
 

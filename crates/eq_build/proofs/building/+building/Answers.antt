@@ -1,4 +1,4 @@
-use Rattle.std.proofs.Common.{◌∷◌, [], List, Bool, true, false, pos, sym, ap, ◌∙◌, subst}
+use Rattle.std.proofs.Common.{◌∷◌, [], List, Bool, true, false, pos, Vec, Global, sym, ap, ◌∙◌, subst}
 use borrow.Author.Count.{falls}
 use Rattle.ar_base.specs.Numbers.{VarId}
 use Rattle.domains.specs.declared.Value.TheVariants.{Whole}
@@ -17,6 +17,7 @@ use Rattle.eq_build.specs.declared.entries.Entry.{Entry}
 use Rattle.eq_build.specs.declared.steps.Step.TheVariants.{Times, Lesser, Greater, Counted, Compared}
 use Rattle.eq_build.proofs.Arms as arm
 use Rattle.eq_build.proofs.Operands as operand
+use Rattle.eq_build.proofs.Reading.{row_here, row_past}
 use Rattle.eq_build.proofs.Threading.{SoFar, nothing_yet}
 use Rattle.eq_build.proofs.building.+building.Goals as goal
 
@@ -170,34 +171,53 @@ entries_of-returns-in_ok-operands-in-Count t c =
     (λ d. subst (λ z. Builds (row_of rows) g (form.Count es) (folded h z (with_step Counted (lists_in all))))
     (sym (ap (λ z. z ∷ []) c.always-in-Count.ensures)) (b.count d)) made.0 c.folded-in-Count.ensures
 
-pub entries_of-returns-in_ok-only-in-Constant : goal.entries_of-returns-in_ok-only-in-Constant
-entries_of-returns-in_ok-only-in-Constant t c =
+pub entries_of-returns-in_ok-from_slice-in-Constant : goal.entries_of-returns-in_ok-from_slice-in-Constant
+entries_of-returns-in_ok-from_slice-in-Constant t c =
     let rows = c.args.rows.now in
     let read = row_of rows in
     let g = gates_in c.args.gates.now.items in
     let v = c.in-Constant.v in
     let level = ap (out-Expr VarId) c.in-Constant.is ∙ opened-constant v in
     let built : e.Built → Type 0 = λ z. Builds read g (form.Constant v) z in
-    let made = subst (λ z. built (record { entries = z; gates = g })) (sym c.in_ok-only-in-Constant.ensures)
+    let made = subst (λ z. built (record { entries = z; gates = g }))
+    (sym (ap entries_in c.in_ok-from_slice-in-Constant.ensures.items ∙ ap (λ z. z ∷ []) c.always.ensures))
     b.constant in (
       subst (λ (z : Level VarId). Builds read g z
-          (record { entries = entries_in c.in_ok-only-in-Constant.field-0.items; gates = g }))
+          (record { entries = entries_in c.in_ok-from_slice-in-Constant.field-0.items; gates = g }))
           (sym level) made,
       c.requires,
     )
 
-pub entries_of-returns-in_ok-row-in-Variable : goal.entries_of-returns-in_ok-row-in-Variable
-entries_of-returns-in_ok-row-in-Variable t c =
+pub entries_of-returns-in_ok-from_slice-in-Some : goal.entries_of-returns-in_ok-from_slice-in-Some
+entries_of-returns-in_ok-from_slice-in-Some t c =
     let rows = c.args.rows.now in
     let read = row_of rows in
     let g = gates_in c.args.gates.now.items in
     let x = c.in-Variable.x in
     let level = ap (out-Expr VarId) c.in-Variable.is ∙ opened-variable x in
+    let found = c.in-Some.ensures.lookup in
+    let same = ap entries_in (c.in_ok-from_slice-in-Some.ensures.items ∙ c.deref.ensures.value)
+    ∙ ap (λ (z : Vec Entry Global). entries_in z.items) found.1 ∙ row_here rows x.n c.in-Some.row.now found.3.0 in
     let built : e.Built → Type 0 = λ z. Builds read g (form.Variable x) z in
-    let made = subst (λ z. built (record { entries = z; gates = g })) (sym c.in_ok-row-in-Variable.ensures)
-    b.variable in (
+    let made = subst (λ z. built (record { entries = z; gates = g })) (sym same) b.variable in (
       subst (λ (z : Level VarId). Builds read g z
-          (record { entries = entries_in c.in_ok-row-in-Variable.field-0.items; gates = g }))
+          (record { entries = entries_in c.in_ok-from_slice-in-Some.field-0.items; gates = g }))
+          (sym level) made,
+      c.requires,
+    )
+
+pub entries_of-returns-in-None : goal.entries_of-returns-in-None
+entries_of-returns-in-None t c =
+    let rows = c.args.rows.now in
+    let read = row_of rows in
+    let g = gates_in c.args.gates.now.items in
+    let x = c.in-Variable.x in
+    let level = ap (out-Expr VarId) c.in-Variable.is ∙ opened-variable x in
+    let found = c.in-None.ensures.lookup in
+    let same = ap entries_in c.new.ensures.items ∙ sym (row_past rows x.n found.3) in
+    let built : e.Built → Type 0 = λ z. Builds read g (form.Variable x) z in
+    let made = subst (λ z. built (record { entries = z; gates = g })) (sym same) b.variable in (
+      subst (λ (z : Level VarId). Builds read g z (record { entries = entries_in c.new.result.items; gates = g }))
           (sym level) made,
       c.requires,
     )
@@ -207,11 +227,11 @@ entries_of-returns-in_err-entries-in-Not t c =
     let rows = c.args.rows.now in
     let g = gates_in c.args.gates.now.items in
     let a = c.in-Not.a in
-    arm.fails rows g c.args.expr.now (form.Not a) (NeedsMore (row_of rows) g (out-Expr VarId c.deref.result.now))
+    arm.fails rows g c.args.expr.now (form.Not a) (NeedsMore (row_of rows) g (out-Expr VarId c.deref-in-Not.result.now))
     c.from_residual-in_err-entries-in-Not.result c.in_err-entries-in-Not.field-0.0 c.entries_of.new.gates.items
     (opened-not c.args.expr.now a c.in-Not.is)
     (λ n. arm.up_not (row_of rows) g a
-    (subst (λ (z : Expr VarId). NeedsMore (row_of rows) g (out-Expr VarId z)) c.deref.ensures n))
+    (subst (λ (z : Expr VarId). NeedsMore (row_of rows) g (out-Expr VarId z)) c.deref-in-Not.ensures n))
     c.from_residual-in_err-entries-in-Not.ensures.1 c.in_err-entries-in-Not.ensures
 
 pub entries_of-returns-in_ok-entries-in-Not : goal.entries_of-returns-in_ok-entries-in-Not
@@ -225,14 +245,14 @@ entries_of-returns-in_ok-entries-in-Not t c =
     let made = c.in_ok-entries-in-Not.ensures in
     let first = subst (λ (z : Expr VarId). Builds read g (out-Expr VarId z)
     (record { entries = entries_in xs; gates = h }))
-    c.deref.ensures made.0 in
+    c.deref-in-Not.ensures made.0 in
     arm.at_level rows g c.args.expr.now (form.Not a) c.turned.result c.turned.new.gates.items
     (opened-not c.args.expr.now a c.in-Not.is)
     (arm.finished rows g (form.Not a) (entries_for h (opposite_terms (entries_in xs))) c.turned.result
     c.turned.new.gates.items (b.opposite first)
     (subst (λ (z : List Entry). MakesEntries (entries_for h (opposite_terms (entries_in z))) c.turned.result
     c.turned.new.gates.items)
-    c.deref-in-Not.ensures.value c.turned.ensures))
+    c.deref-in-Not-2.ensures.value c.turned.ensures))
 
 pub entries_of-returns-in_err-left-in-Compare : goal.entries_of-returns-in_err-left-in-Compare
 entries_of-returns-in_err-left-in-Compare t c =
@@ -324,14 +344,14 @@ entries_of-returns-in_ok-operands-in-Sum t c =
     let made = c.in_ok-operands-in-Sum.ensures in
     let parts = subst (λ (z : List (Bool × Expr VarId)). Builds_parts read g z (parts_in all) h)
     c.deref-in-Sum.ensures.value made.0 in
-    let start = ap (λ z. z ∷ []) c.always.ensures in
+    let start = ap (λ z. z ∷ []) c.always-in-Sum.ensures in
     let w : List e.Entry → List (Bool × Entries) → e.Built = λ xs z. folded h xs (with_signs (parts_in z)) in
     arm.at_level rows g c.args.expr.now (form.Sum ps) c.summed.result c.summed.new.gates.items
     (opened-sum c.args.expr.now ps c.in-Sum.is)
     (arm.finished rows g (form.Sum ps) (w (only (Whole (pos 0))) all) c.summed.result c.summed.new.gates.items
     (b.sum parts)
     (subst (λ z. MakesEntries (w z all) c.summed.result c.summed.new.gates.items) start
-    (subst (λ z. MakesEntries (w (entries_in (c.always.result ∷ [])) z) c.summed.result c.summed.new.gates.items)
+    (subst (λ z. MakesEntries (w (entries_in (c.always-in-Sum.result ∷ [])) z) c.summed.result c.summed.new.gates.items)
     c.deref-in-Sum-2.ensures.value c.summed.ensures)))
 
 pub entries_of-returns-in_err-pairs-in-Choose : goal.entries_of-returns-in_err-pairs-in-Choose
@@ -558,7 +578,7 @@ tested-returns t c =
 pub entries_of-entries_of-requires : goal.entries_of-entries_of-requires
 entries_of-entries_of-requires t c = (
   smaller.one_falls _ _ t
-      (smaller.less-not c.args.expr.now c.deref.result.now c.in-Not.a c.in-Not.is c.deref.ensures) c.decreases,
+      (smaller.less-not c.args.expr.now c.deref-in-Not.result.now c.in-Not.a c.in-Not.is c.deref-in-Not.ensures) c.decreases,
   c.requires,
 )
 

@@ -15,7 +15,7 @@ use Rattle.gts_core.specs.View.{net_of, numbered, condition_of, assign_of}
 use Rattle.gts_core.specs.declared.system.Assign.{Assign}
 use Rattle.gts_core.specs.declared.system.GtsParts.{GtsParts}
 use Rattle.mode_search.specs.Events.{IsLeast}
-use Rattle.mode_search.specs.Wide.{IsSomeWide, IsWideFlow, IsObserverFound, IsFirstWide}
+use Rattle.mode_search.specs.Wide.{IsSomeWide, IsWideFlow, IsWideObserver, IsFirstWide}
 use Rattle.ar_base.specs.Least.{least_with}
 use Rattle.mode_search.specs.declared.searches.Wide.{Wide}
 use Rattle.mode_search.specs.declared.searches.Wide.TheVariants as wide
@@ -115,13 +115,10 @@ module _ (p : GtsParts) where
       → IsFirstWide p (Some (wide.Flow n))
   flow_found n h = ((length p.assigns.items, h.0), λ count k q. h.1 k (all_below count k q))
 
-  found_as : (found : Option Wide) → IsLeast (IsWideFlow p (length p.assigns.items)) None → IsObserverFound p found
-      → IsFirstWide p found
-  found_as None h o = (λ count n q. h n (all_below count n q), o)
-  found_as (Some (wide.Flow n)) h o = absurd o
-  found_as (Some (wide.Observer n)) h o = (λ count k q. h k (all_below count k q), o.0, o.1)
+  pub observer_found : (n : ℕ) → IsLeast (IsWideFlow p (length p.assigns.items)) None
+      → IsLeast (IsWideObserver p) (Some n) → IsFirstWide p (Some (wide.Observer n))
+  observer_found n h o = (λ count k q. h k (all_below count k q), o.0, o.1)
 
-  pub observer_found : (r : Result (Option Wide) Memory) → IsLeast (IsWideFlow p (length p.assigns.items)) None
-      → IfOk r (IsObserverFound p) → IfOk r (IsFirstWide p)
-  observer_found (Ok found) h o = found_as found h o
-  observer_found (Err e) h o = tt
+  pub none_found : IsLeast (IsWideFlow p (length p.assigns.items)) None → IsLeast (IsWideObserver p) None
+      → IsFirstWide p None
+  none_found h o = (λ count n q. h n (all_below count n q), o)

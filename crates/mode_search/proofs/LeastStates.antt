@@ -1,6 +1,7 @@
 -- The least state variables that are named, and mode variables.
 use Rattle.std.proofs.Common.{◌≡◌, ℕ, ◌+◌, ◌<◌, ◌≤◌, ◌⊎◌, inl, inr, Bool, true, false, cond, nat_lt, List, length, take, take_all, get_or, Option, Some, None, MatchOption, sym, ap, ◌∙◌, subst, arith}
 use Rattle.std.proofs.lemmas.Bool.{ltb-false}
+use Rattle.std.specs.Option.{option_or}
 use Rattle.ar_base.specs.Lists.{Stands, IsFirst, HasNo}
 use Rattle.ar_base.specs.Numbers.{VarId}
 use Rattle.ar_base.proofs.Standing.{one_none}
@@ -18,7 +19,7 @@ use Rattle.gts_core.specs.declared.system.Assign.{Assign}
 use Rattle.gts_core.specs.declared.system.GtsParts.{GtsParts}
 use Rattle.gts_core.specs.Adding.{HasThose}
 use Rattle.mode_search.specs.Named.{OneNames}
-use Rattle.mode_search.specs.Modes.{IsStateAt, IsNamedState, IsLeast, lesser_of, else_of, IsAlone, NamesAlone, number_in, transition_of}
+use Rattle.mode_search.specs.Modes.{IsStateAt, IsNamedState, IsLeast, lesser_of, IsAlone, NamesAlone, number_in, transition_of}
 use Rattle.mode_search.proofs.Added.{taken_cases, taken_here, taken_more}
 use Rattle.mode_search.proofs.NamesNumbered.{guard_there, guard_back, action_there, action_back}
 
@@ -143,7 +144,7 @@ module _ (p : GtsParts) (unit : ℕ) (g : Expr VarId) (acts : List Assign) (guar
 
   -- the mode variable is the least that is named, or the first of the unit
   pub mode_is : (named first : Option VarId) (x : VarId) → IsLeast IsNamedHere named
-      → IsFirstOrNone (net_of p).variables (IsStateOf unit) (number_in first) → else_of named first ≡ Some x
+      → IsFirstOrNone (net_of p).variables (IsStateOf unit) (number_in first) → option_or named first ≡ Some x
       → (system : System ℕ) → system.net ≡ net_of p → IsModeOf system unit (Leaf (transition_of g acts)) x.n
   mode_is None None x h k e system net = cc
   mode_is None (Some y) x h k e system net =
@@ -159,7 +160,7 @@ module _ (p : GtsParts) (unit : ℕ) (g : Expr VarId) (acts : List Assign) (guar
       (IsNamedStateOf unit (Leaf (transition_of g acts))) z.n) i (first_named y h)))
 
   pub no_mode : (named first : Option VarId) → IsFirstOrNone (net_of p).variables (IsStateOf unit) (number_in first)
-      → else_of named first ≡ None → HasNo (net_of p).variables (IsStateOf unit)
+      → option_or named first ≡ None → HasNo (net_of p).variables (IsStateOf unit)
   no_mode None None k e = k
   no_mode None (Some y) k e = cc
   no_mode (Some x) first k e = cc

@@ -40,11 +40,6 @@ lesser_of None other = other
 lesser_of (Some m) None = Some m
 lesser_of (Some m) (Some n) = if nat_lt n.n m.n then Some n else Some m
 
--- the one that was found, or else the first
-abbrev pub else_of : Option VarId → Option VarId → Option VarId
-else_of None other = other
-else_of (Some m) other = Some m
-
 -- the plain number
 abbrev pub number_in : Option VarId → Option ℕ
 number_in None = None

@@ -34,12 +34,6 @@ pub record IsWideObserver (p : GtsParts) (n : ℕ) : Type 0 where
   pub stands : Stands p.observers.items n observer
   pub wide : IsWide (Allows (net_of p)) 64 (out-Expr ℕ (numbered observer.value))
 
--- the first observer with too many possible values, or none
-abbrev pub IsObserverFound : GtsParts → Option Wide → Type 0
-IsObserverFound p None = (n : ℕ) → IsWideObserver p n → ⊥
-IsObserverFound p (Some (wide.Flow n)) = ⊥
-IsObserverFound p (Some (wide.Observer n)) = IsWideObserver p n × ((k : ℕ) → IsWideObserver p k → n ≤ k)
-
 -- the least flow with too many possible values, or else the first such observer, or none
 abbrev pub IsFirstWide : GtsParts → Option Wide → Type 0
 IsFirstWide p None = ((count n : ℕ) → IsWideFlow p count n → ⊥) × ((n : ℕ) → IsWideObserver p n → ⊥)

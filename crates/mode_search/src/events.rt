@@ -3,7 +3,7 @@
 ghost use Rattle.std.specs.Prelude.{◌≡◌, ◌<◌, ◌^◌, length, IfOk};
 ghost use Rattle.gts_core.specs.Sound.{IsSound};
 ghost use Rattle.ar_meaning.specs.Found.{IsAnswer};
-ghost use Rattle.mode_search.specs.Events.{IsLeast, AreMarks, numbers_of, AreMoving, IsSync, IsJoint, HasJoint, IsJointAt, IsStateless, StillMoves};
+ghost use Rattle.mode_search.specs.Events.{IsLeast, AreMarks, numbers_of, AreMoving, IsJoint, HasJoint, IsJointAt, IsStateless, StillMoves};
 
 use ar_base::{EventId, Memory, VarId, WayId, mark};
 use gts_core::{GtsParts, WayBody};
@@ -50,18 +50,11 @@ fn is_joint(parts: &GtsParts, way: WayId) -> bool
     ensures { IsAnswer result (IsJoint parts.now way.n) }
 {
     match parts.ways.get(way.n as usize) {
-        Some(way) => is_sync(&way.body),
+        Some(way) => match &way.body {
+            WayBody::Local(_, _) => false,
+            WayBody::Sync(_) => true,
+        },
         None => false,
-    }
-}
-
-// Whether a way of this body is synchronised.
-fn is_sync(body: &WayBody) -> bool
-    ensures { IsAnswer result (IsSync body.now) }
-{
-    match body {
-        WayBody::Local(_, _) => false,
-        WayBody::Sync(_) => true,
     }
 }
 

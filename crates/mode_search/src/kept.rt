@@ -8,7 +8,7 @@ ghost use Rattle.mode_search.specs.Modes.{number_in};
 ghost use Rattle.gts_core.specs.View.{net_of};
 ghost use Rattle.gts_core.specs.Sound.{IsSound};
 ghost use Rattle.mode_search.specs.Events.{IsLeast, AreFirstStates};
-ghost use Rattle.mode_search.specs.Kept.{IsKeptOf, IsNoKept, AreKept, Continues, Extends, OtherInGuard, OtherInAction, items_of, least_with};
+ghost use Rattle.mode_search.specs.Kept.{IsKeptOf, IsNoKept, AreKept, Continues, Extends, OtherInGuard, OtherInAction, least_with};
 
 use crate::{WayMode, way_mode};
 use ar_base::{EventId, Memory, VarId, WayId};
@@ -98,17 +98,9 @@ fn add_event(
 {
     for way in &event.ways {
         let more = kept_way(alloc, parts, first, id, event, *way)?;
-        push_some(kept, more)?;
-    }
-    Ok(())
-}
-
-// Adds a way, where there is one.
-fn push_some(kept: &mut Vec<KeptWay>, more: Option<KeptWay>) -> Result<(), Memory>
-    ensures { IfOk result (λ _. kept.new.items ≡ kept.old.items ++ items_of more) }
-{
-    if let Some(way) = more {
-        kept.push(way)?;
+        if let Some(kept_way) = more {
+            kept.push(kept_way)?;
+        }
     }
     Ok(())
 }

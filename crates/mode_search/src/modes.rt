@@ -2,10 +2,10 @@
 
 ghost use Rattle.std.specs.Prelude.{◌≡◌, IfOk, MatchOption};
 ghost use Rattle.ar_base.specs.Lists.{HasNo};
-ghost use Rattle.ar_meaning.specs.Found.{IsAnswer, IsFirstOrNone};
+ghost use Rattle.ar_meaning.specs.Found.{IsFirstOrNone};
 ghost use Rattle.ar_firing.specs.Fragment.{IsStateOf};
 ghost use Rattle.gts_core.specs.View.{net_of};
-ghost use Rattle.mode_search.specs.Modes.{IsStateAt, IsNamedState, IsLeast, lesser_of, else_of, IsAlone, number_in, transition_of, IsWayMode};
+ghost use Rattle.mode_search.specs.Modes.{IsStateAt, IsNamedState, IsLeast, lesser_of, IsAlone, number_in, transition_of, IsWayMode};
 
 use crate::names::{action_names, guard_names};
 use ar_base::{Memory, UnitId, VarId};
@@ -46,7 +46,7 @@ pub fn way_mode(
         least_state(parts, unit, &in_guard),
         least_state(parts, unit, &in_action),
     );
-    let Some(variable) = else_first(named, first) else {
+    let Some(variable) = named.or(first) else {
         return Ok(None);
     };
     Ok(Some(WayMode {
@@ -54,16 +54,6 @@ pub fn way_mode(
         guard_alone: is_alone(&in_guard, variable),
         action_alone: is_alone(&in_action, variable),
     }))
-}
-
-// The one that was found, or else the first.
-fn else_first(named: Option<VarId>, first: Option<VarId>) -> Option<VarId>
-    ensures { result ≡ else_of named first }
-{
-    match named {
-        Some(variable) => Some(variable),
-        None => first,
-    }
 }
 
 // The least state variable of the unit among these.
@@ -82,20 +72,11 @@ fn as_state(parts: &GtsParts, unit: UnitId, name: VarId) -> Option<VarId>
     ensures { MatchOption result (IsStateAt parts.now unit.n name.n → ⊥)
         (λ found. (found ≡ name) × IsStateAt parts.now unit.n name.n) }
 {
-    if is_state_of(parts, unit, name) {
+    let variable = parts.variables.get(name.n as usize)?;
+    if variable.is_state && variable.unit.n == unit.n {
         Some(name)
     } else {
         None
-    }
-}
-
-// Whether this is a state variable of the unit.
-fn is_state_of(parts: &GtsParts, unit: UnitId, name: VarId) -> bool
-    ensures { IsAnswer result (IsStateAt parts.now unit.n name.n) }
-{
-    match parts.variables.get(name.n as usize) {
-        Some(variable) => variable.is_state && variable.unit.n == unit.n,
-        None => false,
     }
 }
 

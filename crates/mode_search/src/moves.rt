@@ -4,9 +4,8 @@ ghost use Rattle.std.specs.Prelude.{◌≡◌, ◌++◌, IfOk, Contains, map};
 ghost use Rattle.domains.specs.Domains.{IsDomain, values_of};
 ghost use Rattle.ar_meaning.specs.Facts.{PassesConditions};
 ghost use Rattle.ar_meaning.specs.Found.{IsAnswer};
-ghost use Rattle.ar_meaning.specs.Reached.{Reaches};
 ghost use Rattle.ar_firing.specs.Fragment.{At};
-ghost use Rattle.gts_core.specs.View.{assign_of, condition_of};
+ghost use Rattle.gts_core.specs.View.{condition_of};
 ghost use Rattle.gts_core.specs.Adding.{Adds, HasThose};
 ghost use Rattle.mode_search.specs.Adding.{SomeHas};
 ghost use Rattle.mode_search.specs.Modes.{transition_of};
@@ -17,7 +16,7 @@ use ar_base::{Memory, VarId};
 use domains::{Domain, Value};
 use gts_core::Assign;
 use std::alloc::Global;
-use typed_expr::{Env, Expr, ValueKind, ValueSet, eval_set, first_of, kind_of};
+use typed_expr::{Env, Expr, ValueKind, eval_set, first_of, kind_of};
 
 /// Where a transition leads from a mode of its mode variable.
 #[derive(Clone, Copy)]
@@ -121,9 +120,11 @@ fn add_given(
     if assign.target.n != at.variable.n {
         return Ok(());
     }
-    let Some(set) = yielded(alloc, assign, at)? else {
+    let reaches = reached(alloc, &assign.when, at)?;
+    if !reaches {
         return Ok(());
-    };
+    }
+    let set = eval_set(alloc, &assign.value, at)?;
     add_all(set.values(), values)
 }
 
@@ -135,19 +136,6 @@ fn add_all(more: &[Value], values: &mut Vec<Value>) -> Result<(), Memory>
         values.push(*value)?;
     }
     Ok(())
-}
-
-// What an assignment yields, where it is reached.
-fn yielded(alloc: Global, assign: &Assign, at: &AtMode<'_>) -> Result<Option<ValueSet>, Memory>
-    ensures { IfOk result (Reaches (HasAt at.now.variable.n at.now.values.now)
-        (assign_of assign.now)) }
-{
-    let reaches = reached(alloc, &assign.when, at)?;
-    if !reaches {
-        return Ok(None);
-    }
-    let set = eval_set(alloc, &assign.value, at)?;
-    Ok(Some(set))
 }
 
 // Whether every condition yields the truth value that it must have.
@@ -180,25 +168,16 @@ fn judged(domain: &Domain, values: &[Value]) -> Move
     requires { IsDomain domain.now }
     ensures { IsJudged values.now (values_of domain.now) result }
 {
-    match values.first() {
-        Some(first) => judged_from(domain, values, *first),
-        None => Move::Wrong,
-    }
-}
-
-// The same, where this is one of them.
-fn judged_from(domain: &Domain, values: &[Value], first: Value) -> Move
-    requires domain { IsDomain domain.now }
-    requires one { Contains values.now first }
-    ensures { IsJudged values.now (values_of domain.now) result }
-{
-    if has_other(values, first) {
+    let Some(first) = values.first() else {
+        return Move::Wrong;
+    };
+    if has_other(values, *first) {
         return Move::Wrong;
     }
-    if !domain.holds(first) {
+    if !domain.holds(*first) {
         return Move::Wrong;
     }
-    Move::To(first)
+    Move::To(*first)
 }
 
 // Whether one of the values is not this one.

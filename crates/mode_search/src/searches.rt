@@ -9,7 +9,7 @@ ghost use Rattle.gts_core.specs.View.{net_of, numbered, assign_of};
 ghost use Rattle.gts_core.specs.Sound.{IsSound};
 ghost use Rattle.gts_core.specs.Rows.{AreDomains, Says};
 ghost use Rattle.mode_search.specs.Events.{IsLeast};
-ghost use Rattle.mode_search.specs.Wide.{IsSomeWide, IsWideFlow, IsWideObserver, IsObserverFound, IsFirstWide};
+ghost use Rattle.mode_search.specs.Wide.{IsSomeWide, IsWideFlow, IsWideObserver, IsFirstWide};
 ghost use Rattle.ar_base.specs.Least.{least_with};
 
 use ar_base::{Memory, VarId};
@@ -34,20 +34,10 @@ pub fn first_wide(alloc: Global, parts: &GtsParts) -> Result<Option<Wide>, Memor
     ensures { IfOk result (IsFirstWide parts.now) }
 {
     let domains = domains_of(alloc, parts)?;
-    match least_flow(alloc, parts, &domains)? {
-        Some(flow) => Ok(Some(Wide::Flow(flow))),
-        None => wide_observer(alloc, parts, &domains),
+    if let Some(flow) = least_flow(alloc, parts, &domains)? {
+        return Ok(Some(Wide::Flow(flow)));
     }
-}
-
-// The first observer with too many possible values, as what is found.
-fn wide_observer(alloc: Global, parts: &GtsParts, domains: &Domains) -> Result<Option<Wide>, Memory>
-    requires sound { IsSound parts.now }
-    requires domains { AreDomains parts.now (length parts.now.variables.items)
-        domains.now.rows.items }
-    ensures { IfOk result (IsObserverFound parts.now) }
-{
-    match first_observer(alloc, parts, domains)? {
+    match first_observer(alloc, parts, &domains)? {
         Some(observer) => Ok(Some(Wide::Observer(observer))),
         None => Ok(None),
     }

@@ -4,7 +4,7 @@ ghost use Rattle.std.specs.Prelude.{◌<◌, length, IfOk, Contains};
 ghost use Rattle.ar_meaning.specs.Found.{IsAnswer};
 ghost use Rattle.domains.specs.Domains.{IsDomain, values_of};
 ghost use Rattle.gts_core.specs.Sound.{IsSound};
-ghost use Rattle.mode_search.specs.Reached.{AreInside, AreApart, IsMoveOf, IsReach, IsStart, Expands, AddsMove, AddsEdge};
+ghost use Rattle.mode_search.specs.Reached.{AreInside, AreApart, IsMoveOf, IsReach, Expands, AddsMove, AddsEdge};
 
 use crate::{KeptWay, Move, move_at};
 use ar_base::{EventId, Memory, VarId, WayId};
@@ -41,7 +41,14 @@ pub fn reached(
     ensures { IfOk result (IsReach parts.now variable.n ways.now) }
 {
     let place = &parts.variables[variable.n as usize];
-    let mut found = start(alloc, place.value)?;
+    let mut modes = Vec::new(alloc);
+    modes.push(place.value)?;
+    let mut found = Reach {
+        modes,
+        edges: Vec::new(alloc),
+        wrong: false,
+        again: false,
+    };
     let mut next = 0;
     while next < found.modes.len() {
         let mode = found.modes[next];
@@ -57,20 +64,6 @@ pub fn reached(
         next += 1;
     }
     Ok(found)
-}
-
-// The initial mode alone.
-fn start(alloc: Global, first: Value) -> Result<Reach, Memory>
-    ensures { IfOk result (IsStart first) }
-{
-    let mut modes = Vec::new(alloc);
-    modes.push(first)?;
-    Ok(Reach {
-        modes,
-        edges: Vec::new(alloc),
-        wrong: false,
-        again: false,
-    })
 }
 
 // Looks at each way at a mode.

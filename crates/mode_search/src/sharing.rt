@@ -1,7 +1,7 @@
 //! Events with two live edges, and the events that have one.
 
 ghost use Rattle.std.specs.Prelude.{◌≡◌, ◌<◌, length, IfOk};
-ghost use Rattle.mode_search.specs.Sharing.{AreWithin, IsSharing, Notes, lesser_of, IsEmptySharing};
+ghost use Rattle.mode_search.specs.Sharing.{AreWithin, IsSharing, Notes, lesser_of};
 
 use crate::listing::Live;
 use ar_base::{EventId, Memory};
@@ -23,23 +23,15 @@ pub fn shared(alloc: Global, count: usize, live: &[Live]) -> Result<Sharing, Mem
     requires { AreWithin count live.now }
     ensures { IfOk result (IsSharing count live.now (length live.now)) }
 {
-    let mut found = nothing(alloc, count)?;
+    let mut found = Sharing {
+        firsts: vec![in alloc; None; count]?,
+        events: Vec::new(alloc),
+        least: None,
+    };
     for one in live {
         note(one.edge.event, one.variable.n, &mut found)?;
     }
     Ok(found)
-}
-
-// No live edge.
-fn nothing(alloc: Global, count: usize) -> Result<Sharing, Memory>
-    ensures { IfOk result (IsEmptySharing count) }
-{
-    let firsts = vec![in alloc; None; count]?;
-    Ok(Sharing {
-        firsts,
-        events: Vec::new(alloc),
-        least: None,
-    })
 }
 
 // One live edge more, of this event and this variable.

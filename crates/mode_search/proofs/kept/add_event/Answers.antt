@@ -1,9 +1,13 @@
-use Rattle.std.proofs.Common.{◌≤◌, List, length, get_or, subst, arith}
+use Rattle.std.proofs.Common.{◌≡◌, ◌≤◌, Option, List, ◌++◌, Vec, Global, length, get_or, sym, ap, ◌∙◌, subst, arith}
+use Rattle.std.proofs.lemmas.List.{append-nil}
 use Rattle.ar_base.specs.Lists.{Stands}
 use Rattle.ar_base.specs.Numbers.{WayId}
 use Rattle.ar_base.proofs.Standing.{stands_within, stands_get}
+use Rattle.mode_search.specs.Kept.{items_of}
+use Rattle.mode_search.specs.declared.kept.KeptWay.{KeptWay}
 use Rattle.mode_search.proofs.Keeping.{extends_more, extends_all}
 use Rattle.mode_search.proofs.kept.add_event.Goals as goal
+use Rattle.mode_search.proofs.kept.add_event.Goals.{in-Some+in_ok-push, in_default}
 
 pub kept_way-requires-clause-inside : goal.kept_way-requires-clause-inside
 kept_way-requires-clause-inside c =
@@ -23,9 +27,17 @@ loop-way-preserved c =
     let has = subst (λ (z : List WayId). Stands z c.loop-way.way-index way) c.deref-way-items.ensures.value
     (stands_get c.deref-way-items.result.now c.loop-way.way-index (record { n = 0; of = record {} })
     c.loop-way-test.true) in
-    extends_more p c.args.id c.args.event.now c.requires.event c.loop-way.way-index c.args.kept.now.items
-    c.loop-way.kept.items c.push_some.new.kept.items way c.in_ok-more.more has c.loop-way.invariant
-    c.in_ok-more.ensures c.in_ok-push_some.ensures
+    let old = c.loop-way.kept.items in
+    let same : c.match-more.kept.items ≡ old ++ items_of c.in_ok-more.more = elim c.match-more.branch [
+      | in-Some+in_ok-push w ↦
+          ap (λ (z : Vec KeptWay Global). z.items) w.kept-is ∙ w.in_ok-push.ensures.items
+          ∙ ap (λ (z : Option KeptWay). old ++ items_of z) (sym w.in-Some.is)
+      | in_default w ↦
+          ap (λ (z : Vec KeptWay Global). z.items) w.kept-is ∙ sym (append-nil old)
+          ∙ ap (λ (z : Option KeptWay). old ++ items_of z) (sym w.in_default.is)
+    ] in
+    extends_more p c.args.id c.args.event.now c.requires.event c.loop-way.way-index c.args.kept.now.items old
+    c.match-more.kept.items way c.in_ok-more.more has c.loop-way.invariant c.in_ok-more.ensures same
 
 pub returns : goal.returns
 returns c =

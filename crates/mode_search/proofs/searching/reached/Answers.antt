@@ -1,6 +1,7 @@
-use Rattle.std.proofs.Common.{arith}
+use Rattle.std.proofs.Common.{List, [], ◌∷◌, ◌++◌, refl, ap, ◌∙◌, arith}
 use Rattle.domains.specs.Domains.{values_of}
 use Rattle.domains.proofs.Domains.{listed}
+use Rattle.domains.specs.declared.Value.{Value}
 use Rattle.ar_base.proofs.Standing.{stands_item}
 use Rattle.mode_search.specs.Reached.{Setting}
 use Rattle.mode_search.proofs.Reaching.{start_reaching, reaching_next}
@@ -18,9 +19,13 @@ loop-next-init c =
       domain = values_of place.domain;
       ways = c.args.ways.now;
     } in
-    start_reaching s place.value c.in_ok-found.found
-    (listed place.domain place.value (c.requires.sound.variables c.args.variable.n place st).value)
-    c.in_ok-found.ensures
+    start_reaching s place.value _
+    (listed place.domain place.value (c.requires.sound.variables c.args.variable.n place st).value) (record {
+      modes = c.in_ok-push.ensures.items ∙ ap (λ (z : List Value). z ++ place.value ∷ []) c.new-modes.ensures.items;
+      edges = c.new.ensures.items;
+      wrong = refl;
+      again = refl;
+    })
 
 pub expand-requires-clause-domain : goal.expand-requires-clause-domain
 expand-requires-clause-domain c =

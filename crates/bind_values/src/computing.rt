@@ -1,32 +1,24 @@
 //! The values of parameters and variables, computed one after the other.
 
-ghost use Rattle.std.specs.Prelude.{◌≡◌, false, [], List, IfOk, OnOk, IfSome};
+ghost use Rattle.std.specs.Prelude.{◌≡◌, false, [], List, IfOk, OnOk};
 ghost use Rattle.std.specs.HashMap.{get};
-ghost use Rattle.ar_base.specs.Lists.{Stands, Along};
-ghost use Rattle.ar_base.specs.Numbers.{VarId as VarNumber};
-ghost use Rattle.domains.specs.declared.Value.{Value as ValueOf};
+ghost use Rattle.ar_base.specs.Lists.{Along};
 ghost use Rattle.domains.specs.declared.Value.TheVariants.{Truth};
-ghost use Rattle.typed_expr.specs.Total.{value_of};
-ghost use Rattle.typed_expr.specs.declared.expr.Expr.{Expr as Expression};
 ghost use Rattle.typed_expr.specs.declared.expr.ValueKind.TheVariants.{Truth as TruthKind};
-ghost use Rattle.written_forms.specs.Translating.{BecomesBy};
 ghost use Rattle.hierarchy.specs.Models.{RootedModel};
-ghost use Rattle.hierarchy.specs.Units.{UnitPath, Thing};
+ghost use Rattle.hierarchy.specs.Units.{UnitPath};
 ghost use Rattle.hierarchy.specs.Listing.{variables, parameters as parameters_of};
-ghost use Rattle.hierarchy.specs.Tie.{IsParameterNode};
 ghost use Rattle.bind_scopes.specs.Indexed.{same_pair};
 ghost use Rattle.bind_scopes.specs.Scopes.{AreScopes, HasScopes};
-ghost use Rattle.bind_scopes.specs.declared.scopes.Scopes.{Scopes as ScopesOf};
 ghost use Rattle.bind_values.specs.Known.{IsKnown, AreKnown};
-ghost use Rattle.bind_values.specs.Leaves.{leaf_in, IsInTree};
-ghost use Rattle.bind_values.specs.Values.{AreNamesKept, IsValue, IsParameterValue, AreFirst};
+ghost use Rattle.bind_values.specs.Values.{AreNamesKept, IsValue, IsParameterValue};
 
 use crate::leaves::UnitLeaves;
 use ar_base::{Memory, VarId};
 use ar_syntax::RawExpr;
 use bind_scopes::{Scopes, is_same_value, written};
 use domains::Value;
-use hierarchy::{Attribute, ParNode};
+use hierarchy::Attribute;
 use std::alloc::Global;
 use std::collections::HashMap;
 use typed_expr::{Env, ValueKind, eval_total};
@@ -58,20 +50,6 @@ impl Env<VarId> for NoVariables {
     }
 }
 
-// The value that an expression comes to, where a variable counts as false.
-fn computed(alloc: Global, expr: &RawExpr, leaves: &UnitLeaves<'_, '_>) -> Result<Value, Memory>
-    requires { IsInTree leaves.now }
-    ensures { IfOk result (λ v. (e : Expression VarNumber)
-        × BecomesBy (leaf_in leaves.now) expr.now e
-        × (v ≡ value_of (λ _. Truth false) e)) }
-{
-    let expression = translated(alloc, expr, leaves)?;
-    let none = NoVariables {};
-    let value = eval_total(&expression, &none);
-    let NoVariables {} = none;
-    Ok(value)
-}
-
 // The value of what has this attribute, where the values of the parameters that it may name are
 // known; false where nothing is written there.
 fn value_in(
@@ -94,7 +72,11 @@ fn value_in(
         unit: value.from,
         parameters,
     };
-    computed(alloc, expr, &leaves)
+    let expression = translated(alloc, expr, &leaves)?;
+    let none = NoVariables {};
+    let value = eval_total(&expression, &none);
+    let NoVariables {} = none;
+    Ok(value)
 }
 
 // Where the value of an attribute is remembered: by the unit in which it is read and the place of its setting. The
@@ -114,19 +96,6 @@ fn found_at(known: &Known, spot: (u32, u32)) -> Option<(Attribute, Value)>
     known.get(&spot).copied()
 }
 
-// The value of an attribute, where it is remembered.
-fn remembered(known: &Known, value: Attribute) -> Option<Value>
-    ensures { (s : ScopesOf) (parameters : List ValueOf) → AreKnown s parameters known.now
-        → IfSome result (IsKnown s parameters value) }
-{
-    let (attribute, found) = found_at(known, spot_of(value))?;
-    if is_same_value(attribute, value) {
-        Some(found)
-    } else {
-        None
-    }
-}
-
 // The value of what has this attribute, which is computed where it is not remembered.
 fn value_once(
     alloc: Global,
@@ -141,33 +110,15 @@ fn value_once(
     ensures known { AreKnown scopes.now parameters.now known.old
         → OnOk result (AreKnown scopes.now parameters.now known.new) }
 {
-    if let Some(found) = remembered(known, value) {
-        return Ok(found);
+    let spot = spot_of(value);
+    if let Some((attribute, found)) = found_at(known, spot) {
+        if is_same_value(attribute, value) {
+            return Ok(found);
+        }
     }
     let found = value_in(alloc, scopes, parameters, value)?;
-    known.insert(spot_of(value), (value, found))?;
+    known.insert(spot, (value, found))?;
     Ok(found)
-}
-
-// The value of the parameter at this place, after those of all before it.
-fn parameter_value(
-    alloc: Global,
-    scopes: &Scopes<'_>,
-    place: u32,
-    node: &ParNode,
-    earlier: &[Value],
-) -> Result<Value, Memory>
-    requires { HasScopes scopes.now }
-    ensures { (m : RootedModel) (units : List UnitPath) (t : Thing) → AreScopes m units scopes.now
-        → AreNamesKept m units → Stands (parameters_of m units) place t
-        → IsParameterNode m units t node.now → AreFirst m units place earlier.now
-        → IfOk result (IsParameterValue m t) }
-{
-    if scopes.is_read(place) {
-        value_in(alloc, scopes, earlier, node.value)
-    } else {
-        Ok(Value::Truth(false))
-    }
 }
 
 /// The values of all parameters, in the tree's order. The error is want of memory.
@@ -179,7 +130,11 @@ pub(crate) fn parameter_values(alloc: Global, scopes: &Scopes<'_>) -> Result<Vec
 {
     let mut values = Vec::new(alloc);
     for (place, node) in scopes.tree.parameters.iter().enumerate() {
-        let value = parameter_value(alloc, scopes, place as u32, node, &values)?;
+        let value = if scopes.is_read(place as u32) {
+            value_in(alloc, scopes, &values, node.value)?
+        } else {
+            Value::Truth(false)
+        };
         values.push(value)?;
     }
     Ok(values)

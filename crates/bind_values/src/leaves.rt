@@ -1,7 +1,6 @@
 //! What paths stand for, where the values of parameters are known.
 
-ghost use Rattle.std.specs.Prelude.{◌≡◌};
-ghost use Rattle.bind_values.specs.Leaves.{leaf_of, leaf_in, IsInTree};
+ghost use Rattle.bind_values.specs.Leaves.{leaf_in, IsInTree};
 
 use ar_base::UnitId;
 use ar_syntax::Path;
@@ -22,24 +21,20 @@ pub struct UnitLeaves<'a, 't> {
     pub parameters: &'a [Value],
 }
 
-// What stands for what was named.
-fn standing(parameters: &[Value], named: Option<Named>) -> Leaf
-    ensures { result ≡ leaf_of parameters.now named }
-{
-    match named {
-        None => Leaf::Constant(Value::Truth(false)),
-        Some(Named::Variable(variable)) => Leaf::Variable(variable),
-        Some(Named::Parameter(place)) => Leaf::Constant(value_at(parameters, place as usize)),
-        Some(Named::Symbol(symbol)) => Leaf::Constant(Value::Symbol(symbol)),
-    }
-}
-
 impl<'a, 't> Leaves for UnitLeaves<'a, 't> {
     ghost is_sound = { λ s. IsInTree s };
 
     ghost leaf_at = { λ s p. leaf_in s p };
 
     fn leaf(&self, path: &Path) -> Leaf {
-        standing(self.parameters, self.scopes.named(self.unit, path))
+        match self.scopes.named(self.unit, path) {
+            None => Leaf::Constant(Value::Truth(false)),
+            Some(Named::Variable(variable)) => Leaf::Variable(variable),
+            Some(Named::Parameter(place)) => Leaf::Constant(value_at(
+                self.parameters,
+                place as usize,
+            )),
+            Some(Named::Symbol(symbol)) => Leaf::Constant(Value::Symbol(symbol)),
+        }
     }
 }

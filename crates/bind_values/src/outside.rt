@@ -1,13 +1,13 @@
 //! Values outside their domains.
 
 ghost use Rattle.std.specs.Prelude.{◌↔◌, IsTrue, List};
-ghost use Rattle.ar_base.specs.Lists.{Along, IsOneOf};
+ghost use Rattle.ar_base.specs.Lists.{Along};
 ghost use Rattle.domains.specs.Domains.{Holds};
 ghost use Rattle.class_table.specs.Earliest.{IsEarliest};
 ghost use Rattle.hierarchy.specs.Models.{RootedModel};
 ghost use Rattle.hierarchy.specs.Units.{UnitPath, Thing};
 ghost use Rattle.hierarchy.specs.Listing.{variables, parameters};
-ghost use Rattle.hierarchy.specs.Tie.{HasAttribute, IsParameterNode, IsVariableNode};
+ghost use Rattle.hierarchy.specs.Tie.{HasAttribute};
 ghost use Rattle.source_meaning.specs.Tested.{IsReadable};
 ghost use Rattle.bind_scopes.specs.Scopes.{AreScopes};
 ghost use Rattle.bind_values.specs.Values.{IsValue, IsParameterValue, IsDomainAt, BreaksAs, BreaksOne};
@@ -17,7 +17,7 @@ use bind_scopes::{Scopes, written};
 use class_table::earliest::earliest;
 use domains::{Domain, Value};
 use gts_core::value_at;
-use hierarchy::{Attribute, ParNode, VarNode};
+use hierarchy::Attribute;
 
 // Whether the domain has the value.
 fn holds(domain: &Domain, value: Value) -> bool
@@ -51,27 +51,6 @@ fn outside(
     }
 }
 
-// The same of a variable.
-fn outside_variable(scopes: &Scopes<'_>, node: &VarNode, value: Value) -> Option<Place>
-    ensures { (m : RootedModel) (units : List UnitPath) (t : Thing) → AreScopes m units scopes.now
-        → IsOneOf (variables m units) t → IsVariableNode m units t node.now → IsValue m t value
-        → IsEarliest (BreaksAs m units t) result }
-{
-    outside(scopes, &node.domain, value, node.value)
-}
-
-// The same of a parameter.
-fn outside_parameter(scopes: &Scopes<'_>, node: &ParNode, value: Value) -> Option<Place>
-    ensures { (m : RootedModel) (units : List UnitPath) (t : Thing) → AreScopes m units scopes.now
-        → IsOneOf (parameters m units) t → IsParameterNode m units t node.now
-        → IsParameterValue m t value → IsEarliest (BreaksAs m units t) result }
-{
-    match &node.domain {
-        Some(domain) => outside(scopes, domain, value, node.value),
-        None => None,
-    }
-}
-
 /// The earliest place of a value of a variable that is outside its domain.
 pub(crate) fn outside_variables(scopes: &Scopes<'_>, values: &[Value]) -> Option<Place>
     ensures { (m : RootedModel) (units : List UnitPath) → AreScopes m units scopes.now
@@ -82,7 +61,7 @@ pub(crate) fn outside_variables(scopes: &Scopes<'_>, values: &[Value]) -> Option
     for (place, node) in scopes.tree.variables.iter().enumerate() {
         found = earliest(
             found,
-            outside_variable(scopes, node, value_at(values, place)),
+            outside(scopes, &node.domain, value_at(values, place), node.value),
         );
     }
     found
@@ -96,10 +75,10 @@ pub(crate) fn outside_parameters(scopes: &Scopes<'_>, values: &[Value]) -> Optio
 {
     let mut found = None;
     for (place, node) in scopes.tree.parameters.iter().enumerate() {
-        found = earliest(
-            found,
-            outside_parameter(scopes, node, value_at(values, place)),
-        );
+        if let Some(domain) = &node.domain {
+            let breaking = outside(scopes, domain, value_at(values, place), node.value);
+            found = earliest(found, breaking);
+        }
     }
     found
 }

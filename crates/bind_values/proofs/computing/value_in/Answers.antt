@@ -1,6 +1,5 @@
 use Rattle.std.proofs.Common.{sym, refl, arith}
 use Rattle.ar_base.proofs.Standing.{along_length, stands_within}
-use Rattle.ar_base.proofs.Results.{ok_map}
 use Rattle.bind_scopes.proofs.NamedPaths.{kind_one}
 use Rattle.bind_values.proofs.ValuesRight.{value_right}
 use Rattle.bind_values.proofs.computing.value_in.Goals as goal
@@ -22,11 +21,10 @@ returns-then-value-len c = record {
 }
 
 pub returns : goal.returns
-returns c =
-    ok_map c.computed.result
-    (λ v r. record {
-      value = λ m units t n are kept has h first names.
-          let w = c.in-Some.ensures.in_force m units t c.args.value are.is_tree.table.table refl h in
-          value_right are kept t has n c.args.parameters.now first names w.0 w.1 c.args.value.from.n w.2.unit
-          c.in-Some.expr.now r.0 v (kind_one refl (sym w.3)) r.1 r.2;
-    }) c.computed.ensures
+returns c = record {
+  value = λ m units t n are kept has h first names.
+      let w = c.in-Some.ensures.in_force m units t c.args.value are.is_tree.table.table refl h in
+      value_right are kept t has n c.args.parameters.now first names w.0 w.1 c.args.value.from.n w.2.unit
+      c.in-Some.expr.now c.in_ok-expression.expression c.eval_total-value.result (kind_one refl (sym w.3))
+      c.in_ok-expression.ensures c.eval_total-value.ensures;
+}

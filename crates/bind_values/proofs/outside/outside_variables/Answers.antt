@@ -2,8 +2,9 @@ use Rattle.ar_base.proofs.Standing.{along_back, one_here}
 use Rattle.class_table.proofs.Taken.{item_stands}
 use Rattle.class_table.proofs.Looping.{loop_start, loop_next, loop_end}
 use Rattle.hierarchy.specs.Listing.{variables}
+use Rattle.source_meaning.specs.Tested.{of_variable}
 use Rattle.bind_values.specs.Values.{IsValue}
-use Rattle.bind_values.proofs.OutsideDomains.{thing_now, thing_to, thing_back, known_value}
+use Rattle.bind_values.proofs.OutsideDomains.{variable_domain, thing_now, thing_to, thing_back, known_value}
 use Rattle.bind_values.proofs.outside.outside_variables.Goals as goal
 
 pub loop-place-init : goal.loop-place-init
@@ -20,8 +21,8 @@ loop-place-preserved c = λ m units are rows.
     c.value_at.ensures in
     let one = one_here (variables m units) c.loop-place.place a.0 a.1 in
     loop_next _ _ _ _ _ _ _ s (c.loop-place.invariant m units are rows)
-    (thing_now m units (variables m units) c.loop-place.place a.0 c.outside_variable.result a.1
-    (c.outside_variable.ensures m units a.0 are one a.2 v)) c.earliest-found.ensures
+    (thing_now m units (variables m units) c.loop-place.place a.0 c.outside.result a.1
+    (c.outside.ensures m units a.0 are (of_variable one) a.2.value v (variable_domain m units a.0 c.node-item.result a.2))) c.earliest-found.ensures
 
 pub returns : goal.returns
 returns c = λ m units are rows.

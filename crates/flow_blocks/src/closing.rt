@@ -3,32 +3,20 @@
 ghost use Rattle.std.specs.Prelude.{◌≡◌, ℕ, ◌≤◌, ◌<◌, ◌⊎◌, ◌↔◌, IsTrue, false, IfOk};
 ghost use Rattle.ar_base.specs.Lists.{IsOneOf};
 ghost use Rattle.flow_blocks.specs.Blocks.{AreBelow};
-ghost use Rattle.flow_blocks.specs.Bits.{HasBit, AreRows, AreDependences, AreClosed, AreAllDependences, room_left};
+ghost use Rattle.flow_blocks.specs.Bits.{HasBit, AreRows, AreDependences, AreClosed, room_left};
 
 use crate::rows::{add, empty_rows};
-use crate::schedule::schedule;
 use ar_base::Memory;
 use lane_rows::set;
 use std::alloc::Global;
 use std::mem;
 
-/// For each number the row of those on which it depends, directly or through others.
-pub(crate) fn closed_rows(
+/// The rows of the numbers that each number uses.
+pub(crate) fn direct_rows(
     alloc: Global,
     count: u32,
     uses: &[(u32, u32)],
 ) -> Result<Vec<Vec<u64>>, Memory>
-    requires { AreBelow count uses.now }
-    ensures { IfOk result (λ rows. AreAllDependences count uses.now rows.items) }
-{
-    let places = schedule(alloc, count, uses)?;
-    let mut rows = direct_rows(alloc, count, uses)?;
-    close(alloc, count, &mut rows, uses, &places);
-    Ok(rows)
-}
-
-/// The rows of the numbers that each number uses.
-fn direct_rows(alloc: Global, count: u32, uses: &[(u32, u32)]) -> Result<Vec<Vec<u64>>, Memory>
     requires { AreBelow count uses.now }
     ensures rows { IfOk result (λ rows. AreRows count rows.items) }
     ensures bits { IfOk result (λ rows. (a n : ℕ) → HasBit rows.items a n
@@ -55,7 +43,13 @@ fn mark(count: u32, rows: &mut [Vec<u64>], from: u32, to: u32)
 }
 
 /// Joins the rows by the uses at these places, and again until no use changes a row.
-fn close(alloc: Global, count: u32, rows: &mut [Vec<u64>], uses: &[(u32, u32)], places: &[u32])
+pub(crate) fn close(
+    alloc: Global,
+    count: u32,
+    rows: &mut [Vec<u64>],
+    uses: &[(u32, u32)],
+    places: &[u32],
+)
     requires rows { AreRows count rows.old }
     requires below { AreBelow count uses.now }
     ensures rows { AreRows count rows.new }

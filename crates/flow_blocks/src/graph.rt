@@ -4,8 +4,9 @@ ghost use Rattle.std.specs.Prelude.{◌≡◌, [], map, IfOk, IsTrue};
 ghost use Rattle.flow_blocks.specs.Blocks.{AreBelow, Follow};
 
 use crate::classing::classes;
-use crate::closing::closed_rows;
+use crate::closing::{close, direct_rows};
 use crate::giving::in_order;
+use crate::schedule::schedule;
 use ar_base::Memory;
 use std::alloc::Global;
 
@@ -33,7 +34,9 @@ pub fn blocks(alloc: Global, graph: &Graph) -> Result<Vec<Block>, Memory>
     ensures { IfOk result (λ found. Follow graph.now.count graph.now.uses.items []
         (map (λ b. b.members.items) found.items)) }
 {
-    let rows = closed_rows(alloc, graph.count, &graph.uses)?;
+    let places = schedule(alloc, graph.count, &graph.uses)?;
+    let mut rows = direct_rows(alloc, graph.count, &graph.uses)?;
+    close(alloc, graph.count, &mut rows, &graph.uses, &places);
     let found = classes(alloc, graph.count, &rows)?;
     in_order(alloc, graph.count, &graph.uses, &found)
 }

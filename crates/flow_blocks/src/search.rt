@@ -54,24 +54,17 @@ impl Search {
             let Some(places) = self.untried.get_mut(number as usize) else {
                 break;
             };
-            match places.pop() {
-                Some(place) => self.take(uses, place)?,
-                None => {
-                    let _ = self.path.pop();
-                    self.left.push(number)?;
-                }
+            let Some(place) = places.pop() else {
+                let _ = self.path.pop();
+                self.left.push(number)?;
+                continue;
+            };
+            let Some((_, to)) = uses.get(place as usize) else {
+                continue;
+            };
+            if self.enter(*to)? {
+                self.taken.push(place)?;
             }
-        }
-        Ok(())
-    }
-
-    /// Goes on by a use, if it leads to a number that was not entered.
-    fn take(&mut self, uses: &[(u32, u32)], place: u32) -> Result<(), Memory> {
-        let Some((_, to)) = uses.get(place as usize) else {
-            return Ok(());
-        };
-        if self.enter(*to)? {
-            self.taken.push(place)?;
         }
         Ok(())
     }

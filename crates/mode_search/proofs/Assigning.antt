@@ -1,8 +1,7 @@
 -- Assignments with too many possible values, and the least of their targets.
-use Rattle.std.proofs.Common.{◌≡◌, ◌+◌, ◌⊎◌, inl, inr, ℕ, Bool, true, false, cond, nat_lt, length, Option, Some, None, Result, Ok, Err, IfOk, refl, sym, ap, ◌∙◌, subst, arith}
+use Rattle.std.proofs.Common.{◌≡◌, ◌+◌, ◌⊎◌, inl, inr, ℕ, Bool, true, false, cond, nat_lt, length, Option, Some, None, refl, sym, ap, ◌∙◌, subst, arith}
 use Rattle.std.proofs.lemmas.Bool.{ltb-false}
 use Rattle.ar_base.specs.Lists.{Stands, IsOneOf}
-use Rattle.ar_base.specs.declared.faults.Memory.{Memory}
 use Rattle.ar_base.proofs.Standing.{stands_one, stands_within, stands_map, stands_map_back, at_most}
 use Rattle.ar_base.proofs.Comparing.{low}
 use Rattle.typed_expr.specs.Possible.{IsWide}
@@ -17,7 +16,6 @@ use Rattle.gts_core.specs.declared.system.GtsParts.{GtsParts}
 use Rattle.mode_search.specs.Events.{IsLeast}
 use Rattle.mode_search.specs.Wide.{IsSomeWide, IsWideFlow, IsWideObserver, IsFirstWide}
 use Rattle.ar_base.specs.Least.{least_with}
-use Rattle.mode_search.specs.declared.searches.Wide.{Wide}
 use Rattle.mode_search.specs.declared.searches.Wide.TheVariants as wide
 
 parts_of : (p : GtsParts) (a : s.Assign ℕ) → AssignIsWide (net_of p) a

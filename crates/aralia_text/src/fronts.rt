@@ -5,7 +5,7 @@ ghost use Rattle.std.specs.List.{prefix_len};
 ghost use Rattle.eq_core.specs.Views.{operand_of};
 ghost use Rattle.aralia_text.specs.Texts.{sign_text, operand_text, gate_name};
 ghost use Rattle.aralia_text.specs.Readings.{is_path_byte, IsPath};
-ghost use Rattle.aralia_text.specs.Fronts.{AreEvents, IsRead, IsStuck, IsStuckIn, AreCommon, IsPathOf, event_text, HasNoEvent, IsEventPart, IsBelowGate, IsNumberWith, AreDigits, IsOperandAt, HasOperand, HasNoMinus, Stops, begins_with};
+ghost use Rattle.aralia_text.specs.Fronts.{AreEvents, IsRead, IsStuck, IsStuckIn, AreCommon, IsPathOf, event_text, IsEventPart, IsBelowGate, IsNumberWith, AreDigits, IsOperandAt, HasOperand, HasNoMinus, Stops, begins_with};
 
 use ar_base::{EventId, GateId, NameId, Names};
 use eq_core::Operand;
@@ -70,23 +70,6 @@ pub fn literal<'a>(rest: &'a [u8], text: &[u8]) -> Result<&'a [u8], Stuck>
     }
 }
 
-// The event at the front: `e.` and its path, the longest run of its bytes.
-fn found_event<'a>(rest: &'a [u8], names: &Names) -> Option<(EventId, &'a [u8])>
-    requires { AreEvents names.now }
-    ensures found { IfSome result (λ r.
-        IsRead (IsPathOf names.now) (event_text names.now) Stops rest.now r.0.n r.1.now) }
-    ensures none { IfNone result (HasNoEvent names.now rest.now) }
-{
-    let Ok(behind) = literal(rest, b"e.") else {
-        return None;
-    };
-    let (run, left) = behind.split_at(path_len(behind));
-    match names.find_bytes(run) {
-        Some(name) => Some((EventId::new(name.n), left)),
-        None => None,
-    }
-}
-
 // Whether the text is a path.
 fn is_path(text: &[u8]) -> bool
     ensures yes { result ≡ true → IsPath text.now }
@@ -121,7 +104,7 @@ fn event_part(rest: &[u8], names: &Names) -> usize
     most
 }
 
-// The event at the front.
+// The event at the front: `e.` and its path, the longest run of its bytes.
 fn event<'a>(rest: &'a [u8], names: &Names) -> Result<(EventId, &'a [u8]), Stuck>
     requires { AreEvents names.now }
     ensures found { IfOk result (λ r.
@@ -129,12 +112,15 @@ fn event<'a>(rest: &'a [u8], names: &Names) -> Result<(EventId, &'a [u8]), Stuck
     ensures stuck { IfErr result (λ stuck.
         IsStuck (IsPathOf names.now) (event_text names.now) Stops rest.now stuck.left) }
 {
-    match found_event(rest, names) {
-        Some(read) => Ok(read),
-        None => Err(Stuck {
-            left: rest.len() - event_part(rest, names),
-        }),
+    if let Ok(behind) = literal(rest, b"e.") {
+        let (run, left) = behind.split_at(path_len(behind));
+        if let Some(name) = names.find_bytes(run) {
+            return Ok((EventId::new(name.n), left));
+        }
     }
+    Err(Stuck {
+        left: rest.len() - event_part(rest, names),
+    })
 }
 
 // The number with this digit behind it, where it is above 0 and at most so great.

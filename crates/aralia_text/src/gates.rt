@@ -1,9 +1,9 @@
 //! The operands of a gate, and its line.
 
-ghost use Rattle.std.specs.Prelude.{◌≡◌, ◌++◌, ℕ, IfOk, IfErr};
+ghost use Rattle.std.specs.Prelude.{◌≡◌, ℕ, IfOk, IfErr};
 ghost use Rattle.eq_core.specs.Views.{all_needed, operand_of, gate_of};
 ghost use Rattle.aralia_text.specs.Texts.{joint_text, gate_line};
-ghost use Rattle.aralia_text.specs.Fronts.{AreEvents, IsRead, IsStuck, IsStuckIn, IsAny, Stops, IsOperandAt, HasOperand, IsJoint, next_text, IsGateAt, header_text, operands_line};
+ghost use Rattle.aralia_text.specs.Fronts.{AreEvents, IsRead, IsStuck, IsAny, Stops, IsOperandAt, HasOperand, IsJoint, next_text, IsGateAt, operands_line};
 
 use crate::fronts::{Stuck, begins_with, literal, operand};
 use crate::printing::between;
@@ -121,19 +121,7 @@ fn operands<'a>(
     }
 }
 
-// The name of a gate and `:=` behind it.
-fn header<'a>(rest: &'a [u8], gates: u32) -> Result<&'a [u8], Stuck>
-    ensures found { IfOk result (λ left. rest.now ≡ header_text gates ++ left.now) }
-    ensures stuck { IfErr result (λ stuck. IsStuckIn (header_text gates) rest.now stuck.left) }
-{
-    let mut buffer = Buffer::new();
-    let digits = buffer.format(gates as usize + 1).as_bytes();
-    let behind = literal(rest, b"g")?;
-    let behind = literal(behind, digits)?;
-    literal(behind, b" := ")
-}
-
-// The line of the gate behind so many others.
+// The line of the gate behind so many others: its name and `:=`, and its operands.
 pub fn gate<'a>(
     alloc: Global,
     rest: &'a [u8],
@@ -149,6 +137,10 @@ pub fn gate<'a>(
         → IsStuck (IsGateAt gates names.now) (gate_line names.now gates) IsAny rest.now
         stuck.left) }
 {
-    let behind = header(rest, gates)?;
+    let mut buffer = Buffer::new();
+    let digits = buffer.format(gates as usize + 1).as_bytes();
+    let behind = literal(rest, b"g")?;
+    let behind = literal(behind, digits)?;
+    let behind = literal(behind, b" := ")?;
     operands(alloc, behind, gates, names)
 }

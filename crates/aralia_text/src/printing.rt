@@ -1,10 +1,10 @@
 //! The text of a table, written.
 
-ghost use Rattle.std.specs.Prelude.{◌≡◌, ◌<◌, ◌^◌, ◌++◌, codes, map};
+ghost use Rattle.std.specs.Prelude.{◌≡◌, ◌<◌, ◌^◌, ◌++◌, map};
 ghost use Rattle.ar_io.specs.Writing.{Writes};
 ghost use Rattle.eq_core.specs.Gates as gates;
 ghost use Rattle.eq_core.specs.Views.{all_needed, operand_of, gate_of, table_of};
-ghost use Rattle.aralia_text.specs.Texts.{sign_text, operand_text, joint_text, operands_text, more_text, gate_line, gate_lines, gate_name, last_lines, equations_text};
+ghost use Rattle.aralia_text.specs.Texts.{sign_text, operand_text, joint_text, operands_text, more_text, gate_lines, gate_name, equations_text};
 
 use ar_base::Text;
 use ar_io::{Sink, SinkFailed, text_at, write_count, write_text};
@@ -18,23 +18,10 @@ pub fn print<K: Sink>(equations: &Equations, events: &[Text], out: &mut K) -> Re
         (equations_text events.now (table_of equations.now)) result }
 {
     lines(out, events, &equations.gates)?;
-    last(out, events, equations.conflict, equations.top)
-}
-
-// The two last lines.
-fn last<K: Sink>(
-    out: &mut K,
-    events: &[Text],
-    conflict: Operand,
-    top: Operand,
-) -> Result<(), SinkFailed>
-    ensures { Writes (K.state out.old) (K.state out.new)
-        (last_lines events.now (operand_of conflict) (operand_of top)) result }
-{
     write_text(out, "conflict := ")?;
-    operand(out, events, conflict)?;
+    operand(out, events, equations.conflict)?;
     write_text(out, ";\ntop := ")?;
-    operand(out, events, top)?;
+    operand(out, events, equations.top)?;
     write_text(out, ";\n")
 }
 
@@ -44,21 +31,12 @@ fn lines<K: Sink>(out: &mut K, events: &[Text], gates: &[Gate]) -> Result<(), Si
         (gate_lines events.now 0 (map gate_of gates.now)) result }
 {
     for (n, gate) in gates.iter().enumerate() {
-        line(out, events, n, gate)?;
+        name(out, n)?;
+        write_text(out, " := ")?;
+        operands(out, events, gate)?;
+        write_text(out, ";\n")?;
     }
     Ok(())
-}
-
-// The line of a gate.
-fn line<K: Sink>(out: &mut K, events: &[Text], n: usize, gate: &Gate) -> Result<(), SinkFailed>
-    requires { n < 2 ^ 63 }
-    ensures { Writes (K.state out.old) (K.state out.new) (gate_line events.now n (gate_of gate.now))
-        result }
-{
-    name(out, n)?;
-    write_text(out, " := ")?;
-    operands(out, events, gate)?;
-    write_text(out, ";\n")
 }
 
 // The operands of a gate.
@@ -122,27 +100,16 @@ fn operand<K: Sink>(out: &mut K, events: &[Text], operand: Operand) -> Result<()
     match operand {
         Operand::Always => write_text(out, "true"),
         Operand::Never => write_text(out, "false"),
-        Operand::Event(event, sign) => named(out, sign, text_at(events, event.n)),
-        Operand::Gate(gate, sign) => numbered(out, sign, gate.n),
+        Operand::Event(event, sign) => {
+            write_text(out, minus(sign))?;
+            write_text(out, "e.")?;
+            write_text(out, text_at(events, event.n))
+        }
+        Operand::Gate(gate, sign) => {
+            write_text(out, minus(sign))?;
+            name(out, gate.n as usize)
+        }
     }
-}
-
-// An event with its sign.
-fn named<K: Sink>(out: &mut K, sign: bool, text: &str) -> Result<(), SinkFailed>
-    ensures { Writes (K.state out.old) (K.state out.new)
-        (sign_text sign ++ (codes "e." ++ text.now)) result }
-{
-    write_text(out, minus(sign))?;
-    write_text(out, "e.")?;
-    write_text(out, text)
-}
-
-// A gate with its sign.
-fn numbered<K: Sink>(out: &mut K, sign: bool, gate: u32) -> Result<(), SinkFailed>
-    ensures { Writes (K.state out.old) (K.state out.new) (sign_text sign ++ gate_name gate) result }
-{
-    write_text(out, minus(sign))?;
-    name(out, gate as usize)
 }
 
 // Nothing, or `-` before what is negated.

@@ -73,12 +73,17 @@ fn search_from(events: &[DeclaredEvent], root: EventId, search: &mut Search) -> 
         let Some(top) = search.open.pop() else {
             return Ok(());
         };
-        match next_part(events, top) {
-            Some((part, next)) => {
-                search.open.push(next)?;
-                look(search, top.event, part)?;
-            }
-            None => leave(search, top.event),
+        let Some((part, next)) = next_part(events, top) else {
+            leave(search, top.event);
+            continue;
+        };
+        search.open.push(next)?;
+        let met = number_at(&search.met, part);
+        if met == 0 {
+            meet(search, part)?;
+        } else if number_at(&search.ranks, part) == 0 {
+            let earliest = number_at(&search.earliest, top.event).min(met);
+            put(&mut search.earliest, top.event, earliest);
         }
     }
     Ok(())
@@ -118,37 +123,20 @@ fn meet(search: &mut Search, event: EventId) -> Result<(), Memory> {
     Ok(())
 }
 
-// Looks at a part of an event.
-fn look(search: &mut Search, event: EventId, part: EventId) -> Result<(), Memory> {
-    let met = number_at(&search.met, part);
-    if met == 0 {
-        return meet(search, part);
-    }
-    if number_at(&search.ranks, part) == 0 {
-        let earliest = number_at(&search.earliest, event).min(met);
-        put(&mut search.earliest, event, earliest);
-    }
-    Ok(())
-}
-
 // Leaves an event whose parts were all looked at.
 fn leave(search: &mut Search, event: EventId) {
     let earliest = number_at(&search.earliest, event);
     if earliest == number_at(&search.met, event) {
+        // the event gets the next rank, and so do all that were met behind it and have none
         search.rank = search.rank.saturating_add(1);
-        rank_down_to(search, event);
+        while let Some(last) = search.waiting.pop() {
+            put(&mut search.ranks, last, search.rank);
+            if last.n == event.n {
+                break;
+            }
+        }
     } else if let Some(above) = search.open.last().copied() {
         let least = number_at(&search.earliest, above.event).min(earliest);
         put(&mut search.earliest, above.event, least);
-    }
-}
-
-// Gives the rank to the event and to all that were met behind it and have none.
-fn rank_down_to(search: &mut Search, event: EventId) {
-    while let Some(last) = search.waiting.pop() {
-        put(&mut search.ranks, last, search.rank);
-        if last.n == event.n {
-            return;
-        }
     }
 }

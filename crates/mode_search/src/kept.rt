@@ -8,7 +8,7 @@ ghost use Rattle.mode_search.specs.Modes.{number_in};
 ghost use Rattle.gts_core.specs.View.{net_of};
 ghost use Rattle.gts_core.specs.Sound.{IsSound};
 ghost use Rattle.mode_search.specs.Events.{IsLeast, AreFirstStates};
-ghost use Rattle.mode_search.specs.Kept.{IsKeptOf, IsNoKept, AreKept, Continues, Extends, OtherInGuard, OtherInAction, least_with};
+ghost use Rattle.mode_search.specs.Kept.{IsKeptOf, IsNoKept, AreKept, Extends, OtherInGuard, OtherInAction, least_with};
 
 use crate::{WayMode, way_mode};
 use ar_base::{EventId, Memory, VarId, WayId};
@@ -44,40 +44,19 @@ pub fn kept_ways(
 {
     let mut kept = Vec::new(alloc);
     for (n, event) in parts.events.iter().enumerate() {
-        add_unmarked(
-            alloc,
-            parts,
-            marks,
-            firsts,
-            EventId::new(n as u32),
-            event,
-            &mut kept,
-        )?;
+        if !marks[n] {
+            let first = firsts[event.unit.n as usize];
+            add_event(
+                alloc,
+                parts,
+                first,
+                EventId::new(n as u32),
+                event,
+                &mut kept,
+            )?;
+        }
     }
     Ok(kept)
-}
-
-// Adds the ways of an event, unless it is marked.
-fn add_unmarked(
-    alloc: Global,
-    parts: &GtsParts,
-    marks: &[bool],
-    firsts: &[Option<VarId>],
-    id: EventId,
-    event: &Event,
-    kept: &mut Vec<KeptWay>,
-) -> Result<(), Memory>
-    requires sound { IsSound parts.now }
-    requires marks { length marks.now ≡ length parts.now.events.items }
-    requires firsts { AreFirstStates parts.now (length parts.now.variables.items) firsts.now }
-    requires event { Stands parts.now.events.items id.n event.now }
-    ensures { IfOk result (λ _. Continues parts.now marks.now id.n kept.old.items kept.new.items) }
-{
-    if marks[id.n as usize] {
-        return Ok(());
-    }
-    let first = firsts[event.unit.n as usize];
-    add_event(alloc, parts, first, id, event, kept)
 }
 
 // Adds the ways of an event.

@@ -1,17 +1,14 @@
 -- The trees of the variables, one after the other.
 use Rattle.std.proofs.Common.{◌≡◌, ◌<◌, ◌+◌, ℕ, zero, suc, ◌⊎◌, inl, inr, Bool, List, [], ◌∷◌, ◌++◌, length, refl, sym, ap, ◌∙◌, subst, arith}
 use Rattle.ar_base.specs.Lists.{Stands}
-use Rattle.ar_base.specs.Numbers.{VarId}
 use Rattle.ar_base.proofs.Standing.{stands_one, stands_within, stands_none, stands_left, stands_split, stands_next, at_most}
-use Rattle.ar_meaning.specs.Found.{IsAnswer}
-use Rattle.ar_meaning.proofs.Found.{holds, fails}
 use Rattle.gts_core.specs.declared.system.Variable.{Variable}
 use Rattle.gts_core.specs.declared.system.GtsParts.{GtsParts}
 use Rattle.mode_trees.specs.declared.forests.ModeTree.{ModeTree}
 use Rattle.mode_search.specs.declared.searching.Reach.{Reach}
 use Rattle.mode_trees.specs.Below.{IsBelow}
 use Rattle.static_fragment.specs.Units.{IsMovingState}
-use Rattle.static_fragment.specs.Trees.{IsTreeAt, AreTreesBelow, HasTree, GetsTree, stays, adds}
+use Rattle.static_fragment.specs.Trees.{IsTreeAt, AreTreesBelow, HasTree}
 
 pub trees_start : (p : GtsParts) (moving : List Bool) (reaches : List Reach) (trees : List ModeTree) → trees ≡ []
     → AreTreesBelow p moving reaches 0 trees
@@ -41,7 +38,7 @@ module _ (p : GtsParts) (moving : List Bool) (reaches : List Reach) (n : ℕ) (x
       let same = stands_one p.variables.items n h.variable x h.stands sx in
       subst (λ (z : Variable). HasTree moving z) same (record { is_state = h.is_state; moves = h.moves })
 
-  none_more : (HasTree moving x → ⊥) → AreTreesBelow p moving reaches (n + 1) old
+  pub none_more : (HasTree moving x → ⊥) → AreTreesBelow p moving reaches (n + 1) old
   none_more lacks = record {
     sound = λ k tree st. wider tree (a.sound k tree st);
     whole = λ m l h. elim (at_most m n l) [
@@ -94,7 +91,7 @@ module _ (p : GtsParts) (moving : List Bool) (reaches : List Reach) (n : ℕ) (x
         by (inr f) (inl g) = let w = stands_within old k t g in absurd (omega (arith, f.1))
         by (inr f) (inr g) = absurd (omega (arith, f.1, g.1, (last f.0 s f.2).0, (last g.0 t g.2).0))
 
-    one_more : AreTreesBelow p moving reaches (n + 1) (old ++ tree ∷ [])
+    pub one_more : AreTreesBelow p moving reaches (n + 1) (old ++ tree ∷ [])
     one_more = record {
       sound = sound;
       whole = λ m l h. elim (at_most m n l) [
@@ -103,12 +100,3 @@ module _ (p : GtsParts) (moving : List Bool) (reaches : List Reach) (n : ℕ) (x
       ];
       ascend = ascend;
     }
-
-  pub trees_more : (r : Reach) → Stands reaches n r → (number : VarId) → number.n ≡ n → (b : Bool)
-      → IsAnswer b (HasTree moving x) → (new : List ModeTree)
-      → GetsTree number x b r old new → AreTreesBelow p moving reaches (n + 1) new
-  trees_more r sr number is b h new (stays e i) = subst (λ (z : List ModeTree). AreTreesBelow p moving reaches (n + 1)
-      z) (sym i) (none_more (fails (HasTree moving x) b e h))
-  trees_more r sr number is b h new (adds e tree i v f d) = subst
-      (λ (z : List ModeTree). AreTreesBelow p moving reaches (n + 1) z) (sym i)
-      (one_more r sr (holds (HasTree moving x) b e h) tree (ap (λ (z : VarId). z.n) v ∙ is) f d)

@@ -1,7 +1,6 @@
 -- The trees of the state variables of units that move.
-use Rattle.std.specs.Prelude.{◌≡◌, ◌<◌, ◌++◌, ℕ, Bool, true, false, List, [], ◌∷◌}
+use Rattle.std.specs.Prelude.{◌≡◌, ◌<◌, ℕ, Bool, true, List}
 use Rattle.ar_base.specs.Lists.{Stands}
-use Rattle.ar_base.specs.Numbers.{VarId}
 use Rattle.gts_core.specs.declared.system.Variable.{Variable}
 use Rattle.gts_core.specs.declared.system.GtsParts.{GtsParts}
 use Rattle.mode_trees.specs.declared.forests.ModeTree.{ModeTree}
@@ -32,9 +31,3 @@ pub record AreTreesBelow (p : GtsParts) (moving : List Bool) (reaches : List Rea
 pub record HasTree (moving : List Bool) (x : Variable) : Type 0 where
   pub is_state : x.is_state ≡ true
   pub moves : Stands moving x.unit.n true
-
--- the list got the tree of this variable, if it has one
-pub data GetsTree (number : VarId) (x : Variable) (has : Bool) (r : Reach) (old new : List ModeTree) : Type 0 where
-  stays : has ≡ false → new ≡ old → GetsTree number x has r old new
-  adds : has ≡ true → (tree : ModeTree) → new ≡ old ++ tree ∷ [] → tree.variable ≡ number → tree.first ≡ x.value
-      → IsBelow r.edges.items tree.first 0 tree.edges.items → GetsTree number x has r old new

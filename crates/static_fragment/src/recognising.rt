@@ -9,13 +9,14 @@ ghost use Rattle.mode_trees.specs.Ways.{OwnTheirWays};
 ghost use Rattle.static_fragment.specs.Recognised.{IsRecognised, IsRefused};
 
 use crate::faults::FragmentFault;
+use crate::showing::at_variable;
 use crate::stages::{
-    judge_entering, judge_events, judge_values, judged_reaches, judged_sharing, judged_units,
-    judged_ways,
+    judge_events, judge_values, judged_reaches, judged_sharing, judged_units, judged_ways,
 };
 use crate::trees::forest;
 use ar_base::EventId;
 use gts_core::Gts;
+use mode_search::least_again;
 use mode_trees::Forest;
 use std::alloc::Global;
 
@@ -45,7 +46,7 @@ pub fn recognise(alloc: Global, gts: &Gts, dropped: &[EventId]) -> Result<Forest
     let kept = judged_ways(alloc, parts, &units)?;
     let reaches = judged_reaches(alloc, parts, &kept)?;
     let sharing = judged_sharing(alloc, parts, &reaches)?;
-    judge_entering(&reaches)?;
+    at_variable(6, least_again(&reaches))?;
     judge_values(alloc, parts)?;
     judge_events(&sharing)?;
     let trees = forest(alloc, parts, &units.moving, &reaches)?;

@@ -1,31 +1,10 @@
 //! Refusals with a rule and what it is shown with.
 
-ghost use Rattle.ar_firing.specs.Rules.{AtEvent, AtUnit, AtVariable};
-ghost use Rattle.static_fragment.specs.Shown.{IsShownWith, IsWideShown, IsCounted};
+ghost use Rattle.ar_firing.specs.Rules.{AtVariable};
+ghost use Rattle.static_fragment.specs.Shown.{IsShownWith, IsCounted};
 
 use crate::faults::{FragmentFault, Spot};
-use ar_base::{EventId, UnitId, VarId};
-use mode_search::Wide;
-
-// Refuses with this rule where an event was found.
-pub(crate) fn at_event(rule: u8, found: Option<u32>) -> Result<(), FragmentFault>
-    ensures { IsShownWith rule AtEvent found result }
-{
-    match found {
-        Some(n) => Err(FragmentFault::Outside(rule, Spot::Event(EventId::new(n)))),
-        None => Ok(()),
-    }
-}
-
-// Refuses with this rule where a unit was found.
-pub(crate) fn at_unit(rule: u8, found: Option<u32>) -> Result<(), FragmentFault>
-    ensures { IsShownWith rule AtUnit found result }
-{
-    match found {
-        Some(n) => Err(FragmentFault::Outside(rule, Spot::Unit(UnitId::new(n)))),
-        None => Ok(()),
-    }
-}
+use ar_base::VarId;
 
 // Refuses with this rule where a variable was found.
 pub(crate) fn at_variable(rule: u8, found: Option<u32>) -> Result<(), FragmentFault>
@@ -33,17 +12,6 @@ pub(crate) fn at_variable(rule: u8, found: Option<u32>) -> Result<(), FragmentFa
 {
     match found {
         Some(n) => Err(FragmentFault::Outside(rule, Spot::Variable(VarId::new(n)))),
-        None => Ok(()),
-    }
-}
-
-// Refuses with the seventh rule where a flow or an observer was found.
-pub(crate) fn at_wide(found: Option<Wide>) -> Result<(), FragmentFault>
-    ensures { IsWideShown found result }
-{
-    match found {
-        Some(Wide::Flow(n)) => Err(FragmentFault::Outside(7, Spot::Variable(VarId::new(n)))),
-        Some(Wide::Observer(n)) => Err(FragmentFault::Outside(7, Spot::Observer(n))),
         None => Ok(()),
     }
 }

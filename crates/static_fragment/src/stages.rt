@@ -1,21 +1,20 @@
 //! The stages from a flat system to what its variables reach, each with the rules that it judges.
 
-ghost use Rattle.std.specs.Prelude.{◌≡◌, ◌<◌, ◌^◌, length, IfOk};
+ghost use Rattle.std.specs.Prelude.{◌≡◌, length, IfOk};
 ghost use Rattle.gts_core.specs.Sound.{IsSound};
 ghost use Rattle.gts_core.specs.View.{Views};
-ghost use Rattle.gts_core.specs.declared.system.GtsParts.{GtsParts};
 ghost use Rattle.mode_search.specs.Events.{numbers_of, AreFirstStates};
 ghost use Rattle.mode_search.specs.Reaches.{AreListed};
 ghost use Rattle.static_fragment.specs.Shown.{lesser_of};
-ghost use Rattle.static_fragment.specs.Stages.{Judges, HasUnits, HasWays, HasReaches, HasSharing, IsSeen, AreFromWays, NoneAgain};
+ghost use Rattle.static_fragment.specs.Stages.{Judges, HasUnits, HasWays, HasReaches, HasSharing, IsSeen, AreFromWays};
 
-use crate::faults::FragmentFault;
-use crate::showing::{at_event, at_unit, at_variable, at_whole, at_wide};
-use ar_base::{EventId, VarId};
+use crate::faults::{FragmentFault, Spot};
+use crate::showing::{at_variable, at_whole};
+use ar_base::{EventId, UnitId, VarId};
 use gts_core::GtsParts;
 use mode_search::{
-    KeptWay, Reach, Sharing, all_reached, first_joint, first_stateless, first_states, first_wide,
-    kept_ways, least_action, least_again, least_guard, least_wrong, live_edges, marked,
+    KeptWay, Reach, Sharing, Wide, all_reached, first_joint, first_stateless, first_states,
+    first_wide, kept_ways, least_action, least_guard, least_wrong, live_edges, marked,
     moving_units, shared,
 };
 use std::alloc::Global;
@@ -45,11 +44,15 @@ pub(crate) fn judged_units(
     ensures rules { Judges (λ system d. Views parts.now system × (d ≡ numbers_of dropped.now))
         (λ system d u. HasUnits parts.now u system d) result }
 {
-    at_event(1, first_joint(parts))?;
+    if let Some(event) = first_joint(parts) {
+        return Err(FragmentFault::Outside(1, Spot::Event(EventId::new(event))));
+    }
     let marks = marked(alloc, parts.events.len(), dropped)?;
     let moving = moving_units(alloc, parts, &marks)?;
     let firsts = first_states(alloc, parts)?;
-    at_unit(2, first_stateless(&moving, &firsts))?;
+    if let Some(unit) = first_stateless(&moving, &firsts) {
+        return Err(FragmentFault::Outside(2, Spot::Unit(UnitId::new(unit))));
+    }
     Ok(Units {
         marks,
         moving,
@@ -110,23 +113,18 @@ pub(crate) fn judged_sharing(
     Ok(sharing)
 }
 
-// Refuses where the sixth rule is broken.
-pub(crate) fn judge_entering(reaches: &[Reach]) -> Result<(), FragmentFault>
-    requires { length reaches.now < 2 ^ 32 }
-    ensures once { IfOk result (λ _. NoneAgain reaches.now) }
-    ensures rules { (p : GtsParts) → Judges (HasReaches 6 p reaches.now)
-        (λ system d _. HasReaches 7 p reaches.now system d) result }
-{
-    at_variable(6, least_again(reaches))
-}
-
 // Refuses where the seventh rule is broken.
 pub(crate) fn judge_values(alloc: Global, parts: &GtsParts) -> Result<(), FragmentFault>
     requires { IsSound parts.now }
     ensures { Judges (IsSeen 7 parts.now) (λ system d _. IsSeen 8 parts.now system d) result }
 {
-    let wide = first_wide(alloc, parts)?;
-    at_wide(wide)
+    let Some(wide) = first_wide(alloc, parts)? else {
+        return Ok(());
+    };
+    match wide {
+        Wide::Flow(n) => Err(FragmentFault::Outside(7, Spot::Variable(VarId::new(n)))),
+        Wide::Observer(n) => Err(FragmentFault::Outside(7, Spot::Observer(n))),
+    }
 }
 
 // Refuses where the eighth rule is broken.

@@ -1,12 +1,10 @@
 //! The trees of the mode variables.
 
-ghost use Rattle.std.specs.Prelude.{◌≡◌, ◌<◌, ◌∷◌, length, map, IfOk};
-ghost use Rattle.ar_base.specs.Lists.{AreDifferent};
+ghost use Rattle.std.specs.Prelude.{◌≡◌, ◌<◌, length, IfOk};
 ghost use Rattle.ar_meaning.specs.Found.{IsAnswer};
 ghost use Rattle.gts_core.specs.Sound.{IsSound};
-ghost use Rattle.mode_trees.specs.declared.forests.Edge.{Edge};
 ghost use Rattle.static_fragment.specs.Stages.{AreFromWays, NoneAgain};
-ghost use Rattle.static_fragment.specs.Trees.{AreTreesBelow, HasTree, GetsTree};
+ghost use Rattle.static_fragment.specs.Trees.{AreTreesBelow, HasTree};
 
 use ar_base::{Memory, VarId};
 use gts_core::{GtsParts, Variable};
@@ -30,15 +28,14 @@ pub(crate) fn forest(
 {
     let mut trees = Vec::new(alloc);
     for (n, variable) in parts.variables.iter().enumerate() {
-        let has = has_tree(variable, moving);
-        add_tree(
-            alloc,
-            VarId::new(n as u32),
-            variable,
-            has,
-            &reaches[n],
-            &mut trees,
-        )?;
+        if has_tree(variable, moving) {
+            let edges = edges_below(alloc, variable.value, &reaches[n].edges)?;
+            trees.push(ModeTree {
+                variable: VarId::new(n as u32),
+                first: variable.value,
+                edges,
+            })?;
+        }
     }
     Ok(Forest { trees })
 }
@@ -49,29 +46,4 @@ fn has_tree(variable: &Variable, moving: &[bool]) -> bool
     ensures { IsAnswer result (HasTree moving.now variable.now) }
 {
     variable.is_state && moving[variable.unit.n as usize]
-}
-
-// Adds the tree of a variable, if it has one.
-fn add_tree(
-    alloc: Global,
-    number: VarId,
-    variable: &Variable,
-    has: bool,
-    reach: &Reach,
-    trees: &mut Vec<ModeTree>,
-) -> Result<(), Memory>
-    requires { AreDifferent (variable.now.value ∷ map (λ (e : Edge). e.to) reach.now.edges.items) }
-    ensures { IfOk result (λ _. GetsTree number variable.now has reach.now trees.old.items
-        trees.new.items) }
-{
-    if !has {
-        return Ok(());
-    }
-    let edges = edges_below(alloc, variable.value, &reach.edges)?;
-    trees.push(ModeTree {
-        variable: number,
-        first: variable.value,
-        edges,
-    })?;
-    Ok(())
 }

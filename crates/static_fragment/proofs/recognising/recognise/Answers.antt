@@ -1,7 +1,7 @@
-use Rattle.std.proofs.Common.{List, Err, refl, sym, ◌∙◌, ap, subst, arith}
+use Rattle.std.proofs.Common.{List, Ok, Err, refl, sym, ◌∙◌, ap, subst, arith}
 use Rattle.std.proofs.lemmas.Result.{err_from_is_err_and}
 use Rattle.ar_firing.specs.Forest.{IsForest}
-use Rattle.ar_firing.specs.Rules.{S1, S2}
+use Rattle.ar_firing.specs.Rules.{S1, S2, AtVariable}
 use Rattle.gts_core.specs.View.{Views}
 use Rattle.gts_core.specs.Sound.{IsSound}
 use Rattle.gts_core.specs.declared.system.GtsParts.{GtsParts}
@@ -10,9 +10,10 @@ use Rattle.mode_search.specs.declared.kept.KeptWay.{KeptWay}
 use Rattle.mode_trees.specs.Views.{trees_of, number_in}
 use Rattle.mode_trees.specs.Ways.{OwnTheirWays}
 use Rattle.mode_search.specs.declared.searching.Reach.{Reach}
+use Rattle.mode_search.specs.Reaches.{IsAgainAt}
 use Rattle.static_fragment.specs.Recognised.{IsRefused}
-use Rattle.static_fragment.specs.Stages.{HasWays, IsSeen, AreFromWays, NoneAgain}
-use Rattle.static_fragment.proofs.Judging.{if_err, reaches_on, sharing_on, all_rules}
+use Rattle.static_fragment.specs.Stages.{HasWays, HasReaches, IsSeen, AreFromWays, NoneAgain}
+use Rattle.static_fragment.proofs.Judging.{if_err, nowhere, judged6, reaches_on, sharing_on, all_rules}
 use Rattle.static_fragment.proofs.Forests.{is_forest, own_ways, trees_as}
 use Rattle.static_fragment.proofs.recognising.recognise.Goals as goal
 
@@ -52,8 +53,8 @@ returns-in_err-sharing-clause-outside c = λ system views.
     if_err (IsRefused system d) c.from_residual-in_err-sharing.result _ (x.1 ∙ ap Err x.2)
     (c.in_err-sharing.ensures system d r5)
 
-pub returns-in_err-judge_entering-clause-outside : goal.returns-in_err-judge_entering-clause-outside
-returns-in_err-judge_entering-clause-outside c = λ system views.
+pub returns-in_err-at_variable-clause-outside : goal.returns-in_err-at_variable-clause-outside
+returns-in_err-at_variable-clause-outside c = λ system views.
     let v = subst (λ (z : GtsParts). Views z system) (sym c.parts-parts.ensures.parts) views in
     let d = numbers_of c.args.dropped.now in
     let u = c.in_ok-units.ensures.rules system d (v, refl) in
@@ -66,10 +67,11 @@ returns-in_err-judge_entering-clause-outside c = λ system views.
     let s = c.in_ok-sharing.ensures system d r5 in
     let r6 = reaches_on system d 5 6 p c.in_ok-reaches.reaches.items c.deref-3.result.now r s.keeps
     c.deref-3.ensures.value in
-    let x = err_from_is_err_and c.from_residual-in_err-judge_entering.result
-    c.from_residual-in_err-judge_entering.ensures.1 in
-    if_err (IsRefused system d) c.from_residual-in_err-judge_entering.result _ (x.1 ∙ ap Err x.2)
-    (c.in_err-judge_entering.ensures.rules p system d r6)
+    let x = err_from_is_err_and c.from_residual-in_err-at_variable.result
+    c.from_residual-in_err-at_variable.ensures.1 in
+    if_err (IsRefused system d) c.from_residual-in_err-at_variable.result _ (x.1 ∙ ap Err x.2)
+    (judged6 system d p c.deref-3.result.now r6 c.least_again.result c.least_again.ensures (Err _)
+    c.in_err-at_variable.ensures)
 
 pub returns-in_err-judge_values-clause-outside : goal.returns-in_err-judge_values-clause-outside
 returns-in_err-judge_values-clause-outside c = λ system views.
@@ -85,7 +87,8 @@ returns-in_err-judge_values-clause-outside c = λ system views.
     let s = c.in_ok-sharing.ensures system d r5 in
     let r6 = reaches_on system d 5 6 p c.in_ok-reaches.reaches.items c.deref-3.result.now r s.keeps
     c.deref-3.ensures.value in
-    let r7 = c.in_ok-judge_entering.ensures.rules p system d r6 in
+    let r7 : HasReaches 7 p c.deref-3.result.now system d = judged6 system d p c.deref-3.result.now r6
+    c.least_again.result c.least_again.ensures (Ok _) c.in_ok-at_variable.ensures in
     let seen : IsSeen 7 p system d = record { views = v; keeps = r7.keeps } in
     let x = err_from_is_err_and c.from_residual-in_err-judge_values.result c.from_residual-in_err-judge_values.ensures.1
     in
@@ -106,7 +109,8 @@ returns-in_err-judge_events-clause-outside c = λ system views.
     let s = c.in_ok-sharing.ensures system d r5 in
     let r6 = reaches_on system d 5 6 p c.in_ok-reaches.reaches.items c.deref-3.result.now r s.keeps
     c.deref-3.ensures.value in
-    let r7 = c.in_ok-judge_entering.ensures.rules p system d r6 in
+    let r7 : HasReaches 7 p c.deref-3.result.now system d = judged6 system d p c.deref-3.result.now r6
+    c.least_again.result c.least_again.ensures (Ok _) c.in_ok-at_variable.ensures in
     let seen : IsSeen 7 p system d = record { views = v; keeps = r7.keeps } in
     let n = c.in_ok-judge_values.ensures system d seen in
     let s8 = sharing_on system d 6 8 c.in_ok-sharing.sharing s n.keeps in
@@ -117,7 +121,9 @@ returns-in_err-judge_events-clause-outside c = λ system views.
 
 pub forest-requires-clause-once : goal.forest-requires-clause-once
 forest-requires-clause-once c = subst (λ (z : List Reach). NoneAgain z)
-    (c.deref-3.ensures.value ∙ sym c.deref-5.ensures.value) c.in_ok-judge_entering.ensures.once
+    (c.deref-3.ensures.value ∙ sym c.deref-5.ensures.value)
+    (nowhere (IsAgainAt c.deref-3.result.now) 6 AtVariable c.least_again.result _ c.least_again.ensures
+    c.in_ok-at_variable.ensures)
 
 pub returns-clause-ok : goal.returns-clause-ok
 returns-clause-ok c = λ system views.
@@ -133,7 +139,8 @@ returns-clause-ok c = λ system views.
     let s = c.in_ok-sharing.ensures system d r5 in
     let r6 = reaches_on system d 5 6 p c.in_ok-reaches.reaches.items c.deref-3.result.now r s.keeps
     c.deref-3.ensures.value in
-    let r7 = c.in_ok-judge_entering.ensures.rules p system d r6 in
+    let r7 : HasReaches 7 p c.deref-3.result.now system d = judged6 system d p c.deref-3.result.now r6
+    c.least_again.result c.least_again.ensures (Ok _) c.in_ok-at_variable.ensures in
     let seen : IsSeen 7 p system d = record { views = v; keeps = r7.keeps } in
     let n = c.in_ok-judge_values.ensures system d seen in
     let s8 = sharing_on system d 6 8 c.in_ok-sharing.sharing s n.keeps in

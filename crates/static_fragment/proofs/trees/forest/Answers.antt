@@ -1,12 +1,20 @@
-use Rattle.std.proofs.Common.{◌≡◌, ◌<◌, List, length, get_or, subst, arith}
+use Rattle.std.proofs.Common.{◌≡◌, ◌<◌, ◌+◌, List, ◌∷◌, map, Vec, Global, length, get_or, refl, sym, ap, ◌∙◌, subst, arith}
 use Rattle.gts_core.specs.declared.system.Variable.{Variable}
+use Rattle.ar_base.specs.Lists.{AreDifferent}
 use Rattle.ar_base.proofs.Standing.{stands_item}
-use Rattle.static_fragment.proofs.Growing.{trees_more}
+use Rattle.ar_meaning.proofs.Found.{holds, fails}
+use Rattle.mode_trees.specs.declared.forests.Edge.{Edge}
+use Rattle.mode_trees.specs.declared.forests.ModeTree.{ModeTree}
+use Rattle.mode_search.specs.declared.searching.Reach.{Reach}
+use Rattle.mode_trees.specs.Below.{IsBelow}
+use Rattle.static_fragment.specs.Trees.{AreTreesBelow, HasTree}
+use Rattle.static_fragment.proofs.Growing.{none_more, one_more}
 use Rattle.static_fragment.proofs.Forests.{all_once}
 use Rattle.static_fragment.proofs.trees.forest.Goals as goal
+use Rattle.static_fragment.proofs.trees.forest.Goals.{then-has_tree+in_ok-edges+in_ok-push, else-has_tree}
 
-pub has_tree-has-requires : goal.has_tree-has-requires
-has_tree-has-requires c =
+pub has_tree-requires : goal.has_tree-requires
+has_tree-requires c =
     let items = c.deref-variable-items.ensures.value in
     let below = subst (λ (z : List Variable). c.loop-n.n < length z) items c.loop-n-test.true in
     let is = subst (λ (z : List Variable). c.variable-item.result ≡ get_or z c.loop-n.n c.variable-item.result) items
@@ -15,8 +23,8 @@ has_tree-has-requires c =
     let unit = (c.requires.sound.variables c.loop-n.n c.variable-item.result st).unit in omega
     (arith, unit, c.requires.units)
 
-pub add_tree-requires : goal.add_tree-requires
-add_tree-requires c =
+pub edges_below-requires : goal.edges_below-requires
+edges_below-requires c =
     let items = c.deref-variable-items.ensures.value in
     let below = subst (λ (z : List Variable). c.loop-n.n < length z) items c.loop-n-test.true in
     let is = subst (λ (z : List Variable). c.variable-item.result ≡ get_or z c.loop-n.n c.variable-item.result) items
@@ -24,18 +32,40 @@ add_tree-requires c =
     let st = stands_item c.args.parts.now.variables.items c.loop-n.n c.variable-item.result below is in
     let reach = stands_item c.args.reaches.now c.loop-n.n c.index-reaches-n.result
     (omega (arith, below, c.requires.found.are.long)) c.index-reaches-n.is in
-    all_once c.requires.found c.requires.once c.loop-n.n c.variable-item.result c.index-reaches-n.result st reach
+    let x = c.variable-item.result in
+    record {
+      enters = subst (λ (z : List Edge). AreDifferent (x.value ∷ map (λ (y : Edge). y.to) z))
+          (sym (c.deref.ensures.value ∙ ap (λ (z : Reach). z.edges.items) (sym c.index-reaches-n.is)))
+          (all_once c.requires.found c.requires.once c.loop-n.n x c.index-reaches-n.result st reach);
+    }
 
 pub loop-n-preserved : goal.loop-n-preserved
 loop-n-preserved c =
     let items = c.deref-variable-items.ensures.value in
     let below = subst (λ (z : List Variable). c.loop-n.n < length z) items c.loop-n-test.true in
-    let is = subst (λ (z : List Variable). c.variable-item.result ≡ get_or z c.loop-n.n c.variable-item.result) items
-    c.variable-item.is in
-    let st = stands_item c.args.parts.now.variables.items c.loop-n.n c.variable-item.result below is in
-    let reach = stands_item c.args.reaches.now c.loop-n.n c.index-reaches-n.result
-    (omega (arith, below, c.requires.found.are.long)) c.index-reaches-n.is in
-    trees_more c.args.parts.now c.args.moving.now c.args.reaches.now c.loop-n.n c.variable-item.result st
-    c.loop-n.trees.items c.loop-n.invariant
-    c.index-reaches-n.result reach c.new.result c.new.ensures c.has_tree-has.result c.has_tree-has.ensures
-    c.add_tree.new.trees.items c.in_ok-add_tree.ensures
+    let x = c.variable-item.result in
+    let is = subst (λ (z : List Variable). x ≡ get_or z c.loop-n.n x) items c.variable-item.is in
+    let st = stands_item c.args.parts.now.variables.items c.loop-n.n x below is in
+    let p = c.args.parts.now in
+    let moving = c.args.moving.now in
+    let reaches = c.args.reaches.now in
+    let old = c.loop-n.trees.items in
+    elim c.if-has_tree.branch [
+      | then-has_tree+in_ok-edges+in_ok-push w ↦
+          let r = w.index-reaches-n.result in
+          let reach = stands_item reaches c.loop-n.n r (omega (arith, below, c.requires.found.are.long))
+          w.index-reaches-n.is in
+          let tree : ModeTree = record { variable = w.new.result; first = x.value; edges = w.in_ok-edges.edges } in
+          subst (λ (z : List ModeTree). AreTreesBelow p moving reaches (c.loop-n.n + 1) z)
+          (sym (ap (λ (z : Vec ModeTree Global). z.items) w.trees-is ∙ w.in_ok-push.ensures.items))
+          (one_more p moving reaches c.loop-n.n x st old c.loop-n.invariant r reach
+          (holds (HasTree moving x) c.has_tree.result w.if-has_tree.true c.has_tree.ensures) tree w.new.ensures refl
+          (subst (λ (z : List Edge). IsBelow z x.value 0 w.in_ok-edges.edges.items)
+          (w.deref.ensures.value ∙ ap (λ (z : Reach). z.edges.items) (sym w.index-reaches-n.is))
+          w.in_ok-edges.ensures))
+      | else-has_tree w ↦
+          subst (λ (z : List ModeTree). AreTreesBelow p moving reaches (c.loop-n.n + 1) z)
+          (sym (ap (λ (z : Vec ModeTree Global). z.items) w.trees-is))
+          (none_more p moving reaches c.loop-n.n x st old c.loop-n.invariant
+          (fails (HasTree moving x) c.has_tree.result w.if-has_tree.false c.has_tree.ensures))
+    ]

@@ -4,7 +4,7 @@ ghost use Rattle.std.specs.Prelude.{◌≡◌, ◌≤◌, ◌<◌, ◌++◌, cod
 ghost use Rattle.std.specs.List.{prefix_len};
 ghost use Rattle.eq_core.specs.Views.{operand_of};
 ghost use Rattle.aralia_text.specs.Texts.{sign_text, operand_text, gate_name};
-ghost use Rattle.aralia_text.specs.Readings.{is_path_byte, IsPath};
+ghost use Rattle.aralia_text.specs.Readings.{is_path_byte};
 ghost use Rattle.aralia_text.specs.Fronts.{AreEvents, IsRead, IsStuck, IsStuckIn, AreCommon, IsPathOf, event_text, IsEventPart, IsBelowGate, IsNumberWith, AreDigits, IsOperandAt, HasOperand, HasNoMinus, Stops, begins_with};
 
 use ar_base::{EventId, GateId, NameId, Names};
@@ -70,14 +70,6 @@ pub fn literal<'a>(rest: &'a [u8], text: &[u8]) -> Result<&'a [u8], Stuck>
     }
 }
 
-// Whether the text is a path.
-fn is_path(text: &[u8]) -> bool
-    ensures yes { result ≡ true → IsPath text.now }
-    ensures no { IsPath text.now → result ≡ true }
-{
-    path_len(text) == text.len()
-}
-
 // How many bytes at the front are the same as in `e.` with this path behind it.
 fn event_common(rest: &[u8], path: &[u8]) -> usize
     ensures { AreCommon rest.now (codes "e." ++ path.now) result }
@@ -96,8 +88,11 @@ fn event_part(rest: &[u8], names: &Names) -> usize
     let mut most: usize = 0;
     let mut n = 0;
     while let Some(path) = names.get(NameId::new(n)) {
-        if is_path(path.as_bytes()) {
-            most = most.max(event_common(rest, path.as_bytes()));
+        let bytes = path.as_bytes();
+        let run = path_len(bytes);
+        // a text that is no path is the name of no event
+        if run == bytes.len() {
+            most = most.max(event_common(rest, bytes));
         }
         n += 1;
     }

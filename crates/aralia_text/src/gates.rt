@@ -3,7 +3,7 @@
 ghost use Rattle.std.specs.Prelude.{◌≡◌, ℕ, IfOk, IfErr};
 ghost use Rattle.eq_core.specs.Views.{all_needed, operand_of, gate_of};
 ghost use Rattle.aralia_text.specs.Texts.{joint_text, gate_line};
-ghost use Rattle.aralia_text.specs.Fronts.{AreEvents, IsRead, IsStuck, IsAny, Stops, IsOperandAt, HasOperand, IsJoint, next_text, IsGateAt, operands_line};
+ghost use Rattle.aralia_text.specs.Fronts.{AreEvents, IsRead, IsStuck, IsAny, Stops, IsOperandAt, HasOperand, IsJoint, IsGateAt, operands_line};
 
 use crate::fronts::{Stuck, begins_with, literal, operand};
 use crate::printing::between;
@@ -69,26 +69,6 @@ fn joint(rest: &[u8]) -> Result<(Joint, &[u8]), Stuck>
     Ok((Joint::Or, left))
 }
 
-// A further operand of a gate.
-fn next<'a>(
-    rest: &'a [u8],
-    joint: Joint,
-    gates: u32,
-    names: &Names,
-) -> Result<(Operand, &'a [u8]), Stuck>
-    requires events { AreEvents names.now }
-    requires some { HasOperand gates names.now }
-    ensures found { IfOk result (λ r.
-        IsRead (IsOperandAt gates names.now) (next_text names.now (all_needed joint)) Stops rest.now
-        (operand_of r.0) r.1.now) }
-    ensures stuck { IfErr result (λ stuck.
-        IsStuck (IsOperandAt gates names.now) (next_text names.now (all_needed joint)) Stops
-        rest.now stuck.left) }
-{
-    let behind = literal(rest, between(joint).as_bytes())?;
-    operand(behind, gates, names)
-}
-
 // The operands of a gate and the end of its line.
 fn operands<'a>(
     alloc: Global,
@@ -115,7 +95,8 @@ fn operands<'a>(
             let behind = literal(left, b";\n")?;
             return Ok((Gate { joint, operands }, behind));
         }
-        let (one, behind) = next(left, joint, gates, names)?;
+        let after = literal(left, between(joint).as_bytes())?;
+        let (one, behind) = operand(after, gates, names)?;
         operands.push(one)?;
         left = behind;
     }

@@ -1,6 +1,6 @@
 //! The text of a table, written.
 
-ghost use Rattle.std.specs.Prelude.{◌≡◌, ◌<◌, ◌^◌, ◌++◌, map};
+ghost use Rattle.std.specs.Prelude.{◌≡◌, ◌<◌, ◌^◌, map};
 ghost use Rattle.ar_io.specs.Writing.{Writes};
 ghost use Rattle.eq_core.specs.Gates as gates;
 ghost use Rattle.eq_core.specs.Views.{all_needed, operand_of, gate_of, table_of};
@@ -52,7 +52,7 @@ fn operands<K: Sink>(out: &mut K, events: &[Text], gate: &Gate) -> Result<(), Si
     more(out, events, gate.joint, others)
 }
 
-// Further operands.
+// Further operands, each with the sign that joins it to those before.
 fn more<K: Sink>(
     out: &mut K,
     events: &[Text],
@@ -63,23 +63,10 @@ fn more<K: Sink>(
         (more_text events.now (all_needed joint) (map operand_of operands.now)) result }
 {
     for one in operands {
-        joined(out, events, joint, *one)?;
+        write_text(out, between(joint))?;
+        operand(out, events, *one)?;
     }
     Ok(())
-}
-
-// An operand with the sign that joins it to those before.
-fn joined<K: Sink>(
-    out: &mut K,
-    events: &[Text],
-    joint: Joint,
-    one: Operand,
-) -> Result<(), SinkFailed>
-    ensures { Writes (K.state out.old) (K.state out.new)
-        (joint_text (all_needed joint) ++ operand_text events.now (operand_of one)) result }
-{
-    write_text(out, between(joint))?;
-    operand(out, events, one)
 }
 
 // What stands between two operands.

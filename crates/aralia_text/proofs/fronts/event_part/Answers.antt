@@ -1,12 +1,21 @@
-use Rattle.std.proofs.Common.{arith, ◌<◌, ◌+◌, length, subst, sym, ◌∙◌}
-use Rattle.std.proofs.Common.{ℕ, List, ◌++◌, codes, true≢false}
+use Rattle.std.proofs.Common.{◌≡◌, ◌<◌, ◌+◌, ℕ, List, [], ◌++◌, codes, take, length, sym, ap, ◌∙◌, subst, append-nil, arith}
+use Rattle.std.specs.List.{prefix_len}
+use Rattle.std.proofs.lemmas.List.{take_all}
 use Rattle.aralia_text.specs.Fronts.{AreCommon}
 use Rattle.ar_base.specs.Lists.{Stands}
 use Rattle.ar_base.proofs.Standing.{stands_within}
-use Rattle.aralia_text.specs.Readings.{IsPath}
+use Rattle.aralia_text.specs.Readings.{is_path_byte, IsPath}
+use Rattle.aralia_text.proofs.Runs.{run_passes, run_exact}
 use Rattle.aralia_text.proofs.Events.{part_start, part_done, part_passed, part_more, IsPartSoFar}
 use Rattle.aralia_text.proofs.fronts.event_part.Goals as goal
-use Rattle.aralia_text.proofs.fronts.event_part.Goals.{then-is_path, else-is_path}
+use Rattle.aralia_text.proofs.fronts.event_part.Goals.{then-run-bytes, else-run-bytes}
+
+whole : (text : List ℕ) → prefix_len is_path_byte text ≡ length text → IsPath text
+whole text all = subst IsPath (ap (λ (k : ℕ). take k text) all ∙ take_all (length text) text (omega arith))
+    (run_passes text)
+
+all_pass : (text : List ℕ) → IsPath text → prefix_len is_path_byte text ≡ length text
+all_pass text h = ap (prefix_len is_path_byte) (sym (append-nil text)) ∙ run_exact text [] h tt
 
 pub overflow_add-n : goal.overflow_add-n
 overflow_add-n c =
@@ -33,20 +42,21 @@ loop-path-preserved c =
     let n = c.new.ensures in
     let here : Stands c.args.names.now c.loop-path.n c.in-Some.path.now = subst (λ (k : ℕ). Stands c.args.names.now k c.in-Some.path.now) n c.in-Some.ensures.text in (
       omega (arith, inside, n),
-      elim c.if-is_path.branch [
-        | then-is_path w ↦
-            part_more c.args.names.now c.args.rest.now c.loop-path.n c.loop-path.most c.if-is_path.most
+      elim c.if-run-bytes.branch [
+        | then-run-bytes w ↦
+            part_more c.args.names.now c.args.rest.now c.loop-path.n c.loop-path.most c.if-run-bytes.most
             w.event_common.result c.in-Some.path.now c.loop-path.invariant.1 here
-            (subst IsPath c.as_bytes.ensures.value (c.is_path.ensures.yes w.if-is_path.true))
+            (subst IsPath c.as_bytes-bytes.ensures.value
+            (whole c.as_bytes-bytes.result.now (sym c.path_len-run.ensures.value ∙ w.if-run-bytes.true)))
             (subst (λ (z : List ℕ). AreCommon c.args.rest.now (codes "e." ++ z) w.event_common.result)
-            w.as_bytes-then-is_path.ensures.value w.event_common.ensures)
+            c.as_bytes-bytes.ensures.value w.event_common.ensures)
             (w.most-is ∙ w.max-most.ensures)
-        | else-is_path w ↦
+        | else-run-bytes w ↦
             subst (λ (k : ℕ). IsPartSoFar c.args.names.now c.args.rest.now (c.loop-path.n + 1) k) (sym w.most-is)
             (part_passed c.args.names.now c.args.rest.now c.loop-path.n c.loop-path.most c.in-Some.path.now
             c.loop-path.invariant.1 here
-            (λ path. true≢false (sym (c.is_path.ensures.no (subst IsPath (sym c.as_bytes.ensures.value) path))
-            ∙ w.if-is_path.false)))
+            (λ path. w.if-run-bytes.false (c.path_len-run.ensures.value
+            ∙ all_pass c.as_bytes-bytes.result.now (subst IsPath (sym c.as_bytes-bytes.ensures.value) path))))
       ],
     )
 

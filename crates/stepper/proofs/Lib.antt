@@ -2,4 +2,3 @@ pub mod Totals
 pub mod Kept
 mod Growing
 mod Going
-mod Refusals

@@ -10,8 +10,6 @@ use Rattle.gts_core.specs.declared.system.GtsParts.{GtsParts}
 use Rattle.flow_propagate.specs.Answers.{fault_of}
 use Rattle.flow_propagate.specs.declared.propagation.PropagateFault.{PropagateFault}
 use Rattle.flow_propagate.specs.declared.propagation.PropagateFault.TheVariants as propagates
-use Rattle.way_flags.specs.declared.faults.ReceiveFault.{ReceiveFault}
-use Rattle.way_flags.specs.declared.faults.ReceiveFault.TheVariants as receives
 use Rattle.stepper.specs.declared.faults.StepFault.{StepFault}
 use Rattle.stepper.specs.declared.faults.StepFault.TheVariants as fault
 
@@ -35,9 +33,3 @@ IsStepFault net t w (fault.Clash x) = steps.Step net t w (steps.Refused (steps.C
 IsStepFault net t w (fault.Range x) = steps.Step net t w (steps.Refused (steps.Range x.n))
 IsStepFault net t w (fault.Flow f) = steps.Step net t w (steps.Refused (steps.Flow (fault_of f)))
 IsStepFault net t w fault.Memory = ⊤
-
--- the fault of a step that this fault of what is received is
-abbrev pub step_fault_of : ReceiveFault → StepFault
-step_fault_of (receives.Clash x) = fault.Clash x
-step_fault_of (receives.Range x) = fault.Range x
-step_fault_of receives.Memory = fault.Memory

@@ -14,7 +14,7 @@ ghost use Rattle.gts_core.specs.View.{net_of, IsWayAt};
 ghost use Rattle.gts_core.specs.Readings.{IsTotal};
 ghost use Rattle.way_flags.specs.Ready.{IsReady};
 ghost use Rattle.way_flags.specs.Ways.{AreFlags};
-ghost use Rattle.stepper.specs.Steps.{IsStepFault, IsStartFault, step_fault_of};
+ghost use Rattle.stepper.specs.Steps.{IsStepFault, IsStartFault};
 
 use crate::changes::StepChanges;
 use crate::faults::StepFault;
@@ -48,18 +48,9 @@ pub(crate) fn next_values(
     }
     match received(alloc, gts.parts(), flags, values, way) {
         Ok(new) => Ok(new),
-        Err(fault) => Err(step_fault(fault)),
-    }
-}
-
-// The fault by the words of a step.
-fn step_fault(fault: ReceiveFault) -> StepFault
-    ensures { result ≡ step_fault_of fault }
-{
-    match fault {
-        ReceiveFault::Clash(variable) => StepFault::Clash(variable),
-        ReceiveFault::Range(variable) => StepFault::Range(variable),
-        ReceiveFault::Memory => StepFault::Memory,
+        Err(ReceiveFault::Clash(variable)) => Err(StepFault::Clash(variable)),
+        Err(ReceiveFault::Range(variable)) => Err(StepFault::Range(variable)),
+        Err(ReceiveFault::Memory) => Err(StepFault::Memory),
     }
 }
 

@@ -9,11 +9,10 @@ ghost use Rattle.ar_meaning.specs.Steps.{Step, Next};
 ghost use Rattle.ar_meaning.specs.Ways.{Can};
 ghost use Rattle.gts_core.specs.View.{net_of, IsWayAt};
 ghost use Rattle.gts_core.specs.Sound.{IsSound};
-ghost use Rattle.flow_propagate.specs.Plan.{IsPlan};
 ghost use Rattle.gts_core.specs.Readings.{IsTotal};
 ghost use Rattle.ar_meaning.specs.Flows.{Flows, Total};
 ghost use Rattle.flow_propagate.specs.NewValues.{AreNewValues, written};
-ghost use Rattle.flow_changes.specs.Present.{IsPresent, IsFaultOf};
+ghost use Rattle.flow_changes.specs.Present.{IsFaultOf};
 ghost use Rattle.value_changes.specs.Changes.{AreChanges};
 ghost use Rattle.stepper.specs.Steps.{IsStartFault, IsStepFault};
 
@@ -21,7 +20,7 @@ use crate::changes::StepChanges;
 use crate::faults::{NoStep, StepFault};
 use crate::keeping::{keep, make_room};
 use crate::moves::{first, go_on, next_values};
-use ar_base::{Memory, VarId, WayId};
+use ar_base::{VarId, WayId};
 use domains::Value;
 use flow_changes::{Present, restore};
 use flow_propagate::{Plan, PropagateFault, make_plan};
@@ -76,26 +75,6 @@ impl<'a> Stepper<'a> {
     {
         let plan = make_plan(alloc, gts)?;
         let present = first(alloc, gts, &plan)?;
-        Ok(Self::over(alloc, gts, plan, present)?)
-    }
-
-    // A stepper that stands here, with no standing step.
-    fn over(
-        alloc: Global,
-        gts: &'a Gts,
-        plan: Plan,
-        present: Present,
-    ) -> Result<Stepper<'a>, Memory>
-        requires plan { IsPlan gts.now plan }
-        requires present { IsPresent gts.now present }
-        ensures { IfOk result (λ stepper.
-            stepper ≡ record {
-              system = gts.now;
-              values = present.determined.values.values.items;
-              below = [];
-              changed = [];
-            }) }
-    {
         let parts = gts.parts();
         let index = way_index(alloc, parts)?;
         let can = way_flags(alloc, parts, &index, &present.determined.values.values)?;

@@ -11,10 +11,16 @@ use Rattle.gts_core.proofs.Tests.{answer_false}
 use Rattle.way_flags.specs.Ready.{IsReady, IsReceiveFault}
 use Rattle.flow_propagate.specs.NewValues.{AreNewValues, written}
 use Rattle.way_flags.specs.Ways.{flag_at, AreFlags}
-use Rattle.stepper.specs.Steps.{IsStepFault}
-use Rattle.stepper.specs.declared.faults.StepFault.{StepFault}
-use Rattle.stepper.proofs.Refusals.{receive_fault}
+use Rattle.way_flags.specs.declared.faults.ReceiveFault.{ReceiveFault}
 use Rattle.stepper.proofs.moves.next_values.Goals as goal
+
+-- the fault that was found is one of the system that the steppers' parts are
+told : {p q : GtsParts} {e f : ReceiveFault} (n : ℕ) (t : List Value) → p ≡ q → e ≡ f
+    → ((w : Way ℕ) → IsWayAt p n w → IsReceiveFault (net_of p) t w e) → (w : Way ℕ) → IsWayAt q n w
+    → IsReceiveFault (net_of q) t w f
+told {q = q} {e = e} n t same is h = subst
+    (λ (z : ReceiveFault). (w : Way ℕ) → IsWayAt q n w → IsReceiveFault (net_of q) t w z) is
+    (subst (λ (z : GtsParts). (w : Way ℕ) → IsWayAt z n w → IsReceiveFault (net_of z) t w e) same h)
 
 pub returns-then-not-is_set-clause-fault : goal.returns-then-not-is_set-clause-fault
 returns-then-not-is_set-clause-fault c = λ w m.
@@ -40,10 +46,10 @@ returns-in-Ok-clause-ready c = subst
     → IsReady (net_of z) c.args.values.now w (written c.args.values.now c.in-Ok.new.items)) c.parts.ensures.parts
     c.in-Ok.ensures.received
 
-pub returns-in-Err-clause-fault : goal.returns-in-Err-clause-fault
-returns-in-Err-clause-fault c = λ w m.
-    subst (λ (z : StepFault). IsStepFault (net_of c.args.gts.now) c.args.values.now w z) (sym c.step_fault.ensures)
-    (receive_fault (net_of c.args.gts.now) c.args.values.now w c.in-Err.fault
-    (subst (λ (z : GtsParts). (w : Way ℕ) → IsWayAt z c.args.way.n w
-    → IsReceiveFault (net_of z) c.args.values.now w c.in-Err.fault) c.parts.ensures.parts c.in-Err.ensures.fault w
-    m))
+pub returns-in-Err-Clash-clause-fault : goal.returns-in-Err-Clash-clause-fault
+returns-in-Err-Clash-clause-fault c = told c.args.way.n c.args.values.now c.parts.ensures.parts
+    c.in-Err-Clash.field-0-is c.in-Err-Clash.ensures.fault
+
+pub returns-in-Err-Range-clause-fault : goal.returns-in-Err-Range-clause-fault
+returns-in-Err-Range-clause-fault c = told c.args.way.n c.args.values.now c.parts.ensures.parts
+    c.in-Err-Range.field-0-is c.in-Err-Range.ensures.fault

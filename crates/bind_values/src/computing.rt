@@ -1,14 +1,12 @@
 //! The values of parameters and variables, computed one after the other.
 
-ghost use Rattle.std.specs.Prelude.{◌≡◌, false, [], List, IfOk, OnOk};
-ghost use Rattle.std.specs.HashMap.{get};
+ghost use Rattle.std.specs.Prelude.{false, [], List, IfOk, OnOk};
 ghost use Rattle.ar_base.specs.Lists.{Along};
 ghost use Rattle.domains.specs.declared.Value.TheVariants.{Truth};
 ghost use Rattle.typed_expr.specs.declared.expr.ValueKind.TheVariants.{Truth as TruthKind};
 ghost use Rattle.hierarchy.specs.Models.{RootedModel};
 ghost use Rattle.hierarchy.specs.Units.{UnitPath};
 ghost use Rattle.hierarchy.specs.Listing.{variables, parameters as parameters_of};
-ghost use Rattle.bind_scopes.specs.Indexed.{same_pair};
 ghost use Rattle.bind_scopes.specs.Scopes.{AreScopes, HasScopes};
 ghost use Rattle.bind_values.specs.Known.{IsKnown, AreKnown};
 ghost use Rattle.bind_values.specs.Values.{AreNamesKept, IsValue, IsParameterValue};
@@ -89,13 +87,6 @@ fn spot_of(value: Attribute) -> (u32, u32) {
     (value.from.n, setting)
 }
 
-// What is remembered there.
-fn found_at(known: &Known, spot: (u32, u32)) -> Option<(Attribute, Value)>
-    ensures { result ≡ get same_pair known.now spot }
-{
-    known.get(&spot).copied()
-}
-
 // The value of what has this attribute, which is computed where it is not remembered.
 fn value_once(
     alloc: Global,
@@ -111,7 +102,7 @@ fn value_once(
         → OnOk result (AreKnown scopes.now parameters.now known.new) }
 {
     let spot = spot_of(value);
-    if let Some((attribute, found)) = found_at(known, spot) {
+    if let Some((attribute, found)) = known.get(&spot).copied() {
         if is_same_value(attribute, value) {
             return Ok(found);
         }

@@ -1,4 +1,4 @@
-use Rattle.std.proofs.Common.{◌≡◌, sym, rules, arith}
+use Rattle.std.proofs.Common.{◌≡◌, sym, ◌∙◌, rules, arith}
 use Rattle.std.proofs.lemmas.Grind.{common_steps}
 use Rattle.bind_values.proofs.Remembering.{known_same, known_more}
 use Rattle.bind_values.proofs.computing.value_once.Goals as goal
@@ -7,7 +7,7 @@ pub returns-then-is_same_value-clause-value : goal.returns-then-is_same_value-cl
 returns-then-is_same_value-clause-value c = λ known.
     let e : c.in-Some.attribute ≡ c.args.value = first_of (search rules, grind (arith, common_steps)) in
     known_same c.args.scopes.now c.args.parameters.now c.args.known.now _ c.in-Some.attribute c.args.value
-    c.in-Some.found (sym c.in-Some.ensures) e known
+    c.in-Some.found (sym c.get.ensures.value ∙ sym c.in-Some.ensures) e known
 
 pub returns-clause-known : goal.returns-clause-known
 returns-clause-known c = λ known.

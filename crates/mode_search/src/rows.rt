@@ -1,7 +1,7 @@
 //! The ways of each variable.
 
-ghost use Rattle.std.specs.Prelude.{◌≡◌, ◌<◌, [], length, IfOk};
-ghost use Rattle.mode_search.specs.Rows.{AreRows, AreBelow, Puts};
+ghost use Rattle.std.specs.Prelude.{[], IfOk};
+ghost use Rattle.mode_search.specs.Rows.{AreRows, AreBelow};
 
 use crate::KeptWay;
 use ar_base::Memory;
@@ -18,7 +18,9 @@ pub(crate) fn rows(
 {
     let mut rows = empty_rows(alloc, count)?;
     for way in kept {
-        put(&mut rows, *way)?;
+        if way.visible {
+            rows[way.mode.variable.n as usize].push(*way)?;
+        }
     }
     Ok(rows)
 }
@@ -32,16 +34,4 @@ fn empty_rows(alloc: Global, count: usize) -> Result<Vec<Vec<KeptWay>>, Memory>
         rows.push(Vec::new(alloc))?;
     }
     Ok(rows)
-}
-
-// Puts a way into the row of its mode variable, where it is visible.
-fn put(rows: &mut Vec<Vec<KeptWay>>, way: KeptWay) -> Result<(), Memory>
-    requires { way.mode.variable.n < length rows.old.items }
-    ensures { IfOk result (λ _. Puts way rows.old.items rows.new.items) }
-{
-    if !way.visible {
-        return Ok(());
-    }
-    rows[way.mode.variable.n as usize].push(way)?;
-    Ok(())
 }

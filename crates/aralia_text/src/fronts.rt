@@ -1,6 +1,6 @@
 //! What stands at the front of a text: a fixed text, an event's path, a gate's number, an operand.
 
-ghost use Rattle.std.specs.Prelude.{◌≡◌, ◌≤◌, ◌<◌, ◌++◌, codes, ℕ, true, false, length, IfOk, IfErr, IfSome, IfNone};
+ghost use Rattle.std.specs.Prelude.{◌≡◌, ◌≤◌, ◌<◌, ◌++◌, ℕ, true, false, length, IfOk, IfErr, IfSome, IfNone};
 ghost use Rattle.std.specs.List.{prefix_len};
 ghost use Rattle.eq_core.specs.Views.{operand_of};
 ghost use Rattle.aralia_text.specs.Texts.{sign_text, operand_text, gate_name};
@@ -70,16 +70,6 @@ pub fn literal<'a>(rest: &'a [u8], text: &[u8]) -> Result<&'a [u8], Stuck>
     }
 }
 
-// How many bytes at the front are the same as in `e.` with this path behind it.
-fn event_common(rest: &[u8], path: &[u8]) -> usize
-    ensures { AreCommon rest.now (codes "e." ++ path.now) result }
-{
-    match literal(rest, b"e.") {
-        Ok(behind) => 2 + common(behind, path),
-        Err(_) => common(rest, b"e."),
-    }
-}
-
 // How many bytes at the front are a first part of the name of an event.
 fn event_part(rest: &[u8], names: &Names) -> usize
     requires { AreEvents names.now }
@@ -92,7 +82,11 @@ fn event_part(rest: &[u8], names: &Names) -> usize
         let run = path_len(bytes);
         // a text that is no path is the name of no event
         if run == bytes.len() {
-            most = most.max(event_common(rest, bytes));
+            let same = match literal(rest, b"e.") {
+                Ok(behind) => 2 + common(behind, bytes),
+                Err(_) => common(rest, b"e."),
+            };
+            most = most.max(same);
         }
         n += 1;
     }

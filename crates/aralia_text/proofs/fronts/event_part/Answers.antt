@@ -6,9 +6,9 @@ use Rattle.ar_base.specs.Lists.{Stands}
 use Rattle.ar_base.proofs.Standing.{stands_within}
 use Rattle.aralia_text.specs.Readings.{is_path_byte, IsPath}
 use Rattle.aralia_text.proofs.Runs.{run_passes, run_exact}
-use Rattle.aralia_text.proofs.Events.{part_start, part_done, part_passed, part_more, IsPartSoFar}
+use Rattle.aralia_text.proofs.Events.{mark_common, mark_part, part_start, part_done, part_passed, part_more, IsPartSoFar}
 use Rattle.aralia_text.proofs.fronts.event_part.Goals as goal
-use Rattle.aralia_text.proofs.fronts.event_part.Goals.{then-run-bytes, else-run-bytes}
+use Rattle.aralia_text.proofs.fronts.event_part.Goals.{then-run-bytes, else-run-bytes, in-Ok, in-Err}
 
 whole : (text : List ℕ) → prefix_len is_path_byte text ≡ length text → IsPath text
 whole text all = subst IsPath (ap (λ (k : ℕ). take k text) all ∙ take_all (length text) text (omega arith))
@@ -44,12 +44,19 @@ loop-path-preserved c =
       omega (arith, inside, n),
       elim c.if-run-bytes.branch [
         | then-run-bytes w ↦
+            let event = codes "e." ++ c.as_bytes-bytes.result.now in
+            let same : AreCommon c.args.rest.now event w.match-literal.same = elim w.match-literal.branch [
+              | in-Ok v ↦ subst (AreCommon c.args.rest.now event) (sym v.same-is)
+                  (mark_common _ _ _ _ v.in-Ok.ensures.found v.common.ensures)
+              | in-Err v ↦ subst (AreCommon c.args.rest.now event) (sym v.same-is)
+                  (mark_part _ _ _ _ v.in-Err.ensures.stuck v.common-same.ensures)
+            ] in
             part_more c.args.names.now c.args.rest.now c.loop-path.n c.loop-path.most c.if-run-bytes.most
-            w.event_common.result c.in-Some.path.now c.loop-path.invariant.1 here
+            w.match-literal.same c.in-Some.path.now c.loop-path.invariant.1 here
             (subst IsPath c.as_bytes-bytes.ensures.value
             (whole c.as_bytes-bytes.result.now (sym c.path_len-run.ensures.value ∙ w.if-run-bytes.true)))
-            (subst (λ (z : List ℕ). AreCommon c.args.rest.now (codes "e." ++ z) w.event_common.result)
-            c.as_bytes-bytes.ensures.value w.event_common.ensures)
+            (subst (λ (z : List ℕ). AreCommon c.args.rest.now (codes "e." ++ z) w.match-literal.same)
+            c.as_bytes-bytes.ensures.value same)
             (w.most-is ∙ w.max-most.ensures)
         | else-run-bytes w ↦
             subst (λ (k : ℕ). IsPartSoFar c.args.names.now c.args.rest.now (c.loop-path.n + 1) k) (sym w.most-is)

@@ -6,7 +6,7 @@ ghost use Rattle.eq_build.specs.Builds.{most_gates};
 ghost use Rattle.eq_build.specs.Views.{entries_in, lists_in, row_at};
 ghost use Rattle.gts_core.specs.View.{variables_from};
 ghost use Rattle.table_steps.specs.Steps.{first_reading, in_order};
-ghost use Rattle.tree_equations.specs.Answers.{Entries, trees_in, init_of};
+ghost use Rattle.tree_equations.specs.Answers.{Entries, trees_in};
 
 use crate::assigning::put_all;
 use ar_base::Memory;
@@ -51,24 +51,18 @@ fn init_rows(alloc: Global, variables: &[Variable]) -> Result<Vec<Vec<Entry>>, M
 {
     let mut rows = Vec::new(alloc);
     for variable in variables {
-        let row = init_row(alloc, variable)?;
+        let row = if variable.is_state {
+            let entry = Entry {
+                value: variable.value,
+                operand: Operand::Always,
+            };
+            Vec::from_slice(alloc, &[entry])?
+        } else {
+            Vec::new(alloc)
+        };
         rows.push(row)?;
     }
     Ok(rows)
-}
-
-// The init value of a state variable, and nothing for a flow.
-fn init_row(alloc: Global, variable: &Variable) -> Result<Vec<Entry>, Memory>
-    ensures { IfOk result (λ row. entries_in row.items ≡ init_of variable.now) }
-{
-    if !variable.is_state {
-        return Ok(Vec::new(alloc));
-    }
-    let entry = Entry {
-        value: variable.value,
-        operand: Operand::Always,
-    };
-    Ok(Vec::from_slice(alloc, &[entry])?)
 }
 
 // The entries in the order of their values. Each value makes one gate at most, so that there are never too many.

@@ -3,17 +3,16 @@
 ghost use Rattle.std.specs.Prelude.{◌≡◌, ◌<◌, ◌^◌, ℕ, List, [], IfOk, length, map};
 ghost use Rattle.ar_base.specs.Lists.{IsOneOf};
 ghost use Rattle.gts_core.specs.Sound.{IsSound};
-ghost use Rattle.gts_core.specs.View.{net_of, variables_from};
+ghost use Rattle.gts_core.specs.View.{variables_from};
 ghost use Rattle.flow_blocks.specs.Bits.{row_of};
 ghost use Rattle.flow_blocks.specs.Table.{members_of};
-ghost use Rattle.table_steps.specs.Steps.{AreBlocks, flows_from};
+ghost use Rattle.table_steps.specs.Steps.{flows_from};
 ghost use Rattle.tree_equations.specs.Index.{IsIndex, AreByTarget, AreFlows, AreUnder};
 ghost use Rattle.tree_equations.specs.Blocks.{blocks_in, ArePlaced, ArePlacedBlocks};
 
 use ar_base::Memory;
 use flow_blocks::Block;
-use flow_propagate::make_plan;
-use gts_core::{Assign, Gts, GtsParts, Variable};
+use gts_core::{Assign, GtsParts, Variable};
 use std::alloc::Global;
 
 // The flows of a system, and the assignments to each variable.
@@ -76,18 +75,12 @@ fn no_numbers(alloc: Global, count: usize) -> Result<Vec<Vec<u32>>, Memory>
     Ok(rows)
 }
 
-// The blocks of a system in their order, by the numbers of their flows.
-pub(crate) fn blocks(alloc: Global, gts: &Gts, flows: &[u32]) -> Result<Vec<Vec<u32>>, Memory>
-    requires { AreFlows gts.now.variables.items flows.now
-        (flows_from 0 (net_of gts.now).variables) }
-    ensures { IfOk result (λ blocks. AreBlocks (net_of gts.now) (blocks_in blocks.items)) }
-{
-    let plan = make_plan(alloc, gts)?;
-    numbered_blocks(alloc, flows, &plan.blocks)
-}
-
 // The numbers of the flows of each block.
-fn numbered_blocks(alloc: Global, flows: &[u32], blocks: &[Block]) -> Result<Vec<Vec<u32>>, Memory>
+pub(crate) fn numbered_blocks(
+    alloc: Global,
+    flows: &[u32],
+    blocks: &[Block],
+) -> Result<Vec<Vec<u32>>, Memory>
     requires { (members : List ℕ) → IsOneOf (members_of blocks.now) members
         → AreUnder (length flows.now) members }
     ensures { IfOk result (λ found. ArePlacedBlocks flows.now (members_of blocks.now)

@@ -1,12 +1,11 @@
 //! The table.
 
-ghost use Rattle.std.specs.Prelude.{◌≡◌, ◌≤◌, ◌<◌, ◌++◌, ℕ, IfOk, IfErr, length, slice_get};
+ghost use Rattle.std.specs.Prelude.{◌≡◌, ◌≤◌, ◌<◌, ℕ, IfOk, IfErr, length, slice_get};
 ghost use Rattle.ar_base.specs.Lists.{IsOneOf};
 ghost use Rattle.eq_core.specs.Gates.{Table};
-ghost use Rattle.eq_core.specs.Views.{table_of, operand_of};
+ghost use Rattle.eq_core.specs.Views.{table_of};
 ghost use Rattle.eq_build.specs.Builds.{most_gates};
-ghost use Rattle.eq_build.specs.Views.{gates_in, operands_in, row_at, MakesOperand, Stops};
-ghost use Rattle.eq_core.specs.Gates.{any_of};
+ghost use Rattle.eq_build.specs.Views.{gates_in, row_at, Stops};
 ghost use Rattle.gts_core.specs.Sound.{IsSound};
 ghost use Rattle.gts_core.specs.View.{net_of};
 ghost use Rattle.mode_trees.specs.declared.forests.ModeTree.{ModeTree as Tree};
@@ -17,7 +16,7 @@ ghost use Rattle.tree_equations.specs.Gives.{AtObserver, IsTableOf, NeedsTooMany
 use crate::assigning::built;
 use crate::fault::EqFault;
 use crate::first_rows::first_rows;
-use crate::index::{Index, blocks, make_index};
+use crate::index::{Index, make_index, numbered_blocks};
 use crate::leaving::leaving;
 use crate::modes::modes;
 use crate::rounds::all_rounds;
@@ -27,6 +26,7 @@ use crate::totals::totals;
 use domains::Value;
 use eq_build::{BuildFault, Entry, made, operand_for};
 use eq_core::{Equations, Gate, Joint, Operand};
+use flow_propagate::make_plan;
 use gts_core::{Gts, GtsParts};
 use mode_trees::Forest;
 use std::alloc::Global;
@@ -75,7 +75,8 @@ fn table(
 {
     let parts = gts.parts();
     let index = make_index(alloc, parts)?;
-    let blocks = blocks(alloc, gts, &index.flows)?;
+    let plan = make_plan(alloc, gts)?;
+    let blocks = numbered_blocks(alloc, &index.flows, &plan.blocks)?;
     let mut gates = Vec::new(alloc);
     let modes = modes(alloc, &mut gates, &forest.trees)?;
     let mut rows = first_rows(alloc, &parts.variables, &forest.trees, modes)?;
@@ -117,23 +118,8 @@ fn conflicts(
     let new = totals(alloc, gates, rows, &parts.variables, &index.flows)?;
     put_rows(rows, &index.flows, new);
     let seen_broken = broken(alloc, gates, rows, &parts.assigns)?;
-    one_of_all(alloc, gates, &seen_twice, &seen_outside, &seen_broken)
-}
-
-// One of these operands.
-fn one_of_all(
-    alloc: Global,
-    gates: &mut Vec<Gate>,
-    twos: &[Operand],
-    outs: &[Operand],
-    broken: &[Operand],
-) -> Result<Operand, BuildFault>
-    requires { length gates.old.items ≤ most_gates }
-    ensures { MakesOperand (any_of (gates_in gates.old.items) (operands_in twos.now
-        ++ (operands_in outs.now ++ operands_in broken.now))) result gates.new.items }
-{
-    let mut operands = Vec::from_slice(alloc, twos)?;
-    operands.extend_from_slice(outs)?;
-    operands.extend_from_slice(broken)?;
+    let mut operands = seen_twice;
+    operands.extend_from_slice(&seen_outside)?;
+    operands.extend_from_slice(&seen_broken)?;
     made(alloc, gates, Joint::Or, &operands)
 }

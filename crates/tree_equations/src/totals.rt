@@ -1,8 +1,6 @@
 //! The total values of flows.
 
 ghost use Rattle.std.specs.Prelude.{◌≡◌, ◌≤◌, ◌<◌, IfOk, List, length};
-ghost use Rattle.eq_core.specs.Gates.{opposite};
-ghost use Rattle.eq_core.specs.Views.{operand_of};
 ghost use Rattle.eq_build.specs.Builds.{most_gates};
 ghost use Rattle.eq_build.specs.Views.{entries_in, operands_in, gates_in, row_at, MakesEntries};
 ghost use Rattle.ar_meaning.specs.Systems.{Variable as SystemVariable};
@@ -69,19 +67,13 @@ fn opposites(alloc: Global, row: &[Entry]) -> Result<Vec<Operand>, Memory>
 {
     let mut operands = Vec::new(alloc);
     for entry in row {
-        operands.push(opposite(entry.operand))?;
+        let opposite = match entry.operand {
+            Operand::Always => Operand::Never,
+            Operand::Never => Operand::Always,
+            Operand::Event(event, sign) => Operand::Event(event, !sign),
+            Operand::Gate(gate, sign) => Operand::Gate(gate, !sign),
+        };
+        operands.push(opposite)?;
     }
     Ok(operands)
-}
-
-// The opposite of an operand.
-fn opposite(operand: Operand) -> Operand
-    ensures { operand_of result ≡ opposite (operand_of operand) }
-{
-    match operand {
-        Operand::Always => Operand::Never,
-        Operand::Never => Operand::Always,
-        Operand::Event(event, sign) => Operand::Event(event, !sign),
-        Operand::Gate(gate, sign) => Operand::Gate(gate, !sign),
-    }
 }

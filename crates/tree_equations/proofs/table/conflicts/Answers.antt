@@ -1,5 +1,5 @@
-use Rattle.std.proofs.Common.{◌++◌, ℕ, List, length, map, sym, ap, ◌∙◌, subst, arith}
-use Rattle.std.proofs.lemmas.List.{length-map}
+use Rattle.std.proofs.Common.{◌++◌, ℕ, List, length, map, sym, ap, ◌∙◌, subst, append_assoc, arith}
+use Rattle.std.proofs.lemmas.List.{length-map, map-append}
 use Rattle.ar_base.specs.Lists.{Along, IsOneOf}
 use Rattle.ar_base.proofs.Standing.{stands_within, along_length}
 use Rattle.eq_core.specs.Gates.{Operand, Gate, any_of}
@@ -190,14 +190,17 @@ returns c =
     (subst (λ (xs : List Assign). Threads (Sees_broken (row_at c.deref-9.result.now)) g4 (map assign_of xs) broken g5)
     c.deref-10.ensures.value c.in_ok-seen_broken.ensures.0) in
     let m = any_of g5 (twos ++ (outs ++ broken)) in
-    let all = ap (λ (z : List sign.Operand). operands_in
-    z ++ (operands_in c.deref-12.result.now ++ operands_in c.deref-13.result.now))
-    c.deref-11.ensures.value
-    ∙ ap (λ (z : List sign.Operand). twos ++ (operands_in z ++ operands_in c.deref-13.result.now))
-    c.deref-12.ensures.value
-    ∙ ap (λ (z : List sign.Operand). twos ++ (outs ++ operands_in z)) c.deref-13.ensures.value in
-    both_give total m (Conflicting net known g) c.one_of_all.result c.one_of_all.new.gates.items
+    let first = c.in_ok-seen_twice.seen_twice.items in
+    let second = c.in_ok-seen_outside.seen_outside.items in
+    let third = c.in_ok-seen_broken.seen_broken.items in
+    let joined = c.deref-13.ensures.value ∙ c.in_ok-extend_from_slice-2.ensures.items
+    ∙ ap (λ (z : List sign.Operand). z ++ c.deref-12.result.now) c.in_ok-extend_from_slice.ensures.items
+    ∙ ap (λ (z : List sign.Operand). (first ++ z) ++ c.deref-12.result.now) c.deref-11.ensures.value
+    ∙ ap (λ (z : List sign.Operand). (first ++ second) ++ z) c.deref-12.ensures.value
+    ∙ append_assoc first second third in
+    let all = ap operands_in joined ∙ map-append operand_of first (second ++ third)
+    ∙ ap (λ (z : List Operand). twos ++ z) (map-append operand_of second third) in
+    both_give total m (Conflicting net known g) c.made.result c.made.new.gates.items
     (conflict_last net known g twos g2 d2 w.leaving w.all outs g3 d3 totals g4 d4 total is broken g5 d5)
     (conflict_one net known g twos g2 d2 w.leaving w.all outs g3 d3 totals g4 d4 total is broken g5 d5)
-    (subst (λ (z : List Operand). MakesOperand (any_of g5 z) c.one_of_all.result c.one_of_all.new.gates.items) all
-    c.one_of_all.ensures)
+    (subst (λ (z : List Operand). MakesOperand (any_of g5 z) c.made.result c.made.new.gates.items) all c.made.ensures)

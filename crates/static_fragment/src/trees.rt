@@ -1,13 +1,12 @@
 //! The trees of the mode variables.
 
-ghost use Rattle.std.specs.Prelude.{◌≡◌, ◌<◌, length, IfOk};
-ghost use Rattle.ar_meaning.specs.Found.{IsAnswer};
+ghost use Rattle.std.specs.Prelude.{◌≡◌, length, IfOk};
 ghost use Rattle.gts_core.specs.Sound.{IsSound};
 ghost use Rattle.static_fragment.specs.Stages.{AreFromWays, NoneAgain};
-ghost use Rattle.static_fragment.specs.Trees.{AreTreesBelow, HasTree};
+ghost use Rattle.static_fragment.specs.Trees.{AreTreesBelow};
 
 use ar_base::{Memory, VarId};
-use gts_core::{GtsParts, Variable};
+use gts_core::GtsParts;
 use mode_search::Reach;
 use mode_trees::{Forest, ModeTree, edges_below};
 use std::alloc::Global;
@@ -28,7 +27,7 @@ pub(crate) fn forest(
 {
     let mut trees = Vec::new(alloc);
     for (n, variable) in parts.variables.iter().enumerate() {
-        if has_tree(variable, moving) {
+        if variable.is_state && moving[variable.unit.n as usize] {
             let edges = edges_below(alloc, variable.value, &reaches[n].edges)?;
             trees.push(ModeTree {
                 variable: VarId::new(n as u32),
@@ -38,12 +37,4 @@ pub(crate) fn forest(
         }
     }
     Ok(Forest { trees })
-}
-
-// Whether this is a state variable of a unit that moves.
-fn has_tree(variable: &Variable, moving: &[bool]) -> bool
-    requires { variable.now.unit.n < length moving.now }
-    ensures { IsAnswer result (HasTree moving.now variable.now) }
-{
-    variable.is_state && moving[variable.unit.n as usize]
 }

@@ -1,19 +1,18 @@
 //! The cone of an observer.
 
-ghost use Rattle.std.specs.Prelude.{◌≡◌, ◌==◌, ◌<◌, ◌↔◌, ℕ, [], if◌then◌else◌, length, IfOk};
+ghost use Rattle.std.specs.Prelude.{◌≡◌, ◌==◌, ◌<◌, ℕ, [], if◌then◌else◌, length, IfOk};
 ghost use Rattle.ar_base.specs.Lists.{Stands, IsOneOf};
 ghost use Rattle.gts_core.specs.View.{net_of, numbered};
 ghost use Rattle.gts_core.specs.declared.system.Observer.{Observer};
 ghost use Rattle.flow_reasons.specs.Reasons.{IsCone};
 ghost use Rattle.flow_reasons.specs.Answers.{numbers_of, reasons_of, AreOfState};
-ghost use Rattle.flow_reasons.specs.Cones.{AreOrderly, AreReached, AreRestsUpon, NamesNumber};
+ghost use Rattle.flow_reasons.specs.Cones.{AreOrderly, AreReached, AreRestsUpon};
 
 use crate::reason::Reason;
 use crate::seeing::{members, see_all};
 use ar_base::{Memory, VarId};
 use gts_core::{Gts, add_named};
 use std::alloc::Global;
-use typed_expr::Expr;
 
 /// The cone of an observer: the variables that it names, and with each flow the variables that its reason rests on, by number.
 ///
@@ -32,19 +31,10 @@ pub fn cone(
         (numbered one.value) (numbers_of found.items)) }
 {
     let parts = gts.parts();
-    let first = named(alloc, &parts.observers[observer as usize].value)?;
+    let mut first = Vec::new(alloc);
+    add_named(&parts.observers[observer as usize].value, &mut first)?;
     let seen = reached(alloc, parts.variables.len(), reasons, &first)?;
     members(alloc, &seen)
-}
-
-// The variables that an expression names, as often as it names them.
-fn named(alloc: Global, expr: &Expr<VarId>) -> Result<Vec<VarId>, Memory>
-    ensures { IfOk result (λ first. (n : ℕ)
-        → (IsOneOf (numbers_of first.items) n ↔ NamesNumber expr.now n)) }
-{
-    let mut first = Vec::new(alloc);
-    add_named(expr, &mut first)?;
-    Ok(first)
 }
 
 // Which variables are reached from these by the reasons.

@@ -5,7 +5,7 @@ ghost use Rattle.ar_base.specs.Lists.{IsOneOf, Stands};
 ghost use Rattle.ar_meaning.specs.Found.{IsAnswer};
 ghost use Rattle.gts_core.specs.Sound.{IsSound};
 ghost use Rattle.flow_propagate.specs.Plan.{AreReaders};
-ghost use Rattle.flow_reasons.specs.Resting.{came_before, IsMarkedRest, AreRests, AreEmpty, AddsRest};
+ghost use Rattle.flow_reasons.specs.Resting.{IsMarkedRest, AreRests, AreEmpty, AddsRest};
 
 use crate::known::Mark;
 use ar_base::{Memory, VarId};
@@ -68,17 +68,13 @@ fn add_rest(
 fn is_rest(mark: Mark, assign: u32, other: Mark) -> bool
     ensures { IsAnswer result (IsMarkedRest mark assign other) }
 {
-    match mark {
-        Mark::Added(round, by) => by.n == assign && came_before(other, round),
-        _ => false,
+    let Mark::Added(round, by) = mark else {
+        return false;
+    };
+    if by.n != assign {
+        return false;
     }
-}
-
-// Whether the fact came before this round.
-fn came_before(mark: Mark, round: u32) -> bool
-    ensures { result ≡ came_before mark round }
-{
-    match mark {
+    match other {
         Mark::Unknown => false,
         Mark::Given => true,
         Mark::Added(r, _) => r < round,

@@ -1,6 +1,6 @@
 //! The rounds in which the facts of a standing valuation come.
 
-ghost use Rattle.std.specs.Prelude.{◌≡◌, ◌<◌, ◌+◌, ◌^◌, ◌↔◌, ℕ, true, false, if◌then◌else◌, length, map, IfOk};
+ghost use Rattle.std.specs.Prelude.{◌≡◌, ◌<◌, ◌+◌, ◌^◌, ◌↔◌, ℕ, true, false, length, map, IfOk};
 ghost use Rattle.std.specs.List.Sorted.{IsNonDecreasingBy};
 ghost use Rattle.ar_base.specs.Lists.{IsOneOf};
 ghost use Rattle.ar_base.specs.Sets.{Ascends};
@@ -49,16 +49,14 @@ fn first_marks(alloc: Global, parts: &GtsParts) -> Result<Vec<Mark>, Memory>
 {
     let mut marks = Vec::new(alloc);
     for variable in &parts.variables {
-        marks.push(first_mark(variable.is_state))?;
+        let mark = if variable.is_state {
+            Mark::Given
+        } else {
+            Mark::Unknown
+        };
+        marks.push(mark)?;
     }
     Ok(marks)
-}
-
-// The first mark of a variable.
-fn first_mark(is_state: bool) -> Mark
-    ensures { result ≡ (if is_state then Mark.Given else Mark.Unknown) }
-{
-    if is_state { Mark::Given } else { Mark::Unknown }
 }
 
 // The assignments that bring something in the first round: all are looked at.

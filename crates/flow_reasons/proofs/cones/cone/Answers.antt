@@ -10,7 +10,7 @@ use Rattle.flow_reasons.specs.Reasons.{IsCone}
 use Rattle.flow_reasons.specs.Answers.{numbers_of, reasons_of}
 use Rattle.flow_reasons.specs.Cones.{AreOrderly, AreMembers, AreReached}
 use Rattle.flow_reasons.proofs.Gathering.{variables_as}
-use Rattle.flow_reasons.proofs.Followed.{orderly, first_below, is_cone}
+use Rattle.flow_reasons.proofs.Followed.{orderly, first_below, is_cone, names_numbers}
 use Rattle.flow_reasons.proofs.cones.cone.Goals as goal
 
 pub reached-requires-clause-orderly : goal.reached-requires-clause-orderly
@@ -34,7 +34,9 @@ reached-requires-clause-below c = λ n i.
     (subst (λ (z : GtsParts). o ≡ get_or z.observers.items c.args.observer o) c.parts-parts.ensures.parts
     c.index.ensures) in
     let h = first_below p c.parts-parts.ensures.sound o (one_here p.observers.items c.args.observer o st) []
-    (numbers_of c.in_ok-first.first.items) c.in_ok-first.ensures n
+    (numbers_of c.add_named.new.found.items)
+    (names_numbers o.value c.new-first.result.items c.add_named.new.found.items c.new-first.ensures.items
+    c.in_ok-add_named.ensures) n
     (subst (λ (z : List VarId). IsOneOf (numbers_of z) n) c.deref.ensures.value i) in
     omega (arith, h, whole, e)
 
@@ -43,7 +45,7 @@ returns c = λ one so.
     let p = c.args.gts.now in
     let o = c.index.result.now in
     let rs = reasons_of c.args.reasons.now in
-    let first = numbers_of c.in_ok-first.first.items in
+    let first = numbers_of c.add_named.new.found.items in
     let seen = c.in_ok-seen.seen.items in
     let whole : c.len.result ≡ length c.parts-parts.result.now.variables.items = search rules in
     let e : c.len.result ≡ length p.variables.items =
@@ -60,7 +62,8 @@ returns c = λ one so.
     (λ v h. subst (λ (z : Observer). IsCone (net_of p) rs (numbered z.value) (numbers_of v.items))
     (stands_one p.observers.items c.args.observer o one st so)
     (is_cone p c.parts-parts.ensures.sound o (one_here p.observers.items c.args.observer o st) rs first
-    c.in_ok-first.ensures seen (numbers_of v.items)
+    (names_numbers o.value c.new-first.result.items c.add_named.new.found.items c.new-first.ensures.items
+    c.in_ok-add_named.ensures) seen (numbers_of v.items)
     (c.in_ok-seen.ensures.long ∙ e) order reached
     (subst (λ (z : List Bool). AreMembers z (length z) (numbers_of v.items)) c.deref-2.ensures.value h)))
     c.members.ensures

@@ -2,18 +2,16 @@
 
 ghost use Rattle.std.specs.Prelude.{◌<◌, IfOk, OnOk, length, map};
 ghost use Rattle.ar_base.specs.Lists.{Stands};
-ghost use Rattle.domains.specs.Domains.{IsDomain};
 ghost use Rattle.gts_core.specs.Sound.{IsSound};
 ghost use Rattle.gts_core.specs.View.{variable_of, assign_of};
 ghost use Rattle.gts_core.specs.declared.system.Variable.{Variable as FlatVariable};
 ghost use Rattle.tree_equations.specs.Index.{IsIndex, AreNumbersOf, AreLeaving, AddsLeaving, to_target};
-ghost use Rattle.gts_core.specs.Rows.{AreDomains, Says};
-ghost use Rattle.tree_equations.specs.Leaving.{MayGiveOutside};
+ghost use Rattle.gts_core.specs.Rows.{AreDomains};
 
 use crate::index::Index;
 use ar_base::Memory;
 use flow_propagate::some_outside;
-use gts_core::{Assign, Domains, GtsParts, Variable, domains_of};
+use gts_core::{Domains, GtsParts, domains_of};
 use std::alloc::Global;
 use typed_expr::eval_set;
 
@@ -33,7 +31,7 @@ pub(crate) fn leaving(alloc: Global, parts: &GtsParts, index: &Index) -> Result<
     Ok(leaving)
 }
 
-// Those of the assignments to a flow.
+// Those of the assignments to a flow that may give a value outside its domain.
 fn push_leaving(
     alloc: Global,
     parts: &GtsParts,
@@ -55,24 +53,10 @@ fn push_leaving(
 {
     let variable = &parts.variables[flow];
     for k in numbers {
-        let leaves = may_leave(alloc, domains, variable, &parts.assigns[*k as usize])?;
-        if leaves {
+        let set = eval_set(alloc, &parts.assigns[*k as usize].value, domains)?;
+        if some_outside(&variable.domain, set.values()) {
             leaving.push(*k)?;
         }
     }
     Ok(())
-}
-
-// Whether an assignment may give a value outside the domain of this variable, its target.
-fn may_leave(
-    alloc: Global,
-    domains: &Domains,
-    variable: &Variable,
-    assign: &Assign,
-) -> Result<bool, Memory>
-    requires { IsDomain variable.now.domain }
-    ensures { IfOk result (Says domains.now.rows.items (MayGiveOutside variable.now assign.now)) }
-{
-    let set = eval_set(alloc, &assign.value, domains)?;
-    Ok(some_outside(&variable.domain, set.values()))
 }

@@ -1,5 +1,8 @@
-use Rattle.std.proofs.Common.{◌<◌, ◌+◌, ℕ, length, get_or, sym, subst, rules, Vec, Global}
+use Rattle.std.proofs.Common.{◌<◌, ◌+◌, ℕ, length, List, Contains, get_or, sym, subst, rules, Vec, Global}
 use Rattle.std.proofs.lemmas.List.{get_or_default}
+use Rattle.domains.specs.Domains.{Holds}
+use Rattle.domains.specs.declared.Value.{Value}
+use Rattle.ar_meaning.specs.Found.{IsAnswer}
 use Rattle.ar_base.proofs.Standing.{stands_within, stands_one, stands_item}
 use Rattle.ar_base.proofs.Items.{none_left}
 use Rattle.gts_core.specs.declared.system.Variable.{Variable}
@@ -7,10 +10,11 @@ use Rattle.gts_core.specs.declared.system.Assign.{Assign}
 use Rattle.tree_equations.specs.Index.{to_target}
 use Rattle.tree_equations.specs.Leaving.{MayGiveOutside}
 use Rattle.ar_meaning.proofs.Found.{holds, fails}
+use Rattle.tree_equations.proofs.Allowing.{leave_answer}
 use Rattle.tree_equations.proofs.Giving.{along_at, along_end}
 use Rattle.tree_equations.proofs.LeavingLemmas.{OneSoFar, one_start, one_leaves, one_stays, one_end}
 use Rattle.tree_equations.proofs.leaving.push_leaving.Goals as goal
-use Rattle.tree_equations.proofs.leaving.push_leaving.Goals.{then-leaves+in_ok-push, else-leaves}
+use Rattle.tree_equations.proofs.leaving.push_leaving.Goals.{then-some_outside+in_ok-push, else-some_outside}
 
 pub index-requires : goal.index-requires
 index-requires c =
@@ -22,8 +26,8 @@ index-requires c =
     let h : k < length xs = stands_within xs k at.0 at.1 in
     search (rules, h)
 
-pub may_leave-requires : goal.may_leave-requires
-may_leave-requires c =
+pub some_outside-requires : goal.some_outside-requires
+some_outside-requires c =
     let vs = c.args.parts.now.variables.items in
     let x = c.index-variable.result.now in
     (c.requires.sound.variables c.args.flow x
@@ -48,19 +52,24 @@ loop-k-preserved c = λ x at.
     let v = c.index-variable.result.now in
     let one = stands_one p.variables.items flow v x
     (stands_item p.variables.items flow v c.requires.flow c.index-variable.ensures) at in
-    let answer = c.in_ok-leaves.ensures p c.requires.domains in
+    let b = c.some_outside.result in
+    let domain = (c.requires.sound.variables flow v
+    (stands_item p.variables.items flow v c.requires.flow c.index-variable.ensures)).domain in
+    let answer = leave_answer p c.args.domains.now.rows.items c.requires.domains v item _ c.in_ok-set.ensures.yields domain b
+    (subst (λ (z : List Value). IsAnswer b ((y : Value) × Contains z y × (Holds v.domain y → ⊥)))
+    c.values.ensures.values c.some_outside.ensures) in
     let so_far = c.loop-k.invariant x at in
-    elim c.if-leaves.branch [
-      | then-leaves+in_ok-push w ↦
+    elim c.if-some_outside.branch [
+      | then-some_outside+in_ok-push w ↦
           subst (λ (z : Vec ℕ Global). OneSoFar p flow x at old (i + 1) z.items) (sym w.leaving-is)
           (one_leaves p flow x at old i k c.loop-k.leaving.items a.0 a.2 a.1 so_far w.push.new.self.items
           w.in_ok-push.ensures.items
           (subst (λ (z : Variable). MayGiveOutside z a.0 p) one
-          (subst (λ (z : Assign). MayGiveOutside v z p) same (holds _ c.in_ok-leaves.leaves w.if-leaves.true answer))))
-      | else-leaves w ↦
+          (subst (λ (z : Assign). MayGiveOutside v z p) same (holds _ b w.if-some_outside.true answer))))
+      | else-some_outside w ↦
           subst (λ (z : Vec ℕ Global). OneSoFar p flow x at old (i + 1) z.items) (sym w.leaving-is)
           (one_stays p flow x at old i k c.loop-k.leaving.items a.0 a.2 a.1 so_far
-          (λ m. fails _ c.in_ok-leaves.leaves w.if-leaves.false answer
+          (λ m. fails _ b w.if-some_outside.false answer
           (subst (λ (z : Assign). MayGiveOutside v z p) (sym same)
           (subst (λ (z : Variable). MayGiveOutside z a.0 p) (sym one) m))))
     ]

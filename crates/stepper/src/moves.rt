@@ -2,7 +2,7 @@
 
 ghost use Rattle.std.specs.Prelude.{◌≡◌, ◌<◌, ℕ, length, IfErr, IfOk, OnErr, OnOk};
 ghost use Rattle.ar_meaning.specs.Systems.{Way};
-ghost use Rattle.ar_meaning.specs.Runs.{Start, first_values};
+ghost use Rattle.ar_meaning.specs.Runs.{first_values};
 ghost use Rattle.flow_propagate.specs.NewValues.{AreNewValues, written};
 ghost use Rattle.flow_propagate.specs.Plan.{IsPlan};
 ghost use Rattle.ar_meaning.specs.Flows.{Flows, Total};
@@ -14,13 +14,13 @@ ghost use Rattle.gts_core.specs.View.{net_of, IsWayAt};
 ghost use Rattle.gts_core.specs.Readings.{IsTotal};
 ghost use Rattle.way_flags.specs.Ready.{IsReady};
 ghost use Rattle.way_flags.specs.Ways.{AreFlags};
-ghost use Rattle.stepper.specs.Steps.{IsStepFault, IsStartFault};
+ghost use Rattle.stepper.specs.Steps.{IsStepFault};
 
 use crate::changes::StepChanges;
 use crate::faults::StepFault;
 use ar_base::{Memory, VarId, WayId};
 use domains::Value;
-use flow_changes::{Present, make_present, propagate_from, restore};
+use flow_changes::{Present, propagate_from, restore};
 use flow_propagate::{Plan, PropagateFault};
 use gts_core::{Gts, GtsParts, Valuation};
 use std::alloc::Global;
@@ -54,19 +54,8 @@ pub(crate) fn next_values(
     }
 }
 
-/// What is present at the start.
-pub(crate) fn first(alloc: Global, gts: &Gts, plan: &Plan) -> Result<Present, PropagateFault>
-    requires { IsPlan gts.now plan.now }
-    ensures present { IfOk result (λ it. IsPresent gts.now it) }
-    ensures starts { IfOk result (λ it. Start (net_of gts.now) it.determined.values.values.items) }
-    ensures fault { IfErr result (IsStartFault (net_of gts.now)) }
-{
-    let state = declared(alloc, gts.parts())?;
-    make_present(alloc, gts, plan, &state)
-}
-
-// The declared values.
-fn declared(alloc: Global, parts: &GtsParts) -> Result<Valuation, Memory>
+/// The declared values.
+pub(crate) fn declared(alloc: Global, parts: &GtsParts) -> Result<Valuation, Memory>
     ensures { IfOk result (λ state. state.values.items
         ≡ first_values (net_of parts.now).variables) }
 {

@@ -19,10 +19,10 @@ ghost use Rattle.stepper.specs.Steps.{IsStartFault, IsStepFault};
 use crate::changes::StepChanges;
 use crate::faults::{NoStep, StepFault};
 use crate::keeping::{keep, make_room};
-use crate::moves::{first, go_on, next_values};
+use crate::moves::{declared, go_on, next_values};
 use ar_base::{VarId, WayId};
 use domains::Value;
-use flow_changes::{Present, restore};
+use flow_changes::{Present, make_present, restore};
 use flow_propagate::{Plan, PropagateFault, make_plan};
 use gts_core::{Gts, Valuation};
 use std::alloc::Global;
@@ -74,8 +74,9 @@ impl<'a> Stepper<'a> {
         ensures fault { IfErr result (IsStartFault (net_of gts.now)) }
     {
         let plan = make_plan(alloc, gts)?;
-        let present = first(alloc, gts, &plan)?;
         let parts = gts.parts();
+        let state = declared(alloc, parts)?;
+        let present = make_present(alloc, gts, &plan, &state)?;
         let index = way_index(alloc, parts)?;
         let can = way_flags(alloc, parts, &index, &present.determined.values.values)?;
         Ok(Stepper {

@@ -20,9 +20,20 @@ pub run_passes : (bs : List ℕ) → IsPath (take (prefix_len is_path_byte bs) b
 run_passes [] = tt
 run_passes (b ∷ bs) = passes_cons b bs (is_path_byte b) refl (run_passes bs)
 
-stop_len : (back : List ℕ) → Stops back → prefix_len is_path_byte back ≡ 0
+pub stop_len : (back : List ℕ) → Stops back → prefix_len is_path_byte back ≡ 0
 stop_len [] h = refl
 stop_len (b ∷ back) h = ap (λ r. cond r (1 + prefix_len is_path_byte back) 0) h
+
+pub len_stops : (back : List ℕ) → prefix_len is_path_byte back ≡ 0 → Stops back
+len_stops [] h = tt
+len_stops (b ∷ back) h = by (is_path_byte b) refl
+  where
+    by : (r : Bool) → is_path_byte b ≡ r → is_path_byte b ≡ false
+    by true e =
+        let more : 1 + prefix_len is_path_byte back ≡ 0 =
+        sym (ap (λ r. cond r (1 + prefix_len is_path_byte back) 0) e) ∙ h in
+        absurd (omega (arith, more))
+    by false e = e
 
 -- a path before a stop is the run
 pub run_exact : (front back : List ℕ) → IsPath front → Stops back

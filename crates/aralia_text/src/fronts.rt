@@ -143,17 +143,6 @@ fn digits(rest: &[u8], gates: u32) -> (u32, usize)
     (value, n)
 }
 
-// Whether a path goes on here.
-fn goes_on(rest: &[u8]) -> bool
-    ensures yes { result ≡ true → Stops rest.now → ⊥ }
-    ensures no { result ≡ false → Stops rest.now }
-{
-    match rest.first() {
-        Some(byte) => is_path_byte(*byte),
-        None => false,
-    }
-}
-
 // One of so many gates: `g` and its number, from 1.
 fn gate<'a>(rest: &'a [u8], gates: u32) -> Result<(GateId, &'a [u8]), Stuck>
     ensures found { IfOk result (λ r.
@@ -167,7 +156,9 @@ fn gate<'a>(rest: &'a [u8], gates: u32) -> Result<(GateId, &'a [u8]), Stuck>
     let behind = literal(rest, b"g")?;
     let (value, n) = digits(behind, gates);
     let left = behind.split_at(n).1;
-    if n == 0 || goes_on(left) {
+    // a number behind which a path goes on is none
+    let run = path_len(left);
+    if n == 0 || run > 0 {
         return Err(Stuck { left: left.len() });
     }
     Ok((GateId::new(value - 1), left))

@@ -4,7 +4,7 @@ ghost use Rattle.std.specs.Prelude.{◌<◌, ◌^◌, ℕ, length, IfOk};
 ghost use Rattle.ar_base.specs.Lists.{IsOneOf};
 ghost use Rattle.flow_reasons.specs.Answers.{numbers_of};
 ghost use Rattle.flow_propagate.specs.Marks.{AreMarked};
-ghost use Rattle.flow_reasons.specs.Cones.{Sees, SeesAll, AreMembers};
+ghost use Rattle.flow_reasons.specs.Cones.{SeesAll, AreMembers};
 
 use ar_base::{Memory, VarId};
 use std::alloc::Global;
@@ -21,20 +21,11 @@ pub(crate) fn see_all(
         found.new.items) }
 {
     for variable in variables {
-        see(variable.n, seen, found)?;
-    }
-    Ok(())
-}
-
-// Sees a variable.
-fn see(n: u32, seen: &mut [bool], found: &mut Vec<u32>) -> Result<(), Memory>
-    requires are { AreMarked seen.old found.old.items }
-    requires below { n < length seen.old }
-    ensures { IfOk result (λ _. Sees n seen.old seen.new found.old.items found.new.items) }
-{
-    if !seen[n as usize] {
-        seen[n as usize] = true;
-        found.push(n)?;
+        let n = variable.n as usize;
+        if !seen[n] {
+            seen[n] = true;
+            found.push(variable.n)?;
+        }
     }
     Ok(())
 }

@@ -9,10 +9,8 @@ ghost use Rattle.mode_trees.specs.Ways.{OwnTheirWays};
 ghost use Rattle.static_fragment.specs.Recognised.{IsRecognised, IsRefused};
 
 use crate::faults::FragmentFault;
-use crate::showing::at_variable;
-use crate::stages::{
-    judge_events, judge_values, judged_reaches, judged_sharing, judged_units, judged_ways,
-};
+use crate::showing::{at_variable, at_whole};
+use crate::stages::{judge_values, judged_reaches, judged_sharing, judged_units, judged_ways};
 use crate::trees::forest;
 use ar_base::EventId;
 use gts_core::Gts;
@@ -48,7 +46,7 @@ pub fn recognise(alloc: Global, gts: &Gts, dropped: &[EventId]) -> Result<Forest
     let sharing = judged_sharing(alloc, parts, &reaches)?;
     at_variable(6, least_again(&reaches))?;
     judge_values(alloc, parts)?;
-    judge_events(&sharing)?;
+    at_whole(sharing.events.len())?;
     let trees = forest(alloc, parts, &units.moving, &reaches)?;
     Ok(trees)
 }

@@ -9,7 +9,7 @@ ghost use Rattle.static_fragment.specs.Shown.{lesser_of};
 ghost use Rattle.static_fragment.specs.Stages.{Judges, HasUnits, HasWays, HasReaches, HasSharing, IsSeen, AreFromWays};
 
 use crate::faults::{FragmentFault, Spot};
-use crate::showing::{at_variable, at_whole};
+use crate::showing::at_variable;
 use ar_base::{EventId, UnitId, VarId};
 use gts_core::GtsParts;
 use mode_search::{
@@ -125,14 +125,6 @@ pub(crate) fn judge_values(alloc: Global, parts: &GtsParts) -> Result<(), Fragme
         Wide::Flow(n) => Err(FragmentFault::Outside(7, Spot::Variable(VarId::new(n)))),
         Wide::Observer(n) => Err(FragmentFault::Outside(7, Spot::Observer(n))),
     }
-}
-
-// Refuses where the eighth rule is broken.
-pub(crate) fn judge_events(sharing: &Sharing) -> Result<(), FragmentFault>
-    ensures { Judges (HasSharing 8 sharing.now)
-        (λ system d _. HasSharing 9 sharing.now system d) result }
-{
-    at_whole(sharing.events.len())
 }
 
 // The lesser of two numbers, where there are both.

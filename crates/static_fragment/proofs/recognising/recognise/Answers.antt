@@ -12,8 +12,8 @@ use Rattle.mode_trees.specs.Ways.{OwnTheirWays}
 use Rattle.mode_search.specs.declared.searching.Reach.{Reach}
 use Rattle.mode_search.specs.Reaches.{IsAgainAt}
 use Rattle.static_fragment.specs.Recognised.{IsRefused}
-use Rattle.static_fragment.specs.Stages.{HasWays, HasReaches, IsSeen, AreFromWays, NoneAgain}
-use Rattle.static_fragment.proofs.Judging.{if_err, nowhere, judged6, reaches_on, sharing_on, all_rules}
+use Rattle.static_fragment.specs.Stages.{HasWays, HasReaches, HasSharing, IsSeen, AreFromWays, NoneAgain}
+use Rattle.static_fragment.proofs.Judging.{if_err, nowhere, judged6, events_judged, reaches_on, sharing_on, all_rules}
 use Rattle.static_fragment.proofs.Forests.{is_forest, own_ways, trees_as}
 use Rattle.static_fragment.proofs.recognising.recognise.Goals as goal
 
@@ -95,8 +95,8 @@ returns-in_err-judge_values-clause-outside c = λ system views.
     if_err (IsRefused system d) c.from_residual-in_err-judge_values.result _ (x.1 ∙ ap Err x.2)
     (c.in_err-judge_values.ensures system d seen)
 
-pub returns-in_err-judge_events-clause-outside : goal.returns-in_err-judge_events-clause-outside
-returns-in_err-judge_events-clause-outside c = λ system views.
+pub returns-in_err-at_whole-clause-outside : goal.returns-in_err-at_whole-clause-outside
+returns-in_err-at_whole-clause-outside c = λ system views.
     let v = subst (λ (z : GtsParts). Views z system) (sym c.parts-parts.ensures.parts) views in
     let d = numbers_of c.args.dropped.now in
     let u = c.in_ok-units.ensures.rules system d (v, refl) in
@@ -114,10 +114,12 @@ returns-in_err-judge_events-clause-outside c = λ system views.
     let seen : IsSeen 7 p system d = record { views = v; keeps = r7.keeps } in
     let n = c.in_ok-judge_values.ensures system d seen in
     let s8 = sharing_on system d 6 8 c.in_ok-sharing.sharing s n.keeps in
-    let x = err_from_is_err_and c.from_residual-in_err-judge_events.result c.from_residual-in_err-judge_events.ensures.1
+    let x = err_from_is_err_and c.from_residual-in_err-at_whole.result c.from_residual-in_err-at_whole.ensures.1
     in
-    if_err (IsRefused system d) c.from_residual-in_err-judge_events.result _ (x.1 ∙ ap Err x.2)
-    (c.in_err-judge_events.ensures system d s8)
+    if_err (IsRefused system d) c.from_residual-in_err-at_whole.result _ (x.1 ∙ ap Err x.2)
+    (events_judged system d c.in_ok-sharing.sharing s8 c.len.result
+    (omega (arith, c.len.ensures, c.in_ok-sharing.sharing.events.ok.0)) (Err _)
+    c.in_err-at_whole.ensures)
 
 pub forest-requires-clause-once : goal.forest-requires-clause-once
 forest-requires-clause-once c = subst (λ (z : List Reach). NoneAgain z)
@@ -144,7 +146,10 @@ returns-clause-ok c = λ system views.
     let seen : IsSeen 7 p system d = record { views = v; keeps = r7.keeps } in
     let n = c.in_ok-judge_values.ensures system d seen in
     let s8 = sharing_on system d 6 8 c.in_ok-sharing.sharing s n.keeps in
-    let below = (c.in_ok-judge_events.ensures system d s8).keeps in
+    let last : HasSharing 9 c.in_ok-sharing.sharing system d = events_judged system d c.in_ok-sharing.sharing s8 c.len.result
+    (omega (arith, c.len.ensures, c.in_ok-sharing.sharing.events.ok.0)) (Ok _)
+    c.in_ok-at_whole.ensures in
+    let below = last.keeps in
     let r8 = reaches_on system d 5 9 p c.in_ok-reaches.reaches.items c.deref-5.result.now r below
     c.deref-5.ensures.value in
     let trees = trees_as p c.in_ok-units.units.moving.items c.deref-4.result.now c.deref-5.result.now

@@ -1,5 +1,6 @@
 -- One step of the family of a diagram, and its ends.
 use Rattle.std.proofs.Common.{◌≡◌, ◌⊎◌, ⊎_elim, inl, inr, ℕ, zero, suc, ◌+◌, ◌<◌, ◌≤◌, Bool, true, false, cond, ◌||◌, List, [], ◌∷◌, ◌++◌, length, refl, sym, ap, ◌∙◌, subst, arith, true≢false}
+use Rattle.std.specs.Int.{from_bool}
 use Rattle.ar_base.specs.Lists.{Stands, IsOneOf}
 use Rattle.ar_base.specs.Sets.{Within}
 use Rattle.ar_base.proofs.Comparing.{side, lt_or_same}
@@ -14,7 +15,7 @@ use Rattle.mode_nodes.proofs.Asking.{asks}
 use Rattle.mode_diagrams.specs.declared.trees.NumberedEdge.{NumberedEdge}
 use Rattle.mode_diagrams.specs.declared.trees.NumberedTree.{NumberedTree}
 use Rattle.mode_diagrams.specs.Trees.{edges_of, IsOnPath, last, earlier, IsNumbered, AreNumbered, IsSetFrom}
-use Rattle.mode_diagrams.specs.Sets.{HasSets, HasPath, IsWithPath, IsTrueFrom, IsTrueAtMode, IsTrueBelow, IsUnitWhere}
+use Rattle.mode_diagrams.specs.Sets.{HasSets, HasPath, IsWithPath, IsTrueFrom, IsTrueAtMode, IsTrueBelow}
 
 -- ---- a list of modes with another mode of one tree
 pub put_mode : List ℕ → ℕ → ℕ → List ℕ
@@ -377,8 +378,13 @@ never trees i s n f z is = record {
   whole = λ t x. absurd (true≢false (sym x.holds ∙ ap (value s x.modes) z ∙ value-false s.nodes x.modes));
 }
 
+-- a truth as a number
+pub from_truth : (holds : Bool) (n : ℕ) → n ≡ from_bool holds → n ≡ cond holds 1 0
+from_truth true n e = e
+from_truth false n e = e
+
 -- the families of the first two numbers
-pub unit_family : (s : nodes.Stored) (holds : Bool) (n : ℕ) → IsUnitWhere holds n
+pub unit_family : (s : nodes.Stored) (holds : Bool) (n : ℕ) → n ≡ cond holds 1 0
     → nodes.family s n ≡ cond holds ([] ∷ []) []
 unit_family s true n e = ap (nodes.family s) e
 unit_family s false n e = ap (nodes.family s) e

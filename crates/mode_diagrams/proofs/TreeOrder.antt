@@ -1,5 +1,5 @@
 -- Trees in the order of their events.
-use Rattle.std.proofs.Common.{◌≡◌, ◌⊎◌, ⊎_elim, inl, inr, ℕ, zero, suc, ◌+◌, ◌<◌, ◌≤◌, Bool, true, false, cond, nat_lt, List, [], ◌∷◌, ◌++◌, length, get_or, refl, sym, ap, ◌∙◌, subst, arith}
+use Rattle.std.proofs.Common.{◌≡◌, ◌⊎◌, ⊎_elim, inl, inr, ℕ, zero, suc, ◌+◌, ◌<◌, ◌≤◌, Bool, true, false, cond, nat_lt, List, [], ◌∷◌, ◌++◌, length, get_or, slice_get, Some, refl, sym, ap, ◌∙◌, subst, arith}
 use Rattle.std.specs.List.{swap}
 use Rattle.std.specs.List.Sorted.{IsPermutation, IsNonDecreasingBy}
 use Rattle.std.proofs.lemmas.Bool.Decides.{nat_tests}
@@ -61,6 +61,19 @@ least_more n [] x = refl
 least_more n (y ∷ xs) x = least_more (cond (nat_lt y.event.n n) y.event.n n) xs x
 
 -- one edge more, whose event is less or is not
+-- the first event of these edges, or 0 where there is none
+abbrev pub first_number : List NumberedEdge → ℕ
+first_number [] = 0
+first_number (e ∷ es) = e.event.n
+
+pub first_is : (es : List NumberedEdge) (e : NumberedEdge) → Some e ≡ slice_get es 0 → e.event.n ≡ first_number es
+first_is [] e h = let wrong : ⊥ = cc in absurd wrong
+first_is (x ∷ es) e h = let same : e ≡ x = cc in ap (λ (z : NumberedEdge). z.event.n) same
+
+pub least_whole : (es : List NumberedEdge) → least_from (first_number es) es ≡ least_event es
+least_whole [] = refl
+least_whole (e ∷ es) = refl
+
 pub least_less : (n : ℕ) (xs : List NumberedEdge) (x : NumberedEdge) (m : ℕ) → m ≡ least_from n xs → x.event.n < m
     → x.event.n ≡ least_from n (xs ++ x ∷ [])
 least_less n xs x m e h =

@@ -1,5 +1,5 @@
 -- Families by their sets, and sets with more events.
-use Rattle.std.specs.Prelude.{◌≡◌, ◌↔◌, ◌⊎◌, ◌≤◌, ◌<◌, ℕ, Bool, true, cond, if◌then◌else◌, eqb, nat_lt, List, [], ◌∷◌, length}
+use Rattle.std.specs.Prelude.{◌≡◌, ◌↔◌, ◌⊎◌, ◌≤◌, ◌<◌, ℕ, true, cond, eqb, nat_lt, List, [], ◌∷◌, length}
 use Rattle.ar_base.specs.Lists.{Stands, IsOneOf}
 use Rattle.ar_base.specs.Sets.{Within}
 use Rattle.zdd_families.specs.Families.{Family, has}
@@ -57,7 +57,3 @@ pub record IsTrueAtMode (trees : List NumberedTree) (i : ℕ) (s : Stored) (n m 
 -- such a set, where tree i is at one of its first so many modes
 abbrev pub IsTrueBelow : List NumberedTree → ℕ → Stored → ℕ → ℕ → List ℕ → Type 0
 IsTrueBelow trees i s n mode set = (m : ℕ) × (m < mode) × IsTrueAtMode trees i s n m set
-
--- the number of the family of the empty set alone, or of the empty family
-abbrev pub IsUnitWhere : Bool → ℕ → Type 0
-IsUnitWhere holds n = n ≡ (if holds then 1 else 0)

@@ -1,17 +1,15 @@
 //! The diagram of an operand, with those of the gates that it rests on.
 
-ghost use Rattle.std.specs.Prelude.{◌≡◌, ◌⊎◌, ◌≤◌, ◌<◌, List, IfOk, length, map, true};
-ghost use Rattle.eq_core.specs.Gates.{Gate as GateOf};
-ghost use Rattle.eq_core.specs.Ordered.{AreOrdered, AreBelow};
+ghost use Rattle.std.specs.Prelude.{◌≡◌, ◌⊎◌, ◌≤◌, IfOk, length, map};
+ghost use Rattle.eq_core.specs.Ordered.{AreOrdered};
 ghost use Rattle.eq_core.specs.Values.{IsBelow};
-ghost use Rattle.eq_core.specs.Views.{all_needed, gate_of, operand_of};
-ghost use Rattle.mode_nodes.specs.Diagrams.{IsNumber, Grows};
+ghost use Rattle.eq_core.specs.Views.{gate_of, operand_of};
 ghost use Rattle.mode_diagrams.specs.Trees.{AreNumbered, AreApart};
-ghost use Rattle.mode_diagrams.specs.Agreement.{Agrees, AgreesJoint, AreReady, AreTabled, AreClosed};
-ghost use Rattle.mode_diagrams.specs.Lacking.{ArePlaced, IsFull, LacksOne, LacksSome};
+ghost use Rattle.mode_diagrams.specs.Agreement.{Agrees, AreClosed};
+ghost use Rattle.mode_diagrams.specs.Lacking.{IsFull, LacksSome};
 ghost use Rattle.mode_diagrams.specs.Sets.{AreSmall};
 
-use crate::events::{TreePlaces, places};
+use crate::events::places;
 use crate::gates::{gate_diagram, operand_diagram};
 use crate::trees::NumberedTree;
 use ar_base::Memory;
@@ -102,42 +100,8 @@ pub fn draw(
     let places = places(alloc, trees)?;
     let mut table = Vec::new(alloc);
     for (number, gate) in gates.iter().enumerate() {
-        let drawn = next_gate(alloc, store, trees, &places, &table, gate, marks[number])?;
+        let drawn = gate_diagram(alloc, store, trees, &places, &table, gate, marks[number])?;
         table.push(drawn)?;
     }
     operand_diagram(alloc, store, trees, &places, &table, root)
-}
-
-// The diagram of the next gate, where it is marked, else false.
-fn next_gate(
-    alloc: Global,
-    store: &mut Diagrams,
-    trees: &[NumberedTree],
-    places: &TreePlaces,
-    table: &[DiagramId],
-    gate: &Gate,
-    marked: bool,
-) -> Result<DiagramId, Undrawn>
-    requires numbered { AreNumbered trees.now }
-    requires apart { AreApart trees.now }
-    requires small { AreSmall trees.now }
-    requires placed { ArePlaced trees.now (length trees.now) places.now }
-    requires table { AreTabled table.now store.old }
-    requires below { AreBelow (length table.now) (map operand_of gate.now.operands.items) }
-    ensures grows { Grows store.old store.new }
-    ensures number { IfOk result (λ n. IsNumber store.new n.n) }
-    ensures agrees { IfOk result (λ n. marked ≡ true → (gates : List GateOf)
-        → AreReady trees.now gates table.now store.old (map operand_of gate.now.operands.items)
-        → AgreesJoint trees.now gates (all_needed gate.now.joint)
-        (map operand_of gate.now.operands.items) store.new n.n) }
-    ensures beyond { result ≡ Err Undrawn.Beyond → (marked ≡ true)
-        × (IsFull store.new ⊎ LacksOne trees.now (map operand_of gate.now.operands.items)) }
-    ensures known { IfOk result (λ _. marked ≡ true
-        → LacksOne trees.now (map operand_of gate.now.operands.items) → ⊥) }
-{
-    if marked {
-        gate_diagram(alloc, store, trees, places, table, gate)
-    } else {
-        Ok(DiagramId::new(0))
-    }
 }

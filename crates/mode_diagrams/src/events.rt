@@ -4,7 +4,7 @@ ghost use Rattle.std.specs.Prelude.{◌≡◌, ◌⊎◌, ◌≤◌, ◌<◌, Li
 ghost use Rattle.eq_core.specs.Gates.{Gate, EventIs};
 ghost use Rattle.mode_nodes.specs.Diagrams.{Grows};
 ghost use Rattle.mode_diagrams.specs.Trees.{AreNumbered, AreApart, IsNumbered};
-ghost use Rattle.mode_diagrams.specs.Agreement.{Agrees, AreTold, IsToldAt};
+ghost use Rattle.mode_diagrams.specs.Agreement.{Agrees, AreTold};
 ghost use Rattle.mode_diagrams.specs.Lacking.{ArePlaced, Puts, HasNoTree, IsFull};
 ghost use Rattle.mode_diagrams.specs.Sets.{AreSmall};
 
@@ -40,7 +40,7 @@ fn put_all(places: &mut TreePlaces, edges: &[NumberedEdge], place: u32) -> Resul
     Ok(())
 }
 
-// For each mode of the tree 1 where the event is on the path to it, else 0.
+// For each mode of the tree 1 where the event is on the path to it, else 0: what an edge enters has that of what it leaves.
 fn told(alloc: Global, tree: &NumberedTree, event: EventId) -> Result<Vec<DiagramId>, Memory>
     requires { IsNumbered tree.now }
     ensures { IfOk result (λ ns. AreTold tree.now event.n ns.items) }
@@ -48,22 +48,14 @@ fn told(alloc: Global, tree: &NumberedTree, event: EventId) -> Result<Vec<Diagra
     let mut told = Vec::new(alloc);
     told.push(DiagramId::new(0))?;
     for edge in &tree.edges {
-        let next = told_at(&told, *edge, event);
+        let next = if edge.event.n == event.n {
+            DiagramId::new(1)
+        } else {
+            told[edge.from as usize]
+        };
         told.push(next)?;
     }
     Ok(told)
-}
-
-// The same for the mode that the edge enters, by that which it leaves.
-fn told_at(told: &[DiagramId], edge: NumberedEdge, event: EventId) -> DiagramId
-    requires { edge.from < length told.now }
-    ensures { IsToldAt told.now edge event.n result }
-{
-    if edge.event.n == event.n {
-        DiagramId::new(1)
-    } else {
-        told[edge.from as usize]
-    }
 }
 
 /// The diagram of an event. Beyond comes where the store is full, or where no tree has the event.

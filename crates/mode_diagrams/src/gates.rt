@@ -1,13 +1,13 @@
 //! The diagrams of operands and gates.
 
-ghost use Rattle.std.specs.Prelude.{◌≡◌, ◌⊎◌, ◌<◌, List, IfOk, length, map};
+ghost use Rattle.std.specs.Prelude.{◌≡◌, ◌⊎◌, ◌<◌, List, IfOk, length, map, true};
 ghost use Rattle.eq_core.specs.Gates.{Gate as GateOf};
 ghost use Rattle.eq_core.specs.Ordered.{AreBelow};
 ghost use Rattle.eq_core.specs.Values.{IsBelow};
 ghost use Rattle.eq_core.specs.Views.{all_needed, gate_of, operand_of};
 ghost use Rattle.mode_nodes.specs.Diagrams.{IsNumber, Grows};
 ghost use Rattle.mode_diagrams.specs.Trees.{AreNumbered, AreApart};
-ghost use Rattle.mode_diagrams.specs.Agreement.{Agrees, AgreesJoint, IsNeutral, IsSigned, IsJoined, IsReady, AreReady, AreTabled};
+ghost use Rattle.mode_diagrams.specs.Agreement.{Agrees, AgreesJoint, IsSigned, IsReady, AreReady, AreTabled};
 ghost use Rattle.mode_diagrams.specs.Lacking.{ArePlaced, IsFull, Lacks, LacksOne};
 ghost use Rattle.mode_diagrams.specs.Sets.{AreSmall};
 
@@ -70,28 +70,8 @@ pub(crate) fn operand_diagram(
     }
 }
 
-// Both hold, or either does.
-fn joined(
-    store: &mut Diagrams,
-    joint: Joint,
-    f: DiagramId,
-    g: DiagramId,
-) -> Result<DiagramId, Undrawn>
-    requires f_in { IsNumber store.old f.n }
-    requires g_in { IsNumber store.old g.n }
-    ensures grows { Grows store.old store.new }
-    ensures joined { IfOk result (λ n. IsJoined (all_needed joint) store.old f.n g.n store.new n.n) }
-    ensures beyond { result ≡ Err Undrawn.Beyond → IsFull store.new }
-{
-    let drawn = match joint {
-        Joint::And => store.and(f, g)?,
-        Joint::Or => store.or(f, g)?,
-    };
-    Ok(drawn)
-}
-
-/// The diagram of a gate: its operands are joined from the last to the first, so that neighbours meet where the trees of
-/// the first are not yet asked for.
+/// The diagram of a gate that is marked, else false: its operands are joined from the last to the first, so that neighbours
+/// meet where the trees of the first are not yet asked for.
 pub(crate) fn gate_diagram(
     alloc: Global,
     store: &mut Diagrams,
@@ -99,6 +79,7 @@ pub(crate) fn gate_diagram(
     places: &TreePlaces,
     table: &[DiagramId],
     gate: &Gate,
+    marked: bool,
 ) -> Result<DiagramId, Undrawn>
     requires numbered { AreNumbered trees.now }
     requires apart { AreApart trees.now }
@@ -108,31 +89,30 @@ pub(crate) fn gate_diagram(
     requires below { AreBelow (length table.now) (map operand_of gate.now.operands.items) }
     ensures grows { Grows store.old store.new }
     ensures number { IfOk result (λ n. IsNumber store.new n.n) }
-    ensures agrees { IfOk result (λ n. (gates : List GateOf)
+    ensures agrees { IfOk result (λ n. marked ≡ true → (gates : List GateOf)
         → AreReady trees.now gates table.now store.old (map operand_of gate.now.operands.items)
         → AgreesJoint trees.now gates (all_needed gate.now.joint)
         (map operand_of gate.now.operands.items) store.new n.n) }
-    ensures beyond { result ≡ Err Undrawn.Beyond
-        → IsFull store.new ⊎ LacksOne trees.now (map operand_of gate.now.operands.items) }
-    ensures known { IfOk result
-        (λ _. LacksOne trees.now (map operand_of gate.now.operands.items) → ⊥) }
+    ensures beyond { result ≡ Err Undrawn.Beyond → (marked ≡ true)
+        × (IsFull store.new ⊎ LacksOne trees.now (map operand_of gate.now.operands.items)) }
+    ensures known { IfOk result (λ _. marked ≡ true
+        → LacksOne trees.now (map operand_of gate.now.operands.items) → ⊥) }
 {
-    let mut so_far = neutral(gate.joint);
+    if !marked {
+        return Ok(DiagramId::new(0));
+    }
+    let mut so_far = match gate.joint {
+        Joint::And => DiagramId::new(1),
+        Joint::Or => DiagramId::new(0),
+    };
     let mut left = gate.operands.len();
     while left > 0 {
         left -= 1;
         let next = operand_diagram(alloc, store, trees, places, table, gate.operands[left])?;
-        so_far = joined(store, gate.joint, next, so_far)?;
+        so_far = match gate.joint {
+            Joint::And => store.and(next, so_far)?,
+            Joint::Or => store.or(next, so_far)?,
+        };
     }
     Ok(so_far)
-}
-
-// The diagram of no operands: true where all are needed, else false.
-fn neutral(joint: Joint) -> DiagramId
-    ensures { IsNeutral (all_needed joint) result.n }
-{
-    match joint {
-        Joint::And => DiagramId::new(1),
-        Joint::Or => DiagramId::new(0),
-    }
 }

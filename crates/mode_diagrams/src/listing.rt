@@ -4,7 +4,7 @@ ghost use Rattle.std.specs.Prelude.{◌≤◌, ◌+◌, ◌<◌, IfOk, length};
 ghost use Rattle.zdd_nodes.specs.Nodes.{family, IsNumber, IsSoundStore};
 ghost use Rattle.mode_nodes.specs.Diagrams.{IsNumber as IsDiagramNumber, IsFrom};
 ghost use Rattle.mode_diagrams.specs.Trees.{AreNumbered};
-ghost use Rattle.mode_diagrams.specs.Sets.{AreSmall, Extends, HasSets, IsTrueFrom, IsUnitWhere};
+ghost use Rattle.mode_diagrams.specs.Sets.{AreSmall, Extends, HasSets, IsTrueFrom};
 ghost use Rattle.mode_diagrams.specs.Kept.{AreHeld};
 
 use crate::NumberedTree;
@@ -42,7 +42,7 @@ fn family_from(
         (family ops.new n.n)) }
 {
     if place == trees.len() {
-        return Ok(unit_where(diagrams.holds_at_first(f)));
+        return Ok(NodeId::new(u32::from(diagrams.holds_at_first(f))));
     }
     if f.n == 0 {
         return Ok(NodeId::new(0));
@@ -63,17 +63,6 @@ fn family_from(
         sets = ops.union(sets, here)?;
     }
     held.remember(state, sets)
-}
-
-// The family of the empty set alone, or the empty family.
-fn unit_where(holds: bool) -> NodeId
-    ensures { IsUnitWhere holds result.n }
-{
-    if holds {
-        NodeId::new(1)
-    } else {
-        NodeId::new(0)
-    }
 }
 
 /// A family in a store of its own, which may have families besides.

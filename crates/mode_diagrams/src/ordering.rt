@@ -4,9 +4,9 @@ ghost use Rattle.std.specs.Prelude.{◌≡◌, ◌≤◌, ◌<◌, ℕ, IfOk, If
 ghost use Rattle.std.specs.List.Sorted.{IsPermutation};
 ghost use Rattle.mode_diagrams.specs.Trees.{edges_of, HasEvent};
 ghost use Rattle.mode_diagrams.specs.Order.{Ascend, AreSeparate, HasOverlap, HasBelow, IsEnd};
-ghost use Rattle.mode_diagrams.specs.Order.{least_event as least, least_from as least_of};
+ghost use Rattle.mode_diagrams.specs.Order.{least_event as least};
 
-use crate::trees::{NumberedEdge, NumberedTree};
+use crate::trees::NumberedTree;
 use ar_base::Memory;
 
 /// The trees in the order of their events, so that those of each tree are all below those of the trees after it. None
@@ -29,18 +29,11 @@ pub fn in_order(mut trees: Vec<NumberedTree>) -> Result<Option<Vec<NumberedTree>
 fn least_event(tree: &NumberedTree) -> u32
     ensures { result ≡ least (edges_of tree.now) }
 {
-    match tree.edges.first() {
-        Some(first) => least_from(first.event.n, &tree.edges),
-        None => 0,
-    }
-}
-
-// The least of a number and the events of these edges.
-fn least_from(number: u32, edges: &[NumberedEdge]) -> u32
-    ensures { result ≡ least_of number edges.now }
-{
-    let mut least = number;
-    for edge in edges {
+    let Some(first) = tree.edges.first() else {
+        return 0;
+    };
+    let mut least = first.event.n;
+    for edge in &tree.edges {
         if edge.event.n < least {
             least = edge.event.n;
         }

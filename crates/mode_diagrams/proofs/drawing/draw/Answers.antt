@@ -23,12 +23,12 @@ loop-number-init c = record {
       (drawing_begins c.args.trees.now (map gate_of c.args.gates.now) c.args.marks.now c.args.store.now);
 }
 
-pub next_gate-requires-clause-table : goal.next_gate-requires-clause-table
-next_gate-requires-clause-table c =
+pub gate_diagram-requires-clause-table : goal.gate_diagram-requires-clause-table
+gate_diagram-requires-clause-table c =
     subst (λ z. AreTabled z c.loop-number.store) (sym c.deref.ensures.value) c.loop-number.invariant.drawing.numbers
 
-pub next_gate-requires-clause-below : goal.next_gate-requires-clause-below
-next_gate-requires-clause-below c =
+pub gate_diagram-requires-clause-below : goal.gate_diagram-requires-clause-below
+gate_diagram-requires-clause-below c =
     let gates = c.args.gates.now in
     let number = c.loop-number.number in
     let gate = c.index-gates-number.result in
@@ -55,9 +55,9 @@ loop-number-preserved c =
     record {
       known = gates_more trees views marks number (gate_of gate) view
           (λ m. c.in_ok-drawn.ensures.known (get_or_from_slice_get marks number true false m)) c.loop-number.invariant.known;
-      drawing = subst (λ z. IsDrawing trees views marks (number + 1) z c.next_gate.new.store) (sym c.in_ok-push.ensures.items)
+      drawing = subst (λ z. IsDrawing trees views marks (number + 1) z c.gate_diagram.new.store) (sym c.in_ok-push.ensures.items)
           (drawing_next trees views root marks c.requires.closed number (gate_of gate) table c.loop-number.store
-          c.next_gate.new.store c.in_ok-drawn.drawn view c.requires.ordered c.loop-number.invariant.drawing
+          c.gate_diagram.new.store c.in_ok-drawn.drawn view c.requires.ordered c.loop-number.invariant.drawing
           c.in_ok-drawn.ensures.grows c.in_ok-drawn.ensures.number
           (λ m. c.in_ok-drawn.ensures.agrees (get_or_from_slice_get marks number true false m) views
           (subst (λ z. AreReady trees views z c.loop-number.store (map operand_of gate.operands.items))

@@ -7,7 +7,7 @@ use Rattle.mode_diagrams.specs.Sets.{HasSets, IsTrueFrom, IsTrueBelow}
 use Rattle.mode_diagrams.specs.declared.held.State.{State}
 use Rattle.mode_diagrams.proofs.Growing.{extends_none, extends_then, extends_by, kept}
 use Rattle.mode_diagrams.proofs.Holding.{held_grow, held_more, handed_sets}
-use Rattle.mode_diagrams.proofs.Stepping.{step, below_none, below_more, below_all, no_tree, never, unit_family}
+use Rattle.mode_diagrams.proofs.Stepping.{step, below_none, below_more, below_all, no_tree, never, unit_family, from_truth}
 use Rattle.mode_diagrams.proofs.listing.+family_from.Goals as goal
 
 pub returns-then-place-trees-clause-grows : goal.returns-then-place-trees-clause-grows
@@ -16,17 +16,17 @@ returns-then-place-trees-clause-grows t c = extends_none c.args.ops.now
 pub returns-then-place-trees-clause-sets : goal.returns-then-place-trees-clause-sets
 returns-then-place-trees-clause-sets t c =
     no_tree c.args.trees.now c.args.place c.args.diagrams.now c.holds_at_first.ensures.sound c.args.f.n
-    (family c.args.ops.now c.unit_where.result.n) c.if-place-trees.true c.requires.number c.requires.from
+    (family c.args.ops.now c.new.result.n) c.if-place-trees.true c.requires.number c.requires.from
     c.holds_at_first.result c.holds_at_first.ensures.value
-    (unit_family c.args.ops.now c.holds_at_first.result c.unit_where.result.n c.unit_where.ensures)
+    (unit_family c.args.ops.now c.holds_at_first.result c.new.result.n (from_truth _ _ (c.new.ensures ∙ c.from.ensures)))
 
 pub returns-then-f-eq0-clause-grows : goal.returns-then-f-eq0-clause-grows
 returns-then-f-eq0-clause-grows t c = extends_none c.args.ops.now
 
 pub returns-then-f-eq0-clause-sets : goal.returns-then-f-eq0-clause-sets
 returns-then-f-eq0-clause-sets t c =
-    never c.args.trees.now c.args.place c.args.diagrams.now c.args.f.n (family c.args.ops.now c.new.result.n)
-    c.if-f-eq0.true (ap (family c.args.ops.now) c.new.ensures)
+    never c.args.trees.now c.args.place c.args.diagrams.now c.args.f.n (family c.args.ops.now c.new-then-f-eq0.result.n)
+    c.if-f-eq0.true (ap (family c.args.ops.now) c.new-then-f-eq0.ensures)
 
 pub returns-in-Some-clause-grows : goal.returns-in-Some-clause-grows
 returns-in-Some-clause-grows t c = extends_none c.args.ops.now

@@ -1,6 +1,6 @@
 //! The gates that an operand rests on.
 
-ghost use Rattle.std.specs.Prelude.{◌≡◌, ◌<◌, IfOk, map, length, replicate, false, [], ◌∷◌};
+ghost use Rattle.std.specs.Prelude.{◌<◌, IfOk, map, length, [], ◌∷◌};
 ghost use Rattle.eq_core.specs.Ordered.{AreBelow, AreOrdered};
 ghost use Rattle.eq_core.specs.Values.{IsBelow};
 ghost use Rattle.eq_core.specs.Views.{gate_of, operand_of};
@@ -17,7 +17,7 @@ pub(crate) fn cone(alloc: Global, gates: &[Gate], root: Operand) -> Result<Vec<b
     ensures { IfOk result (λ marks. AreMarks (map gate_of gates.now) (operand_of root)
         marks.items) }
 {
-    let mut marks = unmarked(alloc, gates.len())?;
+    let mut marks = vec![in alloc; false; gates.len()]?;
     mark(&mut marks, root);
     let mut left = gates.len();
     while left > 0 {
@@ -26,14 +26,6 @@ pub(crate) fn cone(alloc: Global, gates: &[Gate], root: Operand) -> Result<Vec<b
             mark_all(&mut marks, &gates[left].operands);
         }
     }
-    Ok(marks)
-}
-
-// So many marks, none of them set.
-fn unmarked(alloc: Global, count: usize) -> Result<Vec<bool>, Memory>
-    ensures { IfOk result (λ marks. marks.items ≡ replicate count false) }
-{
-    let marks = vec![in alloc; false; count]?;
     Ok(marks)
 }
 

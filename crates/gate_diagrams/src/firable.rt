@@ -1,6 +1,6 @@
 //! The family of the firable sets.
 
-ghost use Rattle.std.specs.Prelude.{◌≡◌, List, IfOk, OnOk};
+ghost use Rattle.std.specs.Prelude.{List, OnOk};
 ghost use Rattle.ar_firing.specs.Forest.{ModeTree};
 ghost use Rattle.ar_firing.specs.Listed.{AreListed};
 ghost use Rattle.ar_firing.specs.Trees.{AreApart};
@@ -9,11 +9,10 @@ ghost use Rattle.zdd_families.specs.Sections.{IsCounted};
 ghost use Rattle.zdd_nodes.specs.Nodes.{Draws, IsSoundStore};
 ghost use Rattle.firable_families.specs.Firable.{IsFirableOf};
 ghost use Rattle.firable_families.specs.Walk.{AreTreeFamilies};
-ghost use Rattle.gate_diagrams.specs.Walked.{families_left, moving, AreNumbers};
+ghost use Rattle.gate_diagrams.specs.Walked.{families_left, AreNumbers};
 
 use crate::walk::walk;
 use crate::walked::Walked;
-use ar_base::Memory;
 use std::alloc::Global;
 use zdd_nodes::{NodeFault, NodeId, Store};
 use zdd_ops::Ops;
@@ -36,19 +35,12 @@ pub(crate) fn firable_sets(
         → Draws (IsCounted all) all ops.old ops.new result }
 {
     let mut walked = Walked::new(alloc);
-    let left = with_events(alloc, &paths)?;
+    // The trees without an edge, with the empty set alone, would stand in each state of the walk and change nothing.
+    let mut left = Vec::new(alloc);
+    for tree in &paths {
+        if tree.n != 1 {
+            left.push(*tree)?;
+        }
+    }
     walk(alloc, ops, &mut walked, trees, left)
-}
-
-// The numbers of the families of trees with an edge. The others, with the empty set alone, would stand in each state of
-// the walk and change nothing.
-fn with_events(alloc: Global, paths: &[NodeId]) -> Result<Vec<NodeId>, Memory>
-    ensures { IfOk result (λ left. left.items ≡ moving paths.now) }
-{
-    let left = paths
-        .iter()
-        .copied()
-        .filter(|tree| tree.n != 1)
-        .collect(alloc)?;
-    Ok(left)
 }

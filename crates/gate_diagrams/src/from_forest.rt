@@ -48,7 +48,10 @@ pub fn diagrams(
     let mut trees = Ops::new(alloc, MOST_NODES);
     let paths = match forest_paths(alloc, &mut trees, &forest.trees) {
         Ok(paths) => paths,
-        Err(fault) => return Err(by_cap(fault)),
+        // Their store is a table of a walk over the trees of all units, and its limit a cap of the program's own, which
+        // stands for no caller's limit.
+        Err(NodeFault::Full) => return Err(Memory::from(Cap::WalkEntries).into()),
+        Err(NodeFault::Memory) => return Err(NodeFault::Memory),
     };
     let trees = trees.into_store();
     match by_modes(alloc, equations, forest, limit) {
@@ -59,15 +62,4 @@ pub fn diagrams(
     let mut ops = Ops::new(alloc, limit);
     let firable = firable_sets(alloc, &mut ops, &trees, paths)?;
     answer(alloc, ops, equations, firable)
-}
-
-// Why the paths were not drawn. Their store is a table of a walk over the trees of all units, and its limit a cap of the
-// program's own, which stands for no caller's limit.
-fn by_cap(fault: NodeFault) -> NodeFault
-    ensures { result ≡ NodeFault.Memory }
-{
-    match fault {
-        NodeFault::Full => Memory::from(Cap::WalkEntries).into(),
-        NodeFault::Memory => NodeFault::Memory,
-    }
 }

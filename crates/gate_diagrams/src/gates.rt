@@ -1,8 +1,6 @@
 //! The families of operands and gates.
 
-ghost use Rattle.std.specs.Prelude.{◌≡◌, ◌<◌, ◌+◌, map, length, take, cond, true};
-ghost use Rattle.zdd_families.specs.Families.{meet, union};
-ghost use Rattle.zdd_families.specs.Sections.{IsCounted};
+ghost use Rattle.std.specs.Prelude.{◌≡◌, ◌<◌, ◌+◌, map, length, take, true};
 ghost use Rattle.zdd_nodes.specs.Nodes.{family, IsNumber, Draws};
 ghost use Rattle.eq_core.specs.Gates.{GateIs};
 ghost use Rattle.eq_core.specs.Views.{all_needed, gate_of, operand_of};
@@ -51,19 +49,6 @@ pub(crate) fn operand(
     }
 }
 
-/// The meet of two families, or their union.
-pub(crate) fn join(ops: &mut Ops, joint: Joint, f: NodeId, g: NodeId) -> Result<NodeId, NodeFault>
-    requires f_in { IsNumber ops.old f.n }
-    requires g_in { IsNumber ops.old g.n }
-    ensures drawn { let made = cond (all_needed joint) (meet (family ops.old f.n) (family ops.old g.n)) (union (family ops.old f.n) (family ops.old g.n)) in
-        Draws (IsCounted made) made ops.old ops.new result }
-{
-    match joint {
-        Joint::And => ops.meet(f, g),
-        Joint::Or => ops.union(f, g),
-    }
-}
-
 /// The family of one more of the first operands of the next gate, one of the cone of `root`.
 pub(crate) fn one_more(
     ops: &mut Ops,
@@ -89,7 +74,10 @@ pub(crate) fn one_more(
         (take (place + 1) (map operand_of gate.now.operands.items))) ops.old ops.new result }
 {
     let next = operand(ops, gates, root, table, firable, gate.operands[place])?;
-    join(ops, gate.joint, so_far, next)
+    match gate.joint {
+        Joint::And => ops.meet(so_far, next),
+        Joint::Or => ops.union(so_far, next),
+    }
 }
 
 /// The family of the next gate, one of the cone of `root`, an operand after the other.

@@ -15,7 +15,12 @@ use zdd_nodes::{NodeId, Store};
 pub(crate) fn is_dead(left: &[NodeId]) -> bool
     ensures { result ≡ list_any (λ n. nat_eq n.n 0) left.now }
 {
-    left.iter().any(|tree| tree.n == 0)
+    for tree in left {
+        if tree.n == 0 {
+            return true;
+        }
+    }
+    false
 }
 
 /// The least event that a tree still has. Takes no memory.

@@ -15,7 +15,7 @@ loop-left-init c =
     let long : length (map gate_of gates) ≡ length gates = length-map gates gate_of in
     let none = c.in_ok-marks.marks.items in
     let begun : none ≡ replicate (length (map gate_of gates)) false =
-    c.in_ok-marks.ensures ∙ ap (λ n. replicate n false) (sym long) in
+    c.in_ok-marks.ensures.items_if_clones_equal (λ y e. e) ∙ ap (λ n. replicate n false) (sym long) in
     let kept : length c.mark.new.marks ≡ c.in_ok-marks.marks.len =
     c.mark.ensures.long ∙ ap length c.deref_mut.ensures.value ∙ sym c.in_ok-marks.marks.ok.0 in
     subst (λ ms. IsMarking (map gate_of gates) (operand_of c.args.root) (length gates) ms)

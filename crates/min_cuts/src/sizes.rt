@@ -27,24 +27,17 @@ pub fn counts(alloc: Global, family: &Family) -> Result<Counted, Memory>
     ensures largest { IfOk result (λ c.
         c.largest ≡ largest_of (family_of family.now.store family.now.root.n)) }
 {
-    let sets = count_of(alloc, &family.store, family.root)?;
-    let largest = largest(alloc, &family.store, family.root)?;
-    Ok(Counted { sets, largest })
-}
-
-// How many sets the family of a number has.
-fn count_of(alloc: Global, store: &Store, root: NodeId) -> Result<u128, Memory>
-    requires { IsNumber store.now root.n }
-    ensures { IfOk result (λ sets. sets ≡ count (family_of store.now root.n)) }
-{
+    let (store, root) = (&family.store, family.root);
     let mut table = Vec::with_capacity(alloc, root.n as usize)?;
     for number in 0..root.n {
         table.push(count_at(store, NodeId::new(number), &table))?;
     }
-    Ok(count_at(store, root, &table))
+    let sets = count_at(store, root, &table);
+    let largest = largest(alloc, store, root)?;
+    Ok(Counted { sets, largest })
 }
 
-// The same, where the table has those of the earlier numbers.
+// How many sets the family of a number has, where the table has those of the earlier numbers.
 fn count_at(store: &Store, number: NodeId, table: &[u128]) -> u128
     requires in_store { IsNumber store.now number.n }
     requires long { number.n ≤ length table.now }

@@ -80,12 +80,7 @@ pub record EntryDiffers (s : Stored) (to e0 y e : ℕ) : Type 0 where
   pub exit : IsEntryExit s to e asked.end.n
   pub differs : AgreesSome s asked e e0 → ⊥
 
--- the answer is yes where the entry goes on as the reference, else no
-pub record EntryAnswers (s : Stored) (to e0 y e : ℕ) (answer : Bool) : Type 0 where
-  pub yes : answer ≡ true → EntryAgrees s to e0 y e
-  pub no : answer ≡ false → EntryDiffers s to e0 y e
-
--- the same of all entries
+-- the answer is yes where all entries go on as the reference, else no
 pub record EntriesAnswer (s : Stored) (to e0 y : ℕ) (entries : List ℕ) (answer : Bool) : Type 0 where
   pub yes : answer ≡ true → (e : ℕ) → IsOneOf entries e → EntryAgrees s to e0 y e
   pub no : answer ≡ false → (e : ℕ) × IsOneOf entries e × EntryDiffers s to e0 y e

@@ -5,8 +5,7 @@ ghost use Rattle.ar_base.specs.Lists.{Stands};
 ghost use Rattle.zdd_nodes.specs.Nodes.{NodeId, family, IsNumber};
 ghost use Rattle.gate_modules.specs.Walked.{AreTwins, EndsBelow};
 ghost use Rattle.gate_modules.specs.Entries.{node_numbers, AreSeen, IsCovered, Adds, AreEntries, AllEnd};
-ghost use Rattle.gate_modules.specs.Entries.{IsReference, IsExit, IsEntryExit, EntryAnswers, EntriesAnswer};
-ghost use Rattle.gate_modules.specs.Entries.{HasEvent};
+ghost use Rattle.gate_modules.specs.Entries.{IsReference, IsExit, IsEntryExit, EntriesAnswer};
 
 use crate::twins::{Question, Twin, agree_some, below};
 use ar_base::Memory;
@@ -81,23 +80,12 @@ pub(crate) fn first_with_event(store: &Store, to: u32, entries: &[NodeId]) -> Op
         (λ e. IsReference store.now to (node_numbers entries.now) e.n) }
 {
     for entry in entries {
-        if has_event(store, to, *entry) {
-            return Some(*entry);
+        match below(store, to, *entry) {
+            Some(_) => return Some(*entry),
+            None => {}
         }
     }
     None
-}
-
-// Whether the number has an event below the bound.
-fn has_event(store: &Store, to: u32, number: NodeId) -> bool
-    requires { IsNumber store.now number.n }
-    ensures yes { result ≡ true → HasEvent store.now to number.n }
-    ensures no { result ≡ false → EndsBelow store.now to number.n }
-{
-    match below(store, to, number) {
-        Some(_) => true,
-        None => false,
-    }
 }
 
 /// What follows the first events of a number below the bound.
@@ -124,37 +112,8 @@ pub(crate) fn entry_exit(store: &Store, to: u32, entry: NodeId) -> NodeId
     }
 }
 
-/// Whether the entry has no event below the bound, or goes on as the reference after each of the reference's parts and
+/// Whether each entry has no event below the bound, or goes on as the reference after each of the reference's parts and
 /// has no other part.
-fn entry_agrees(
-    store: &Store,
-    twins: &mut [Twin],
-    to: u32,
-    reference: Reference,
-    entry: NodeId,
-) -> bool
-    requires in_store { IsNumber store.now entry.n }
-    requires node_in { IsNumber store.now reference.node.n }
-    requires end_in { IsNumber store.now reference.end.n }
-    requires end_some { 0 < reference.end.n }
-    requires room { entry.n < length twins.old }
-    requires known { AreTwins store.now twins.old }
-    ensures is { EntryAnswers store.now to reference.node.n reference.end.n entry.n result }
-    ensures known { AreTwins store.now twins.new }
-    ensures long { length twins.new ≡ length twins.old }
-{
-    let Some((_, _, hi)) = below(store, to, entry) else {
-        return true;
-    };
-    let asked = Question {
-        to,
-        end: exit(store, to, hi),
-        node_end: reference.end,
-    };
-    agree_some(store, twins, asked, entry, reference.node)
-}
-
-/// The same of all entries.
 pub(crate) fn entries_agree(
     store: &Store,
     twins: &mut [Twin],
@@ -174,7 +133,15 @@ pub(crate) fn entries_agree(
     ensures long { length twins.new ≡ length twins.old }
 {
     for entry in entries {
-        if !entry_agrees(store, twins, to, reference, *entry) {
+        let Some((_, _, hi)) = below(store, to, *entry) else {
+            continue;
+        };
+        let asked = Question {
+            to,
+            end: exit(store, to, hi),
+            node_end: reference.end,
+        };
+        if !agree_some(store, twins, asked, *entry, reference.node) {
             return false;
         }
     }

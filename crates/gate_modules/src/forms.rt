@@ -1,11 +1,11 @@
 //! The short forms of a family's sets.
 
-ghost use Rattle.std.specs.Prelude.{◌≡◌, ◌<◌, ◌++◌, ◌∷◌, [], false, not, IfOk, OnOk, MatchOption, map};
+ghost use Rattle.std.specs.Prelude.{◌≡◌, false, not, IfOk, OnOk, MatchOption, map};
 ghost use Rattle.std.specs.List.{filter};
 ghost use Rattle.zdd_nodes.specs.Nodes.{family, IsNumber};
 ghost use Rattle.gate_modules.specs.Modules.{lies as lies_in};
 ghost use Rattle.gate_modules.specs.Shortened.{event_numbers, touches as has_touched, is_covered as covered_by};
-ghost use Rattle.gate_modules.specs.Shortened.{short_form, units_where, short_form_of as form_made};
+ghost use Rattle.gate_modules.specs.Shortened.{units_where, short_form_of as form_made};
 ghost use Rattle.gate_modules.specs.Forms.{AreOfDifferentUnits, IsFit, AddsForms, IsSkip, IsHeld};
 
 use crate::entries::exit;
@@ -33,7 +33,12 @@ pub(crate) fn add_forms(
         (map form_made forms.old.items) (map form_made forms.new.items)) }
 {
     let Some((event, lo, hi)) = store.split(number) else {
-        add_leaf(alloc, chosen, number, taken, forms)?;
+        // 1 is the family of the empty set, 0 the empty family.
+        if number.n == 1 {
+            let units = units_of(alloc, chosen, taken)?;
+            let events = free_events(alloc, chosen, taken)?;
+            forms.push(ShortSet { units, events })?;
+        }
         return Ok(());
     };
     let more = longer(alloc, taken, event)?;
@@ -53,29 +58,6 @@ pub(crate) fn add_forms(
     }
 }
 
-// Adds the short form of these events where the number is 1, and none where it is 0.
-fn add_leaf(
-    alloc: Global,
-    chosen: &[Range],
-    number: NodeId,
-    taken: &[EventId],
-    forms: &mut Vec<ShortSet>,
-) -> Result<(), Memory>
-    requires { number.n < 2 }
-    ensures none { OnOk result (number.n ≡ 0
-        → map form_made forms.new.items ≡ map form_made forms.old.items) }
-    ensures one { OnOk result (number.n ≡ 1
-        → map form_made forms.new.items ≡ map form_made forms.old.items
-        ++ short_form chosen.now (event_numbers taken.now) ∷ []) }
-{
-    if number.n == 0 {
-        return Ok(());
-    }
-    let form = form_of(alloc, chosen, taken)?;
-    forms.push(form)?;
-    Ok(())
-}
-
 // What follows no event of the number below the bound.
 fn skip(store: &Store, to: u32, number: NodeId) -> NodeId
     requires { IsNumber store.now number.n }
@@ -85,15 +67,6 @@ fn skip(store: &Store, to: u32, number: NodeId) -> NodeId
         Some((_, lo, _)) => skip(store, to, lo),
         None => number,
     }
-}
-
-// The short form of these events.
-fn form_of(alloc: Global, chosen: &[Range], taken: &[EventId]) -> Result<ShortSet, Memory>
-    ensures { IfOk result (λ f. form_made f ≡ short_form chosen.now (event_numbers taken.now)) }
-{
-    let units = units_of(alloc, chosen, taken)?;
-    let events = free_events(alloc, chosen, taken)?;
-    Ok(ShortSet { units, events })
 }
 
 // The units of these ranges of which one of the events is.

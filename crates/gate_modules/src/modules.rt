@@ -8,7 +8,7 @@ ghost use Rattle.gate_modules.specs.Shortened.{set_of};
 ghost use Rattle.gate_modules.specs.Walked.{AreTwins};
 
 use crate::entries::{Reference, entries_agree, entries_of, entry_exit, first_with_event};
-use crate::parts::parts;
+use crate::parts::add_some_parts;
 use crate::ranges::{EventSet, Range};
 use crate::twins::Twin;
 use ar_base::Memory;
@@ -47,7 +47,8 @@ pub(crate) fn module_sets(
     if !entries_agree(store, twins, range.to, reference, &entries) {
         return Ok(None);
     }
-    let sets = parts(alloc, store, range.to, node)?;
+    let mut sets = Vec::new(alloc);
+    add_some_parts(alloc, store, range.to, node, &mut sets)?;
     if sets.len() < 2 {
         return Ok(None);
     }

@@ -1,9 +1,9 @@
 //! The parts of a unit, by one entry of its range.
 
 ghost use Rattle.std.specs.Prelude.{◌≡◌, ◌++◌, ◌∷◌, [], IfOk, OnOk, map};
-ghost use Rattle.zdd_nodes.specs.Nodes.{family, IsNumber};
+ghost use Rattle.zdd_nodes.specs.Nodes.{IsNumber};
 ghost use Rattle.gate_modules.specs.Shortened.{event_numbers, set_of};
-ghost use Rattle.gate_modules.specs.Parts.{AddsHeads, AddsSomeHeads, AreSomeHeads};
+ghost use Rattle.gate_modules.specs.Parts.{AddsHeads, AddsSomeHeads};
 
 use crate::ranges::EventSet;
 use crate::twins::below;
@@ -11,24 +11,9 @@ use ar_base::{EventId, Memory};
 use std::alloc::Global;
 use zdd_nodes::{NodeId, Store};
 
-/// The nonempty sets of events below the bound that sets of the number's family begin with, in the order of listing.
-pub(crate) fn parts(
-    alloc: Global,
-    store: &Store,
-    to: u32,
-    number: NodeId,
-) -> Result<Vec<EventSet>, Memory>
-    requires { IsNumber store.now number.n }
-    ensures { IfOk result (λ sets. AreSomeHeads to (family store.now number.n)
-        (map set_of sets.items)) }
-{
-    let mut sets = Vec::new(alloc);
-    add_some_parts(alloc, store, to, number, &mut sets)?;
-    Ok(sets)
-}
-
-// Adds them behind the sets that were found before.
-fn add_some_parts(
+/// Adds the nonempty sets of events below the bound that sets of the number's family begin with, in the order of listing,
+/// behind the sets that were found before.
+pub(crate) fn add_some_parts(
     alloc: Global,
     store: &Store,
     to: u32,

@@ -3,7 +3,7 @@
 ghost use Rattle.std.specs.Prelude.{◌≡◌, ◌+◌, IfOk, OnOk, length, map, true, false, []};
 ghost use Rattle.zdd_nodes.specs.Nodes.{family as family_of, IsNumber, IsSoundStore};
 ghost use Rattle.gate_modules.specs.Choices.{StandFor};
-ghost use Rattle.gate_modules.specs.Choosing.{IsWithin, IsWithinNone, Considers, AreChosenSoFar};
+ghost use Rattle.gate_modules.specs.Choosing.{IsWithin, IsWithinNone, AreChosenSoFar};
 ghost use Rattle.gate_modules.specs.Modules.{AreRanges, Covers};
 ghost use Rattle.gate_modules.specs.Shortened.{Shortens, short_form_of, module_of};
 ghost use Rattle.gate_modules.specs.Walked.{AreTwins};
@@ -11,7 +11,7 @@ ghost use Rattle.gate_modules.specs.Walked.{AreTwins};
 use crate::forms::add_forms;
 use crate::modules::module_sets;
 use crate::ranges::{Module, Range, Short};
-use crate::twins::{Twin, no_twin};
+use crate::twins::Twin;
 use ar_base::Memory;
 use gate_diagrams::Family;
 use std::alloc::Global;
@@ -34,7 +34,15 @@ pub fn shorten(alloc: Global, family: &Family, ranges: &[Range]) -> Result<Short
     let mut sets = Vec::new(alloc);
     let store = &family.store;
     let room = store.len() as usize + 2;
-    let mut twins = vec![in alloc; no_twin(); room]?;
+    // An entry with the number 0 tells nothing.
+    let none = NodeId::new(0);
+    let no_twin = Twin {
+        to: 0,
+        node: none,
+        end: none,
+        node_end: none,
+    };
+    let mut twins = vec![in alloc; no_twin; room]?;
     choose(
         alloc,
         store,
@@ -48,7 +56,7 @@ pub fn shorten(alloc: Global, family: &Family, ranges: &[Range]) -> Result<Short
     Ok(Short { modules, sets })
 }
 
-// The chosen units of these ranges, and these as modules.
+// The chosen units of these ranges, and these as modules: each that is a module and lies within none chosen before.
 fn choose(
     alloc: Global,
     store: &Store,
@@ -69,41 +77,18 @@ fn choose(
         chosen.new.items (map module_of modules.new.items)) }
 {
     for range in ranges {
-        consider(alloc, store, root, *range, twins, chosen, modules)?;
+        if is_within(chosen, *range) {
+            continue;
+        }
+        let Some(sets) = module_sets(alloc, store, root, *range, twins)? else {
+            continue;
+        };
+        chosen.push(*range)?;
+        modules.push(Module {
+            unit: range.unit,
+            sets,
+        })?;
     }
-    Ok(())
-}
-
-// Chooses the unit of the range where it is a module and lies within no chosen one.
-fn consider(
-    alloc: Global,
-    store: &Store,
-    root: NodeId,
-    range: Range,
-    twins: &mut [Twin],
-    chosen: &mut Vec<Range>,
-    modules: &mut Vec<Module>,
-) -> Result<(), Memory>
-    requires sound { IsSoundStore store.now }
-    requires root { IsNumber store.now root.n }
-    requires room { length twins.old ≡ length store.now.families + 2 }
-    requires known { AreTwins store.now twins.old }
-    ensures considers { OnOk result (Considers (family_of store.now root.n) range chosen.old.items
-        (map module_of modules.old.items) chosen.new.items (map module_of modules.new.items)) }
-    ensures known { OnOk result (AreTwins store.now twins.new) }
-    ensures long { OnOk result (length twins.new ≡ length twins.old) }
-{
-    if is_within(chosen, range) {
-        return Ok(());
-    }
-    let Some(sets) = module_sets(alloc, store, root, range, twins)? else {
-        return Ok(());
-    };
-    chosen.push(range)?;
-    modules.push(Module {
-        unit: range.unit,
-        sets,
-    })?;
     Ok(())
 }
 

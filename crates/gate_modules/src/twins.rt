@@ -17,19 +17,6 @@ pub(crate) struct Twin {
     pub(crate) node_end: NodeId,
 }
 
-/// An entry that tells nothing. Takes no memory.
-pub(crate) fn no_twin() -> Twin
-    ensures { result.node.n ≡ 0 }
-{
-    let none = NodeId::new(0);
-    Twin {
-        to: 0,
-        node: none,
-        end: none,
-        node_end: none,
-    }
-}
-
 /// What is asked of two families: the bound, and what follows the events below it, in the first and in the second.
 #[derive(Clone, Copy)]
 pub(crate) struct Question {

@@ -1,8 +1,10 @@
-use Rattle.std.proofs.Common.{◌≡◌, ◌∙◌, ◌<◌, ℕ, List, length, map, sym, subst, arith}
+use Rattle.std.proofs.Common.{◌≡◌, ◌∙◌, ◌<◌, ◌++◌, [], ℕ, List, length, map, sym, ap, subst, arith}
 use Rattle.std.proofs.lemmas.List.{length-map}
 use Rattle.ar_base.specs.Lists.{Stands, IsOneOf}
 use Rattle.ar_base.proofs.Standing.{one_here, stands_map}
-use Rattle.zdd_nodes.specs.Nodes.{NodeId, IsNumber}
+use Rattle.zdd_families.specs.Families.{Family}
+use Rattle.zdd_nodes.specs.Nodes.{NodeId, Stored, family, IsNumber}
+use Rattle.gate_modules.specs.Parts.{AreSomeHeads, AddsSomeHeads}
 use Rattle.gate_modules.specs.Shortened.{set_of}
 use Rattle.gate_modules.specs.Entries.{node_numbers, AllEnd, IsReference, EntriesAnswer}
 use Rattle.gate_modules.proofs.Deciding.{event_not_end, none_is_module, differs_no_module, few_no_module, is_module}
@@ -14,6 +16,12 @@ inside : (P : ℕ → Type 0) (xs ys : List NodeId) → xs ≡ ys → ((e : ℕ)
     → (k : ℕ) (e : NodeId) → Stands xs k e → P e.n
 inside P xs ys is h k e i = h e.n (one_here (node_numbers ys) k e.n
     (stands_map (λ (n : NodeId). n.n) ys k e (subst (λ z. Stands z k e) is i)))
+
+-- the parts are all that was added
+some_parts : (s : Stored) (b n : ℕ) (old new : Family) → AddsSomeHeads s b n old new → old ≡ []
+    → AreSomeHeads b (family s n) new
+some_parts s b n old new a e =
+    subst (AreSomeHeads b (family s n)) (sym (a.is ∙ ap (λ z. z ++ a.heads) e)) a.are_heads
 
 pub returns-then-range-clause-sets : goal.returns-then-range-clause-sets
 returns-then-range-clause-sets c = λ m.
@@ -57,11 +65,11 @@ pub returns-then-len-lt2-clause-sets : goal.returns-then-len-lt2-clause-sets
 returns-then-len-lt2-clause-sets c =
     let ref = subst (λ z. IsReference c.args.store.now c.args.range.to (node_numbers z) c.in-Some.node.n)
     c.deref.ensures.value c.in-Some.ensures in
-    let long = length-map c.in_ok-sets.sets.items set_of in
+    let long = length-map c.add_some_parts.new.sets.items set_of in
     few_no_module c.args.store.now c.requires.sound c.args.root.n c.requires.root c.args.range
     (node_numbers c.in_ok-entries.entries.items) c.in_ok-entries.ensures
-    c.in-Some.node.n c.entry_exit.result.n ref.is_entry c.entry_exit.ensures (map set_of c.in_ok-sets.sets.items)
-    c.in_ok-sets.ensures (omega (arith, long, c.if-len-lt2.true, c.len.ensures))
+    c.in-Some.node.n c.entry_exit.result.n ref.is_entry c.entry_exit.ensures (map set_of c.add_some_parts.new.sets.items)
+    (some_parts _ _ _ _ _ c.in_ok-add_some_parts.ensures (ap (map set_of) c.new-sets.ensures.items)) (omega (arith, long, c.if-len-lt2.true, c.len.ensures))
 
 pub returns-clause-sets : goal.returns-clause-sets
 returns-clause-sets c =
@@ -69,9 +77,9 @@ returns-clause-sets c =
     c.deref.ensures.value c.in-Some.ensures in
     let answer = subst (λ z. EntriesAnswer c.args.store.now c.args.range.to c.in-Some.node.n c.entry_exit.result.n
     (node_numbers z) c.entries_agree.result) c.deref-2.ensures.value c.entries_agree.ensures.is in
-    let long = length-map c.in_ok-sets.sets.items set_of in
+    let long = length-map c.add_some_parts.new.sets.items set_of in
     is_module c.args.store.now c.requires.sound c.args.root.n c.requires.root c.args.range
     (node_numbers c.in_ok-entries.entries.items) c.in_ok-entries.ensures
-    c.in-Some.node.n c.entry_exit.result.n ref.is_entry c.entry_exit.ensures (map set_of c.in_ok-sets.sets.items)
-    c.in_ok-sets.ensures (omega (arith, long, c.if-len-lt2.false, c.len.ensures))
+    c.in-Some.node.n c.entry_exit.result.n ref.is_entry c.entry_exit.ensures (map set_of c.add_some_parts.new.sets.items)
+    (some_parts _ _ _ _ _ c.in_ok-add_some_parts.ensures (ap (map set_of) c.new-sets.ensures.items)) (omega (arith, long, c.if-len-lt2.false, c.len.ensures))
     (answer.yes c.if-not-entries_agree.false)

@@ -1,9 +1,8 @@
 //! The lines of a forest.
 
-ghost use Rattle.std.specs.Prelude.{◌≡◌, ◌<◌, ◌++◌, ◌^◌};
+ghost use Rattle.std.specs.Prelude.{◌≡◌, ◌<◌, ◌^◌};
 ghost use Rattle.ar_io.specs.Writing.{Writes};
 ghost use Rattle.mode_trees.specs.Ways.{HasOwnWay, HaveOwnWays, OwnTheirWays};
-ghost use Rattle.cut_text.specs.ForestTexts.{events_line};
 ghost use Rattle.cut_text.specs.ForestPrinted.{edge_line, edge_lines, tree_line, trees_text, edge_count, forest_text};
 
 use ar_io::{Sink, SinkFailed, write_count, write_text};
@@ -21,7 +20,10 @@ pub fn print_forest<K: Sink>(gts: &Gts, forest: &Forest, out: &mut K) -> Result<
     ensures { Writes (K.state out.old) (K.state out.new) (forest_text gts.now forest.now) result }
 {
     trees(out, gts, &forest.trees)?;
-    events(out, edges_in(&forest.trees))
+    let edges = edges_in(&forest.trees);
+    write_text(out, "events ")?;
+    write_count(out, edges)?;
+    write_text(out, "\n")
 }
 
 // How many edges the trees have.
@@ -36,34 +38,16 @@ fn edges_in(trees: &[ModeTree]) -> usize
     edges
 }
 
-// How many events there are.
-fn events<K: Sink>(out: &mut K, n: usize) -> Result<(), SinkFailed>
-    ensures { Writes (K.state out.old) (K.state out.new) (events_line n) result }
-{
-    write_text(out, "events ")?;
-    write_count(out, n)?;
-    write_text(out, "\n")
-}
-
 // The lines of these trees.
 fn trees<K: Sink>(out: &mut K, gts: &Gts, trees: &[ModeTree]) -> Result<(), SinkFailed>
     requires { OwnTheirWays gts.now trees.now }
     ensures { Writes (K.state out.old) (K.state out.new) (trees_text gts.now trees.now) result }
 {
     for one in trees {
-        tree(out, gts, one)?;
+        root(out, gts.parts(), one)?;
+        edges(out, gts, &one.edges)?;
     }
     Ok(())
-}
-
-// The lines of a tree.
-fn tree<K: Sink>(out: &mut K, gts: &Gts, tree: &ModeTree) -> Result<(), SinkFailed>
-    requires { HaveOwnWays gts.now tree.now.edges.items }
-    ensures { Writes (K.state out.old) (K.state out.new)
-        (tree_line gts.now tree.now ++ edge_lines gts.now tree.now.edges.items) result }
-{
-    root(out, gts.parts(), tree)?;
-    edges(out, gts, &tree.edges)
 }
 
 // A tree's variable and its initial mode.

@@ -1,7 +1,7 @@
 //! The lines of sets of events.
 
-ghost use Rattle.std.specs.Prelude.{◌≡◌, ◌++◌, ℕ, List, ◌∷◌, true, false, codes, reverse};
-ghost use Rattle.ar_base.specs.Texts.{line, separated};
+ghost use Rattle.std.specs.Prelude.{◌≡◌, ℕ, List, ◌∷◌, true, false, codes, reverse};
+ghost use Rattle.ar_base.specs.Texts.{separated};
 ghost use Rattle.ar_io.specs.Writing.{Writes};
 ghost use Rattle.ar_meaning.specs.Flows.{FlowFault as MetFault};
 ghost use Rattle.ar_meaning.specs.Systems.{System};
@@ -100,24 +100,10 @@ fn set_lines<K: Sink>(
         (lines_at gts.now ways.now lister.old) result }
 {
     while let Some(events) = lister.next() {
-        set_line(out, gts, ways, events)?;
+        write_set(out, gts, ways, events)?;
+        write_text(out, "\n")?;
     }
     Ok(())
-}
-
-// The line of a set.
-fn set_line<K: Sink>(
-    out: &mut K,
-    gts: &Gts,
-    ways: &[WayId],
-    events: &[EventId],
-) -> Result<(), SinkFailed>
-    requires { HaveWays gts.now ways.now (numbers events.now) }
-    ensures { Writes (K.state out.old) (K.state out.new)
-        (line (braced (texts_at gts.now ways.now (numbers events.now)))) result }
-{
-    write_set(out, gts, ways, events)?;
-    write_text(out, "\n")
 }
 
 // The line of a conflict.
@@ -196,24 +182,10 @@ fn more_labels<K: Sink>(
         (separated false (codes ", ") (texts_at gts.now ways.now (numbers events.now))) result }
 {
     for event in events {
-        next_label(out, gts, ways, *event)?;
+        write_text(out, ", ")?;
+        label(out, gts, ways, *event)?;
     }
     Ok(())
-}
-
-// A label behind another one.
-fn next_label<K: Sink>(
-    out: &mut K,
-    gts: &Gts,
-    ways: &[WayId],
-    event: EventId,
-) -> Result<(), SinkFailed>
-    requires { HasWay gts.now ways.now event.n }
-    ensures { Writes (K.state out.old) (K.state out.new)
-        (codes ", " ++ way_label gts.now (way_at ways.now event.n)) result }
-{
-    write_text(out, ", ")?;
-    label(out, gts, ways, event)
 }
 
 // The label of an event's edge.

@@ -1,16 +1,15 @@
 //! The lines of cuts in short.
 
-ghost use Rattle.std.specs.Prelude.{◌++◌, true, false, codes, map};
-ghost use Rattle.ar_base.specs.Texts.{line, separated, text_at};
+ghost use Rattle.std.specs.Prelude.{true, false, codes, map};
+ghost use Rattle.ar_base.specs.Texts.{separated, text_at};
 ghost use Rattle.ar_io.specs.Writing.{Writes};
 ghost use Rattle.cut_text.specs.Answers.{Prints};
 ghost use Rattle.mode_trees.specs.Ways.{OwnTheirWays};
 ghost use Rattle.module_text.specs.Arranged.{piece_text, line_text, part_lines as texts_of_parts};
-ghost use Rattle.module_text.specs.Arranged.{group_lines as text_of_group};
 ghost use Rattle.module_text.specs.Arranged.{groups_lines, form_lines as texts_of_forms, IsInside, AreInside};
 ghost use Rattle.module_text.specs.Arranged.{LinesInside, GroupsInside};
 ghost use Rattle.module_text.specs.Printed.{short_lines};
-ghost use Rattle.module_text.specs.Texts.{module_line, part_line, unit_mark, lines_line};
+ghost use Rattle.module_text.specs.Texts.{module_line, unit_mark, lines_line};
 
 use crate::arranging::{Group, Line, Piece, groups_of, lines_of_forms};
 use crate::places::edge_places;
@@ -53,18 +52,10 @@ fn all_groups<K: Sink>(out: &mut K, gts: &Gts, groups: &[Group]) -> Result<(), S
     ensures { Writes (K.state out.old) (K.state out.new) (groups_lines gts.now groups.now) result }
 {
     for one in groups {
-        group(out, gts, one)?;
+        head(out, gts.parts(), one.unit)?;
+        parts(out, gts, &one.lines)?;
     }
     Ok(())
-}
-
-// The lines of a module.
-fn group<K: Sink>(out: &mut K, gts: &Gts, group: &Group) -> Result<(), SinkFailed>
-    requires { LinesInside gts.now group.now.lines.items }
-    ensures { Writes (K.state out.old) (K.state out.new) (text_of_group gts.now group.now) result }
-{
-    head(out, gts.parts(), group.unit)?;
-    parts(out, gts, &group.lines)
 }
 
 // The line of a module's unit.
@@ -83,20 +74,11 @@ fn parts<K: Sink>(out: &mut K, gts: &Gts, lines: &[Line]) -> Result<(), SinkFail
     ensures { Writes (K.state out.old) (K.state out.new) (texts_of_parts gts.now lines.now) result }
 {
     for one in lines {
-        part(out, gts, one)?;
+        write_text(out, "  ")?;
+        between_braces(out, gts, one)?;
+        write_text(out, "\n")?;
     }
     Ok(())
-}
-
-// The line of a set.
-fn part<K: Sink>(out: &mut K, gts: &Gts, line: &Line) -> Result<(), SinkFailed>
-    requires { AreInside gts.now line.now.pieces.items }
-    ensures { Writes (K.state out.old) (K.state out.new) (part_line (line_text gts.now line.now))
-        result }
-{
-    write_text(out, "  ")?;
-    between_braces(out, gts, line)?;
-    write_text(out, "\n")
 }
 
 // The lines of short forms.
@@ -105,19 +87,10 @@ fn forms<K: Sink>(out: &mut K, gts: &Gts, lines: &[Line]) -> Result<(), SinkFail
     ensures { Writes (K.state out.old) (K.state out.new) (texts_of_forms gts.now lines.now) result }
 {
     for one in lines {
-        form(out, gts, one)?;
+        between_braces(out, gts, one)?;
+        write_text(out, "\n")?;
     }
     Ok(())
-}
-
-// The line of a short form.
-fn form<K: Sink>(out: &mut K, gts: &Gts, form: &Line) -> Result<(), SinkFailed>
-    requires { AreInside gts.now form.now.pieces.items }
-    ensures { Writes (K.state out.old) (K.state out.new) (line (line_text gts.now form.now))
-        result }
-{
-    between_braces(out, gts, form)?;
-    write_text(out, "\n")
 }
 
 // How many short forms there are.
@@ -159,19 +132,10 @@ fn more_pieces<K: Sink>(out: &mut K, gts: &Gts, pieces: &[Piece]) -> Result<(), 
         (separated false (codes ", ") (map (piece_text gts.now) pieces.now)) result }
 {
     for one in pieces {
-        next_piece(out, gts, *one)?;
+        write_text(out, ", ")?;
+        piece(out, gts, *one)?;
     }
     Ok(())
-}
-
-// A piece behind another one.
-fn next_piece<K: Sink>(out: &mut K, gts: &Gts, next: Piece) -> Result<(), SinkFailed>
-    requires { IsInside gts.now next }
-    ensures { Writes (K.state out.old) (K.state out.new) (codes ", " ++ piece_text gts.now next)
-        result }
-{
-    write_text(out, ", ")?;
-    piece(out, gts, next)
 }
 
 // A piece.

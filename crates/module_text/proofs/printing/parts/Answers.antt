@@ -1,28 +1,47 @@
 use Rattle.std.proofs.Common.{List}
 use Rattle.ar_base.proofs.Standing.{one_here, stands_item}
-use Rattle.ar_io.proofs.Writing.{writes_exit, leaves_all, leaves_on, leaves_front, leaves_none, next_item, no_item}
-use Rattle.module_text.specs.Arranged.{part_lines}
+use Rattle.ar_io.proofs.Writing.{writes_exit, writes_on, writes_front, writes_as, leaves_all, leaves_on, leaves_front, leaves_none, next_item, no_item}
+use Rattle.module_text.specs.Arranged.{line_text, part_lines}
 use Rattle.module_text.specs.declared.arranging.Line.{Line}
+use Rattle.module_text.proofs.Pieces.{part_text}
 use Rattle.module_text.proofs.printing.parts.Goals as goal
 
 pub loop-one-init : goal.loop-one-init
 loop-one-init g c = leaves_all _ _
 
-pub part-requires : goal.part-requires
-part-requires g c = c.requires.each _
+pub between_braces-requires : goal.between_braces-requires
+between_braces-requires g c = c.requires.each _
     (one_here c.args.lines.now c.loop-one.one-index c.one-item.result
     (stands_item c.args.lines.now c.loop-one.one-index c.one-item.result c.loop-one-test.true c.one-item.is))
 
-pub returns-in_err-part : goal.returns-in_err-part
-returns-in_err-part g c =
+pub returns-in_err-write_text : goal.returns-in_err-write_text
+returns-in_err-write_text g c =
     writes_exit _ _ c.from_residual.ensures.1
-    (leaves_front _ _ c.loop-one.invariant c.in_err-part.ensures
+    (leaves_front _ _ c.loop-one.invariant (writes_as _ _ (part_text (line_text c.args.gts.now c.one-item.result))
+    (writes_front _ _ c.in_err-write_text.ensures))
+    (next_item (λ (xs : List Line). part_lines c.args.gts.now xs) c.args.lines.now c.loop-one.one-index
+    c.one-item.result c.loop-one-test.true c.one-item.is))
+
+pub returns-in_err-between_braces : goal.returns-in_err-between_braces
+returns-in_err-between_braces g c =
+    writes_exit _ _ c.from_residual-in_err-between_braces.ensures.1
+    (leaves_front _ _ c.loop-one.invariant (writes_as _ _ (part_text (line_text c.args.gts.now c.one-item.result))
+    (writes_on c.in_ok-write_text.ensures (writes_front _ _ c.in_err-between_braces.ensures)))
+    (next_item (λ (xs : List Line). part_lines c.args.gts.now xs) c.args.lines.now c.loop-one.one-index
+    c.one-item.result c.loop-one-test.true c.one-item.is))
+
+pub returns-in_err-write_text-2 : goal.returns-in_err-write_text-2
+returns-in_err-write_text-2 g c =
+    writes_exit _ _ c.from_residual-in_err-write_text-2.ensures.1
+    (leaves_front _ _ c.loop-one.invariant (writes_as _ _ (part_text (line_text c.args.gts.now c.one-item.result))
+    (writes_on c.in_ok-write_text.ensures (writes_on c.in_ok-between_braces.ensures c.in_err-write_text-2.ensures)))
     (next_item (λ (xs : List Line). part_lines c.args.gts.now xs) c.args.lines.now c.loop-one.one-index
     c.one-item.result c.loop-one-test.true c.one-item.is))
 
 pub loop-one-preserved : goal.loop-one-preserved
 loop-one-preserved g c =
-    leaves_on _ _ c.loop-one.invariant c.in_ok-part.ensures
+    leaves_on _ _ c.loop-one.invariant (writes_as _ _ (part_text (line_text c.args.gts.now c.one-item.result))
+    (writes_on c.in_ok-write_text.ensures (writes_on c.in_ok-between_braces.ensures c.in_ok-write_text-2.ensures)))
     (next_item (λ (xs : List Line). part_lines c.args.gts.now xs) c.args.lines.now c.loop-one.one-index
     c.one-item.result c.loop-one-test.true c.one-item.is)
 

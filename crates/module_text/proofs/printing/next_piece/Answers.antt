@@ -1,8 +1,0 @@
-use Rattle.ar_io.proofs.Writing.{writes_exit, writes_on, writes_front}
-use Rattle.module_text.proofs.printing.next_piece.Goals as goal
-
-pub returns-in_err-write_text : goal.returns-in_err-write_text
-returns-in_err-write_text g c = writes_exit _ _ c.from_residual.ensures.1 (writes_front _ _ c.in_err-write_text.ensures)
-
-pub returns : goal.returns
-returns g c = (writes_on c.in_ok-write_text.ensures c.piece.ensures)

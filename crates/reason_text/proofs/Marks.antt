@@ -1,7 +1,7 @@
 -- Marks of variables, and the flows that are told.
-use Rattle.std.proofs.Common.{◌≡◌, ◌<◌, ◌≤◌, ◌+◌, inl, inr, ℕ, zero, suc, Bool, true, false, List, [], ◌∷◌, ◌++◌, length, set, get_or, take, Option, Some, None, Result, Ok, Err, IfOk, Vec, Global, refl, sym, ap, ◌∙◌, subst, arith, length-set}
+use Rattle.std.proofs.Common.{◌≡◌, ◌<◌, ◌≤◌, ◌+◌, inl, inr, ℕ, zero, suc, Bool, true, false, List, [], ◌∷◌, ◌++◌, length, replicate, set, get_or, take, Option, Some, None, Result, Ok, Err, IfOk, Vec, Global, refl, sym, ap, ◌∙◌, subst, arith, length-set}
 use Rattle.std.proofs.lemmas.Bool.{cases_eq}
-use Rattle.std.proofs.lemmas.List.{take_more, take_all, map-append}
+use Rattle.std.proofs.lemmas.List.{take_more, take_all, map-append, length-replicate}
 use Rattle.ar_base.specs.declared.faults.Memory.{Memory}
 use Rattle.ar_base.specs.Lists.{Stands, IsOneOf}
 use Rattle.ar_base.specs.Numbers.{VarId}
@@ -15,7 +15,7 @@ use Rattle.gts_core.specs.declared.system.Observer.{Observer}
 use Rattle.gts_core.specs.declared.system.GtsParts.{GtsParts}
 use Rattle.gts_core.proofs.Tests.{turned_answer}
 use Rattle.flow_reasons.specs.Answers.{numbers_of}
-use Rattle.reason_text.specs.Answers.{told_at, AreTold, AreAll, AreMarked, observed, value_found}
+use Rattle.reason_text.specs.Answers.{told_at, AreTold, AreMarked, observed, value_found}
 
 at_here : (marks : List Bool) (n : ℕ) → n < length marks → told_at (set marks n true) n ≡ true
 at_here [] n l = absurd (omega (arith, l))
@@ -34,11 +34,18 @@ pub record AreSoFar (count : ℕ) (xs : List VarId) (marks : List Bool) : Type 0
   pub long : length marks ≡ count
   pub are : AreMarked count (numbers_of xs) marks
 
-pub none_so_far : (count : ℕ) (marks : List Bool) → length marks ≡ count
-    → ((n : ℕ) → n < count → told_at marks n ≡ false) → AreSoFar count [] marks
-none_so_far count marks l f = record {
-  long = l;
-  are = record { each = λ n i. subst (λ (b : Bool). IsAnswer b (IsOneOf [] n)) (sym (f n i)) (λ o. one_none n o) };
+unset_at : (count n : ℕ) → told_at (replicate count false) n ≡ false
+unset_at zero n = refl
+unset_at (suc count) zero = refl
+unset_at (suc count) (suc n) = unset_at count n
+
+pub none_so_far : (count : ℕ) (marks : List Bool) → marks ≡ replicate count false → AreSoFar count [] marks
+none_so_far count marks e = record {
+  long = ap length e ∙ length-replicate count false;
+  are = record {
+    each = λ n i. subst (λ (b : Bool). IsAnswer b (IsOneOf [] n)) (sym (ap (λ z. told_at z n) e ∙ unset_at count n))
+        (λ o. one_none n o);
+  };
 }
 
 pub one_more : (count : ℕ) (xs : List VarId) (i : ℕ) (d : VarId) (old new : List Bool) → i < length xs
@@ -79,11 +86,16 @@ all_so_far count xs i marks l h = subst (λ (z : List VarId). AreMarked count (n
     h.are
 
 -- without an observer all are told
+set_at : (count n : ℕ) → n < count → told_at (replicate count true) n ≡ true
+set_at zero n l = absurd (omega (arith, l))
+set_at (suc count) zero l = refl
+set_at (suc count) (suc n) l = set_at count n (omega (arith, l))
+
 pub told_all : (p : GtsParts) (reasons : List rounds.Reason) (count : ℕ) (marks : List Bool)
-    → count ≡ length p.variables.items → AreAll count marks
+    → count ≡ length p.variables.items → marks ≡ replicate count true
     → AreTold p reasons None marks
 told_all p reasons count marks e h = record {
-  each = λ n l. subst (λ (b : Bool). IsAnswer b (Unit {0})) (sym (h.each n (omega (arith, l, e)))) tt;
+  each = λ n l. subst (λ (b : Bool). IsAnswer b (Unit {0})) (sym (ap (λ z. told_at z n) h ∙ set_at count n (omega (arith, l, e)))) tt;
 }
 
 -- with one those of its cone

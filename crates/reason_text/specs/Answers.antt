@@ -1,5 +1,5 @@
 -- What printing answers.
-use Rattle.std.specs.Prelude.{◌≡◌, ◌<◌, ℕ, Bool, true, false, List, [], ◌∷◌, ◌++◌, length, Option, Some, None, Result, Ok, Err, slice_get, unwrap_or, if◌then◌else◌}
+use Rattle.std.specs.Prelude.{◌≡◌, ◌<◌, ℕ, Bool, false, List, [], ◌∷◌, ◌++◌, length, Option, Some, None, Result, Ok, Err, slice_get, unwrap_or, if◌then◌else◌}
 use Rattle.ar_base.specs.Lists.{IsOneOf}
 use Rattle.ar_base.specs.Numbers.{AssignId}
 use Rattle.ar_io.specs.Writing.{SinkState, Writes}
@@ -63,14 +63,6 @@ told_lines names told (r ∷ rs) = told_line names told r ++ told_lines names to
 pub record AreTold (p : GtsParts) (reasons : List rounds.Reason) (observer : Option (Expr ℕ)) (told : List Bool) : Type
     0 where
   pub each : (n : ℕ) → n < length p.variables.items → IsAnswer (told_at told n) (IsTold (net_of p) reasons observer n)
-
--- so many marks, all of which are set
-pub record AreAll (count : ℕ) (marks : List Bool) : Type 0 where
-  pub each : (n : ℕ) → n < count → told_at marks n ≡ true
-
--- so many marks, none of which is set
-pub record AreNone (count : ℕ) (marks : List Bool) : Type 0 where
-  pub each : (n : ℕ) → n < count → told_at marks n ≡ false
 
 -- so many marks, of which those of these numbers are set
 pub record AreMarked (count : ℕ) (numbers : List ℕ) (marks : List Bool) : Type 0 where

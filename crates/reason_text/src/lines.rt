@@ -1,12 +1,12 @@
 //! The lines of reasons.
 
-ghost use Rattle.std.specs.Prelude.{◌≡◌, ◌<◌, ◌++◌, false, length, codes};
+ghost use Rattle.std.specs.Prelude.{◌≡◌, ◌<◌, false, length, codes};
 ghost use Rattle.ar_base.specs.Texts.{separated};
 ghost use Rattle.ar_io.specs.Writing.{Writes};
 ghost use Rattle.gts_flatten.specs.Flat.{naming_of_parts};
 ghost use Rattle.flow_reasons.specs.Answers.{numbers_of, reason_of, reasons_of};
 ghost use Rattle.reason_text.specs.Answers.{told_at, told_lines, told_line, HaveAssigns, HasAssign};
-ghost use Rattle.reason_text.specs.Texts.{paths_of, path_of, from_text, added_text, why_text, reason_line};
+ghost use Rattle.reason_text.specs.Texts.{paths_of, from_text, added_text, why_text, reason_line};
 
 use ar_base::{AssignId, VarId};
 use ar_io::{Sink, SinkFailed, write_count, write_number, write_text};
@@ -126,16 +126,8 @@ fn more_paths<K: Sink>(out: &mut K, parts: &GtsParts, variables: &[VarId]) -> Re
         (numbers_of variables.now))) result }
 {
     for variable in variables {
-        next_path(out, parts, *variable)?;
+        write_text(out, ", ")?;
+        write_text(out, variable_path(parts, variable.n))?;
     }
     Ok(())
-}
-
-// A path behind another one.
-fn next_path<K: Sink>(out: &mut K, parts: &GtsParts, variable: VarId) -> Result<(), SinkFailed>
-    ensures { Writes (K.state out.old) (K.state out.new)
-        (codes ", " ++ path_of (naming_of_parts parts.now) variable.n) result }
-{
-    write_text(out, ", ")?;
-    write_text(out, variable_path(parts, variable.n))
 }

@@ -2,8 +2,7 @@ use Rattle.reason_text.proofs.Marks.{none_so_far, one_more, all_so_far}
 use Rattle.reason_text.proofs.telling.marks_of.Goals as goal
 
 pub loop-variable-init : goal.loop-variable-init
-loop-variable-init c = none_so_far c.args.count c.in_ok-marks.marks.items c.in_ok-marks.ensures.long
-    c.in_ok-marks.ensures.each.each
+loop-variable-init c = none_so_far c.args.count c.in_ok-marks.marks.items (c.in_ok-marks.ensures.items_if_clones_equal (λ y e. e))
 
 pub loop-variable-preserved : goal.loop-variable-preserved
 loop-variable-preserved c =

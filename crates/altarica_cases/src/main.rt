@@ -35,14 +35,6 @@ fn no_memory(_memory: Memory) -> io::Error {
     io::Error::from(io::ErrorKind::OutOfMemory)
 }
 
-// Places the file of this name on the shelf, if there is one.
-fn place(rt: &HostRuntime, shelf: &mut MemoryShelf, name: &str) -> io::Result<()> {
-    match fs::read(rt, name) {
-        Ok(bytes) => shelf.place(name, &bytes).map_err(no_memory),
-        Err(_) => Ok(()),
-    }
-}
-
 // Runs the job of the words, over a shelf and a sink of which this call fails, and prints what it answers.
 fn run(
     rt: &HostRuntime,
@@ -65,7 +57,9 @@ fn run(
 fn run_files(rt: &HostRuntime, name: &str, failing: [&str; 2], words: &[String]) -> io::Result<()> {
     let mut shelf = MemoryShelf::new(rt.alloc());
     for word in words {
-        place(rt, &mut shelf, word.as_str())?;
+        if let Ok(bytes) = fs::read(rt, word.as_str()) {
+            shelf.place(word.as_str(), &bytes).map_err(no_memory)?;
+        }
     }
     if let Ok(call) = failing[0].parse::<u32>() {
         shelf.fail_at(&[call]).map_err(no_memory)?;
@@ -111,37 +105,28 @@ pub(crate) fn end_of_job(
     println!(rt; "{last}")
 }
 
-// Runs the case of a line.
-fn run_line(rt: &HostRuntime, line: &str) -> io::Result<()> {
-    let mut parts = line.splitn(4, ' ');
-    let name = parts.next().unwrap_or("");
-    let load = parts.next().unwrap_or("-");
-    let put = parts.next().unwrap_or("-");
-    let words = match parts.next() {
-        Some(job) => words_of(rt, job)?,
-        None => Vec::new(rt.alloc()),
-    };
-    run_files(rt, name, [load, put], &words)
-}
-
-// Runs the cases of the folder.
+// Runs the cases of the folder, each of a line.
 fn run_cases(rt: &HostRuntime) -> io::Result<()> {
     let cases = fs::read_to_string(rt, "cases")?;
     for line in cases.lines() {
-        run_line(rt, line)?;
+        let mut parts = line.splitn(4, ' ');
+        let name = parts.next().unwrap_or("");
+        let load = parts.next().unwrap_or("-");
+        let put = parts.next().unwrap_or("-");
+        let words = match parts.next() {
+            Some(job) => words_of(rt, job)?,
+            None => Vec::new(rt.alloc()),
+        };
+        run_files(rt, name, [load, put], &words)?;
     }
     Ok(())
 }
 
 // Runs the cases, the texts, the limits, the failing sinks, and the texts of tables.
-fn run_all(rt: &HostRuntime) -> io::Result<()> {
-    run_cases(rt)?;
-    run_texts(rt)?;
-    run_limits(rt)?;
-    run_sinks(rt)?;
-    run_table_texts(rt)
-}
-
 fn main(rt: HostRuntime) -> io::Result<()> {
-    run_all(&rt)
+    run_cases(&rt)?;
+    run_texts(&rt)?;
+    run_limits(&rt)?;
+    run_sinks(&rt)?;
+    run_table_texts(&rt)
 }

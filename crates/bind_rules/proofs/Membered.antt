@@ -1,5 +1,5 @@
 -- Members of units, and where they break a rule.
-use Rattle.std.proofs.Common.{◌≡◌, ℕ, ◌≤◌, ◌⊎◌, inl, inr, List, [], ◌∷◌, map, length, unwrap_or, slice_get, Option, None, refl, sym, ◌∙◌, ap, subst}
+use Rattle.std.proofs.Common.{◌≡◌, ℕ, ◌⊎◌, inl, inr, List, [], ◌∷◌, map, Option, None, refl, sym, subst}
 use Rattle.std.specs.List.{flat_map}
 use Rattle.ar_base.specs.Lists.{Stands, IsOneOf}
 use Rattle.ar_base.specs.Numbers.{NameId, BodyId}
@@ -16,19 +16,16 @@ use Rattle.class_table.specs.Declaring.{MemberForm}
 use Rattle.class_table.specs.Earliest.{IsEarliest, nowhere, IsEarlierOf}
 use Rattle.class_table.specs.Members.{Site, owned_at}
 use Rattle.class_table.specs.Tables.{site_of}
-use Rattle.class_table.specs.declared.tables.Body.{Body}
-use Rattle.class_table.specs.declared.tables.Classes.{Classes}
 use Rattle.class_table.proofs.FirstPlaces.{earliest_same, earliest_both}
 use Rattle.class_table.proofs.Looping.{AtItem}
-use Rattle.hierarchy.specs.Models.{RootedModel, IsRootedTable}
-use Rattle.hierarchy.specs.Units.{UnitPath, body_of}
+use Rattle.hierarchy.specs.Models.{RootedModel}
+use Rattle.hierarchy.specs.Units.{UnitPath, members_at}
 use Rattle.hierarchy.specs.Listing.{form_of, forms_at}
 use Rattle.hierarchy.specs.Tie.{IsTreeOf}
 use Rattle.hierarchy.specs.declared.tree.UnitNode.{UnitNode}
 use Rattle.hierarchy.specs.declared.tree.Tree.{Tree}
 use Rattle.source_meaning.specs.Tested.{Everything}
 use Rattle.unit_rules.proofs.Sited.{flat_one, one_flat}
-use Rattle.instantiate.proofs.OneName.{members_there, members_past}
 use Rattle.bind_rules.specs.Breaking.{BreaksExpression, BreaksAction, BreaksAssertion, BreaksEvent, BreaksMember, event, guard, action, assertion, BreaksOneMember, BreaksUnit}
 use Rattle.bind_rules.specs.declared.rules.Rule.{Rule}
 
@@ -145,24 +142,12 @@ module _ (m : RootedModel) (rule : Rule) (u : UnitPath) where
         },
       )
 
-  -- the members of the unit are those of its body
-  pub body_members : (c : Classes) → IsRootedTable m c → (d : UnitNode) → d.body.n ≡ body_of m u → (body : Body)
-      → Stands c.bodies.items d.body.n body → (r : Option Place)
-      → IsEarliest (BreaksOneMember m rule u
-      (flat_map (λ (s : Site). form_of (owned_at m.declared s)) (map site_of body.all.items))) r
+  -- the members of the unit are those at its body's sites
+  pub body_members : (all : List (BodyId × ℕ)) → map site_of all ≡ members_at m u → (r : Option Place)
+      → IsEarliest (BreaksOneMember m rule u (flat_map (λ (s : Site). form_of (owned_at m.declared s)) (map site_of all))) r
       → IsEarliest (BreaksOneMember m rule u (forms_at m u)) r
-  body_members c t d e body s r h =
-      let q = members_there m c t d.body.n body s ∙ ap (λ (n : ℕ). unwrap_or (slice_get m.members n) []) e in
-      subst (λ (sites : List Site). IsEarliest
+  body_members all q r h = subst (λ (sites : List Site). IsEarliest
       (BreaksOneMember m rule u (flat_map (λ (s : Site). form_of (owned_at m.declared s)) sites)) r) q h
-
-  pub no_body_members : (c : Classes) → IsRootedTable m c → (d : UnitNode) → d.body.n ≡ body_of m u
-      → length c.bodies.items ≤ d.body.n → IsEarliest (BreaksOneMember m rule u (forms_at m u)) None
-  no_body_members c t d e l =
-      let q = sym (members_past m c t d.body.n l) ∙ ap (λ (n : ℕ). unwrap_or (slice_get m.members n) []) e in
-      subst (λ (sites : List Site). IsEarliest
-      (BreaksOneMember m rule u (flat_map (λ (s : Site). form_of (owned_at m.declared s)) sites)) None) q
-      none_of_forms
 
 -- units
 module _ (m : RootedModel) (units : List UnitPath) (rule : Rule) where

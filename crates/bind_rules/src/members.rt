@@ -9,8 +9,7 @@ ghost use Rattle.class_table.specs.Members.{owned_at as declared_at};
 ghost use Rattle.class_table.specs.Tables.{site_of};
 ghost use Rattle.hierarchy.specs.Models.{RootedModel};
 ghost use Rattle.hierarchy.specs.Units.{UnitPath};
-ghost use Rattle.hierarchy.specs.Listing.{form_of, forms_at};
-ghost use Rattle.hierarchy.specs.Tie.{IsUnitNode};
+ghost use Rattle.hierarchy.specs.Listing.{form_of};
 ghost use Rattle.bind_scopes.specs.Scopes.{AreScopes, HasScopes};
 ghost use Rattle.bind_rules.specs.Breaking.{BreaksMember, BreaksOneMember, BreaksUnit};
 
@@ -19,10 +18,9 @@ use crate::expressions::{in_action, in_assertion, in_expression};
 use crate::rules::Rule;
 use ar_base::{BodyId, Place, UnitId};
 use ar_syntax::Member;
-use bind_scopes::{Scope, Scopes};
+use bind_scopes::{Scope, Scopes, members_of};
 use class_table::earliest::earliest;
 use class_table::{Owned, owned_at};
-use hierarchy::UnitNode;
 use typed_expr::ValueKind;
 
 // The earliest place at which the member breaks the rule.
@@ -87,20 +85,6 @@ fn in_sites<'a>(
     found
 }
 
-// The earliest place at which a member of the unit breaks the rule.
-fn in_unit<'a>(scopes: &'a Scopes<'a>, rule: Rule, unit: UnitId, node: &UnitNode) -> Option<Place>
-    requires scopes { HasScopes scopes.now }
-    requires in_range { unit.n < length scopes.now.tree.now.units.items }
-    ensures { (m : RootedModel) (units : List UnitPath) (u : UnitPath)
-        → AreScopes m units scopes.now → Stands units unit.n u → IsUnitNode m units u node.now
-        → IsEarliest (BreaksOneMember m rule u (forms_at m u)) result }
-{
-    match scopes.tree.classes.bodies.get(node.body.n as usize) {
-        None => None,
-        Some(body) => in_sites(scopes, rule, unit, &body.all),
-    }
-}
-
 /// The earliest place at which a member of some unit breaks the rule.
 pub(crate) fn in_units<'a>(scopes: &'a Scopes<'a>, rule: Rule) -> Option<Place>
     requires { HasScopes scopes.now }
@@ -109,8 +93,9 @@ pub(crate) fn in_units<'a>(scopes: &'a Scopes<'a>, rule: Rule) -> Option<Place>
 {
     let mut found = None;
     for (place, node) in scopes.tree.units.iter().enumerate() {
-        let here = in_unit(scopes, rule, UnitId::new(place as u32), node);
-        found = earliest(found, here);
+        let unit = UnitId::new(place as u32);
+        let sites = members_of(&scopes.tree.classes, node.body);
+        found = earliest(found, in_sites(scopes, rule, unit, sites));
     }
     found
 }

@@ -1,7 +1,7 @@
 //! The values of variables and parameters and the expressions of observers, and where they break a
 //! rule.
 
-ghost use Rattle.std.specs.Prelude.{◌≡◌, IfSome, List, Some, option_map};
+ghost use Rattle.std.specs.Prelude.{◌≡◌, IfSome, List, option_map};
 ghost use Rattle.ar_base.specs.Lists.{Along, Stands};
 ghost use Rattle.class_table.specs.Declaring.{Declared};
 ghost use Rattle.class_table.specs.Members.{owned_at as declared_at};
@@ -16,8 +16,7 @@ ghost use Rattle.gts_core.specs.Sound.{kind_of_domain as kind_of_values};
 ghost use Rattle.source_meaning.specs.Kinds.{IsOfKind};
 ghost use Rattle.bind_scopes.specs.Scopes.{AreScopes, HasScopes};
 ghost use Rattle.bind_rules.specs.Breaking.{BreaksValue, BreaksParameter, BreaksObserver, BreaksOne};
-ghost use Rattle.bind_scopes.specs.Naming.{kind_of_parameter};
-ghost use Rattle.bind_rules.specs.Owning.{IsOwnScope, scope_by, observed_in};
+ghost use Rattle.bind_rules.specs.Owning.{IsOwnScope, observed_in};
 ghost use Rattle.bind_rules.specs.Testing.{IsTested};
 
 use crate::expressions::in_expression;
@@ -29,17 +28,6 @@ use class_table::earliest::earliest;
 use class_table::{Classes, Owned, owned_at};
 use hierarchy::{Attribute, MemNode, ParNode, Source, VarNode};
 use typed_expr::ValueKind;
-
-// The scope of a value by the setting in which it stands, where the first is that of a value that
-// its thing declares itself.
-fn scope_of(own: Scope, setting: Option<u32>) -> Scope
-    ensures { result ≡ scope_by own setting }
-{
-    match setting {
-        None => own,
-        Some(_) => Scope::Constants,
-    }
-}
 
 // The earliest place at which the value breaks the rule, of which this kind is wanted; the scope is
 // that of a value that its thing declares itself.
@@ -55,7 +43,10 @@ fn in_value<'a>(
         → IsOwnScope m units t own → HasAttribute m units t value → IsOfKind m t kind
         → IsEarliest (BreaksValue m rule t) result }
 {
-    let scope = scope_of(own, value.source.setting);
+    let scope = match value.source.setting {
+        None => own,
+        Some(_) => Scope::Constants,
+    };
     match written(&scopes.tree.classes, value.source) {
         None => None,
         Some(expr) => in_expression(scopes, rule, value.from, scope, kind, expr),
@@ -65,17 +56,6 @@ fn in_value<'a>(
 // What the value of a variable was tested for: the value, the kind that was wanted of it, and the earliest place at which
 // it breaks the rule.
 type Tested = (Attribute, ValueKind, Option<Place>);
-
-// The test of a value of which this kind is wanted.
-fn tested<'a>(scopes: &'a Scopes<'a>, rule: Rule, kind: ValueKind, value: Attribute) -> Tested
-    requires { HasScopes scopes.now }
-    ensures tested { IsTested scopes.now rule result }
-    ensures value { result.0 ≡ value }
-    ensures kind { result.1 ≡ kind }
-{
-    let place = in_value(scopes, rule, Scope::Constants, kind, value);
-    (value, kind, place)
-}
 
 // The test of the value of a variable, which is the last one where that was of the same value.
 fn in_variable<'a>(
@@ -90,23 +70,12 @@ fn in_variable<'a>(
     ensures kind { result.1 ≡ kind_of_values node.now.domain }
 {
     let kind = kind_of_domain(&node.domain);
-    let Some(test) = last else {
-        return tested(scopes, rule, kind, node.value);
-    };
-    if is_same_value(test.0, node.value) && is_same_kind(test.1, kind) {
-        test
-    } else {
-        tested(scopes, rule, kind, node.value)
-    }
-}
-
-// The kind of a parameter with a value that is read.
-fn kind_of(node: &ParNode) -> ValueKind
-    ensures { result ≡ kind_of_parameter node.now.domain }
-{
-    match &node.domain {
-        Some(domain) => kind_of_domain(domain),
-        None => ValueKind::Whole,
+    match last {
+        Some(test) if is_same_value(test.0, node.value) && is_same_kind(test.1, kind) => test,
+        _ => {
+            let place = in_value(scopes, rule, Scope::Constants, kind, node.value);
+            (node.value, kind, place)
+        }
     }
 }
 
@@ -121,13 +90,11 @@ fn in_parameter<'a>(scopes: &'a Scopes<'a>, rule: Rule, place: u32, node: &ParNo
     if !scopes.is_read(place) {
         return None;
     }
-    in_value(
-        scopes,
-        rule,
-        Scope::Before(place),
-        kind_of(node),
-        node.value,
-    )
+    let kind = match &node.domain {
+        Some(domain) => kind_of_domain(domain),
+        None => ValueKind::Whole,
+    };
+    in_value(scopes, rule, Scope::Before(place), kind, node.value)
 }
 
 /// The type and the expression of the observer that stands there, where one does. Takes no memory.

@@ -1,9 +1,9 @@
-use Rattle.std.proofs.Common.{ℕ, sym, subst}
+use Rattle.std.proofs.Common.{ℕ, [], unwrap_or, slice_get, sym, ◌∙◌, ap, subst}
 use Rattle.ar_base.specs.Lists.{Stands}
 use Rattle.ar_base.proofs.Standing.{along_back}
 use Rattle.class_table.proofs.Taken.{item_stands}
 use Rattle.class_table.proofs.Looping.{loop_start, loop_next, loop_end}
-use Rattle.bind_rules.proofs.Membered.{unit_now, unit_to, unit_back}
+use Rattle.bind_rules.proofs.Membered.{body_members, unit_now, unit_to, unit_back}
 use Rattle.bind_rules.proofs.members.in_units.Goals as goal
 
 pub loop-place-init : goal.loop-place-init
@@ -16,10 +16,13 @@ loop-place-preserved c = λ m units are.
     let s = item_stands c.args.scopes.now.tree.now.units.items c.loop-place.place c.node-item.result l i in
     let a = along_back units c.args.scopes.now.tree.now.units.items are.is_tree.units_are c.loop-place.place
     c.node-item.result s in
-    let at = subst (λ (n : ℕ). Stands units n a.0) (sym c.new.ensures) a.1 in
+    let at = subst (λ (n : ℕ). Stands units n a.0) (sym c.new-unit.ensures) a.1 in
+    let sites = c.members_of-sites.ensures m are.is_tree.table.table
+    ∙ ap (λ (k : ℕ). unwrap_or (slice_get m.members k) []) a.2.body in
     loop_next _ _ _ _ _ _ _ s (c.loop-place.invariant m units are)
-    (unit_now m units c.args.rule c.loop-place.place a.0 c.in_unit-here.result a.1
-    (c.in_unit-here.ensures m units a.0 are at a.2)) c.earliest-found.ensures
+    (unit_now m units c.args.rule c.loop-place.place a.0 c.in_sites.result a.1
+    (body_members m c.args.rule a.0 _ sites c.in_sites.result (c.in_sites.ensures m units a.0 are at)))
+    c.earliest-found.ensures
 
 pub returns : goal.returns
 returns c = λ m units are.

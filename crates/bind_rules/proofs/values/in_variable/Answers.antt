@@ -5,10 +5,15 @@ use Rattle.hierarchy.specs.declared.tree.Attribute.{Attribute}
 use Rattle.bind_rules.specs.Testing.{IsTested}
 use Rattle.bind_rules.proofs.values.in_variable.Goals as goal
 
-pub returns-then-is_same_kind : goal.returns-then-is_same_kind
-returns-then-is_same_kind c = record {
+pub returns-in-Some : goal.returns-in-Some
+returns-in-Some c = record {
   tested = λ h. subst (λ (o : Option (Attribute × ValueKind × Option Place)). IfSome o
       (IsTested c.args.scopes.now c.args.rule)) c.in-Some.is h;
   value = c.is_same_value.ensures c.if-is_same_value.true;
   kind = c.is_same_kind.ensures c.if-is_same_kind.true ∙ c.kind_of_domain-kind.ensures;
+}
+
+pub returns-in_default-clause-tested : goal.returns-in_default-clause-tested
+returns-in_default-clause-tested c = λ h. record {
+  place = λ m units t are own h kind. c.in_value-place.ensures m units t are own h kind;
 }

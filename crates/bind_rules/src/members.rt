@@ -43,27 +43,6 @@ fn in_member<'a>(scopes: &'a Scopes<'a>, rule: Rule, unit: UnitId, member: &Memb
     }
 }
 
-// The earliest place at which the member at a site breaks the rule.
-fn in_site<'a>(
-    scopes: &'a Scopes<'a>,
-    rule: Rule,
-    unit: UnitId,
-    site: (BodyId, u32),
-) -> Option<Place>
-    requires scopes { HasScopes scopes.now }
-    requires in_range { unit.n < length scopes.now.tree.now.units.items }
-    ensures { (m : RootedModel) (units : List UnitPath) (u : UnitPath)
-        → AreScopes m units scopes.now → Stands units unit.n u
-        → IsEarliest (BreaksOneMember m rule u
-        (form_of (declared_at m.declared (site_of site)))) result }
-{
-    match owned_at(&scopes.tree.classes.bodies, site) {
-        None => None,
-        Some(Owned::Nested(_, _, _)) => None,
-        Some(Owned::Plain(member)) => in_member(scopes, rule, unit, member),
-    }
-}
-
 // The earliest place at which a member at one of these sites breaks the rule.
 fn in_sites<'a>(
     scopes: &'a Scopes<'a>,
@@ -80,7 +59,12 @@ fn in_sites<'a>(
 {
     let mut found = None;
     for site in sites {
-        found = earliest(found, in_site(scopes, rule, unit, *site));
+        let here = match owned_at(&scopes.tree.classes.bodies, *site) {
+            None => None,
+            Some(Owned::Nested(_, _, _)) => None,
+            Some(Owned::Plain(member)) => in_member(scopes, rule, unit, member),
+        };
+        found = earliest(found, here);
     }
     found
 }

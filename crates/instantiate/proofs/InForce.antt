@@ -25,7 +25,8 @@ use Rattle.unit_rules.specs.Rules.{BreaksForm, declares}
 use Rattle.unit_rules.specs.Typing.{bounds_variables}
 use Rattle.unit_rules.proofs.Sited.{one_flat}
 use Rattle.instantiate.specs.Nodes.{IsNodeSo}
-use Rattle.instantiate.specs.Values.{AreAttribute, none, some, KeepsDeclarations, declared_type, last_of}
+use Rattle.instantiate.specs.Values.{KeepsDeclarations, declared_type, last_of}
+use Rattle.settings_in_force.specs.InForce.{AreAttribute, none, some}
 use Rattle.instantiate.proofs.Named.{IsGivenAt, given_at, DeclaredBy, declares_owned}
 
 module _ (m : RootedModel) (units : List UnitPath) (t : Thing) (g : NamedMember) (d : MemNode)

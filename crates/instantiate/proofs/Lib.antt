@@ -1,12 +1,8 @@
-pub mod Depth
 pub mod Domained
-pub mod Dropped
 pub mod InForce
 pub mod Joined
 pub mod Named
 pub mod Noded
 pub mod OneName
 pub mod Parametered
-pub mod PlacesTold
 pub mod Ruled
-pub mod Upward

@@ -3,4 +3,3 @@ pub mod Settled
 pub mod Unfolding
 pub mod MadeTrees
 pub mod Values
-pub mod SettingPlaces

@@ -1,9 +1,7 @@
--- Values in force, as they are searched.
-use Rattle.std.specs.Prelude.{◌≡◌, ℕ, Bool, true, false, List, [], ◌∷◌, ◌++◌, Option, Some, None}
-use Rattle.ar_syntax.specs.declared.expressions.RawExpr.{RawExpr}
+-- What is declared, as it is searched.
+use Rattle.std.specs.Prelude.{◌≡◌, Bool, true, false, List, [], ◌∷◌, ◌++◌, Option, Some, None}
 use Rattle.ar_syntax.specs.declared.members.Member.{out-Member}
 use Rattle.ar_syntax.specs.declared.members.Member.TheOpen as member
-use Rattle.ar_syntax.specs.declared.members.Setting.{Setting}
 use Rattle.ar_base.specs.Numbers.{NameId}
 use Rattle.ar_syntax.specs.declared.members.TypeForm.{TypeForm}
 use Rattle.ar_syntax.specs.declared.members.TypeForm.TheVariants as form
@@ -12,14 +10,12 @@ use Rattle.class_table.specs.Declaring.{MemberForm, Declared}
 use Rattle.class_table.specs.declared.tables.Owned.{Owned}
 use Rattle.class_table.specs.declared.tables.Owned.TheVariants.{Plain, Nested}
 use Rattle.ar_base.specs.declared.places.Place.{Place}
-use Rattle.class_table.specs.Members.{Site, domain_named}
+use Rattle.class_table.specs.Members.{domain_named}
 use Rattle.hierarchy.specs.Models.{RootedModel}
 use Rattle.hierarchy.specs.Units.{UnitPath, Thing}
-use Rattle.hierarchy.specs.Settings.{TargetWord, Init, Reset, setting_for}
-use Rattle.hierarchy.specs.Settings as s
-use Rattle.hierarchy.specs.Tie.{IsAttribute, IsVariableNode}
+use Rattle.hierarchy.specs.Settings.{TargetWord, Init, Reset}
+use Rattle.hierarchy.specs.Tie.{IsVariableNode}
 use Rattle.hierarchy.specs.TypeDomains.{HasDomain}
-use Rattle.hierarchy.specs.declared.tree.Attribute.{Attribute}
 use Rattle.hierarchy.specs.declared.tree.VarNode.{VarNode}
 use Rattle.unit_rules.specs.Rules.{BreaksDeclaration}
 
@@ -45,22 +41,6 @@ abbrev pub parameter_type : Option Owned → Option (Option TypeForm)
 parameter_type None = None
 parameter_type (Some (Plain m)) = parameter_in (out-Member m)
 parameter_type (Some (Nested x at b)) = None
-
--- the place of the first of these settings that sets the target, or none; they are those from the place k on
-abbrev pub SetsFrom : UnitPath → Site → ℕ → List Setting → List TargetWord → Option ℕ → Type 0
-SetsFrom u s k settings target None = setting_for u s k settings target ≡ None
-SetsFrom u s k settings target (Some n) =
-    (value : RawExpr) × (setting_for u s k settings target
-    ≡ Some (record { unit = u; site = s; setting = Some n; value = value }))
-
--- the same of all settings of a declaration
-abbrev pub SetsAt : UnitPath → Site → List Setting → List TargetWord → Option ℕ → Type 0
-SetsAt u s settings target o = SetsFrom u s 0 settings target o
-
--- the value in code is this one, as far as there is one
-pub data AreAttribute (units : List UnitPath) : Option s.Attribute → Option Attribute → Type 0 where
-  none : AreAttribute units None None
-  some : {a : s.Attribute} {b : Attribute} → IsAttribute units a b → AreAttribute units (Some a) (Some b)
 
 -- the domain of a type, as far as it has one
 pub data HasDomainIf (d : Declared) : TypeForm → Option Domain → Type 0 where

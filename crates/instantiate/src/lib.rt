@@ -10,7 +10,6 @@ mod nodes;
 mod parameter_lists;
 mod plain;
 mod rules;
-mod setting_places;
 mod types_of;
 mod unfolding;
 mod values;

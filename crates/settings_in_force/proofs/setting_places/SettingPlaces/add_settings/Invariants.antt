@@ -1,6 +1,6 @@
 use Rattle.std.proofs.Common.{◌≤◌, drop, length}
-use Rattle.instantiate.specs.SettingPlaces.{AddsSettings}
-use Rattle.instantiate.proofs.setting_places.SettingPlaces.add_settings.Given as goal
+use Rattle.settings_in_force.specs.SettingPlaces.{AddsSettings}
+use Rattle.settings_in_force.proofs.setting_places.SettingPlaces.add_settings.Given as goal
 
 abbrev pub invariant-loop-place : goal.invariant-loop-place
 invariant-loop-place l = record {

@@ -1,16 +1,27 @@
 -- Where settings are, as a table tells it.
-use Rattle.std.specs.Prelude.{◌≡◌, ◌<◌, ◌⊎◌, ℕ, List, [], ◌∷◌, map, Option, Vec, nat_eq}
+use Rattle.std.specs.Prelude.{◌≡◌, ◌<◌, ◌⊎◌, ℕ, List, [], ◌∷◌, map, Option, Some, None, Vec, nat_eq}
 use Rattle.std.specs.Global.{Global}
 use Rattle.std.specs.HashMap as hash
 use Rattle.std.specs.Cmp.Lexicographic.{pointwise}
+use Rattle.ar_syntax.specs.declared.expressions.RawExpr.{RawExpr}
 use Rattle.ar_syntax.specs.declared.members.Setting.{Setting}
 use Rattle.class_table.specs.Members.{Site}
 use Rattle.hierarchy.specs.Models.{RootedModel}
 use Rattle.hierarchy.specs.Units.{UnitPath}
-use Rattle.hierarchy.specs.Settings.{TargetWord, settings_at}
+use Rattle.hierarchy.specs.Settings.{TargetWord, setting_for, settings_at}
 use Rattle.unit_rules.specs.Repeats.{code_of}
-use Rattle.instantiate.specs.Values.{SetsAt, SetsFrom}
-use Rattle.instantiate.specs.declared.setting_places.SettingPlaces.{SettingPlaces}
+use Rattle.settings_in_force.specs.declared.setting_places.SettingPlaces.{SettingPlaces}
+
+-- the place of the first of these settings that sets the target, or none; they are those from the place k on
+abbrev pub SetsFrom : UnitPath → Site → ℕ → List Setting → List TargetWord → Option ℕ → Type 0
+SetsFrom u s k settings target None = setting_for u s k settings target ≡ None
+SetsFrom u s k settings target (Some n) =
+    (value : RawExpr) × (setting_for u s k settings target
+    ≡ Some (record { unit = u; site = s; setting = Some n; value = value }))
+
+-- the same of all settings of a declaration
+abbrev pub SetsAt : UnitPath → Site → List Setting → List TargetWord → Option ℕ → Type 0
+SetsAt u s settings target o = SetsFrom u s 0 settings target o
 
 -- the numbers of a declaration and of a target; different ones have different numbers
 abbrev pub numbers_of : Site → List TargetWord → List ℕ

@@ -3,9 +3,10 @@ use Rattle.class_table.specs.Members.{Site}
 use Rattle.class_table.specs.Tables.{site_of}
 use Rattle.hierarchy.specs.Settings.{target_word_of, set_by, settings_at}
 use Rattle.hierarchy.specs.Settings as s
-use Rattle.instantiate.specs.Values.{SetsAt, AreAttribute, none}
-use Rattle.instantiate.proofs.Upward.{set_none, set_some, set_there}
-use Rattle.instantiate.proofs.values.set_here.Goals as goal
+use Rattle.settings_in_force.specs.SettingPlaces.{SetsAt}
+use Rattle.settings_in_force.specs.InForce.{AreAttribute, none}
+use Rattle.settings_in_force.proofs.Upward.{set_none, set_some, set_there}
+use Rattle.settings_in_force.proofs.values.set_here.Goals as goal
 
 pub returns-in_default : goal.returns-in_default
 returns-in_default c = λ m units above site tells at t.

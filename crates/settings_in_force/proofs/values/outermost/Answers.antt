@@ -7,11 +7,11 @@ use Rattle.hierarchy.specs.Settings.{Named, target_word_of, set_by}
 use Rattle.hierarchy.specs.Tie.{IsNameOfUnit, IsSetAt}
 use Rattle.hierarchy.specs.declared.tree.Attribute.{Attribute}
 use Rattle.ar_syntax.specs.declared.members.Word.{Word}
-use Rattle.instantiate.specs.Values.{AreAttribute}
-use Rattle.instantiate.proofs.Depth.{fewer_levels}
-use Rattle.instantiate.proofs.Upward.{IsOn, on_start, on_end, on_set, on_none, owner_none, owner_some, outline_of}
-use Rattle.instantiate.proofs.values.outermost.Goals as goal
-use Rattle.instantiate.proofs.values.outermost.Goals.{in-Some-2, in_default-2}
+use Rattle.settings_in_force.specs.InForce.{AreAttribute}
+use Rattle.settings_in_force.proofs.Depth.{fewer_levels}
+use Rattle.settings_in_force.proofs.Upward.{IsOn, on_start, on_end, on_set, on_none, owner_none, owner_some, outline_of}
+use Rattle.settings_in_force.proofs.values.outermost.Goals as goal
+use Rattle.settings_in_force.proofs.values.outermost.Goals.{in-Some-2, in_default-2}
 
 pub loop-level-init : goal.loop-level-init
 loop-level-init c = λ m units classes u h tells there. on_start m units u _ c.args.unit.n there

@@ -2,8 +2,8 @@ use Rattle.std.proofs.Common.{ℕ, ◌∷◌, Option, map, sym, ◌∙◌, ap, s
 use Rattle.class_table.specs.Tables.{site_of}
 use Rattle.hierarchy.specs.Settings.{target_word_of, settings_at}
 use Rattle.unit_rules.specs.Repeats.{code_of}
-use Rattle.instantiate.specs.Values.{SetsAt}
-use Rattle.instantiate.proofs.setting_places.SettingPlaces.find.Goals as goal
+use Rattle.settings_in_force.specs.SettingPlaces.{SetsAt}
+use Rattle.settings_in_force.proofs.setting_places.SettingPlaces.find.Goals as goal
 
 pub returns : goal.returns
 returns c = λ m u tells.

@@ -14,7 +14,8 @@ use Rattle.hierarchy.specs.Tie.{IsOwner, of_main, of_unit, IsSetAt, IsOutline}
 use Rattle.hierarchy.specs.Tie.IsSetAt.{none as not_set, some as is_set}
 use Rattle.hierarchy.specs.declared.outline.Outline.{Outline}
 use Rattle.hierarchy.specs.declared.tree.Attribute.{Attribute}
-use Rattle.instantiate.specs.Values.{SetsAt, AreAttribute, none, some}
+use Rattle.settings_in_force.specs.SettingPlaces.{SetsAt}
+use Rattle.settings_in_force.specs.InForce.{AreAttribute, none, some}
 
 -- the declaration whose settings hold in a unit, as the code keeps it
 pub set_none : (site : Option Site) (o : Option (BodyId × ℕ)) → IsSetAt site o → o ≡ None → site ≡ None

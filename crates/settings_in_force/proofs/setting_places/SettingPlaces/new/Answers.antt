@@ -5,8 +5,8 @@ use Rattle.std.specs.Map.{lookup}
 use Rattle.ar_base.proofs.Standing.{along_length}
 use Rattle.class_table.proofs.OwnAt.{own_shown}
 use Rattle.class_table.proofs.Taken.{item_stands}
-use Rattle.instantiate.proofs.PlacesTold.{first_start, bodies_end}
-use Rattle.instantiate.proofs.setting_places.SettingPlaces.new.Goals as goal
+use Rattle.settings_in_force.proofs.PlacesTold.{first_start, bodies_end}
+use Rattle.settings_in_force.proofs.setting_places.SettingPlaces.new.Goals as goal
 
 pub loop-place-init : goal.loop-place-init
 loop-place-init c = λ m h. first_start m _

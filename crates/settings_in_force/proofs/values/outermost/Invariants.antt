@@ -5,9 +5,9 @@ use Rattle.hierarchy.specs.Units.{UnitPath}
 use Rattle.hierarchy.specs.Settings.{target_word_of}
 use Rattle.hierarchy.specs.Tie.{AreOutlines}
 use Rattle.class_table.specs.declared.tables.Classes.{Classes}
-use Rattle.instantiate.specs.SettingPlaces.{TellsSettings}
-use Rattle.instantiate.proofs.Upward.{IsOn}
-use Rattle.instantiate.proofs.values.outermost.Given as goal
+use Rattle.settings_in_force.specs.SettingPlaces.{TellsSettings}
+use Rattle.settings_in_force.proofs.Upward.{IsOn}
+use Rattle.settings_in_force.proofs.values.outermost.Given as goal
 
 abbrev pub invariant-loop-level : goal.invariant-loop-level
 invariant-loop-level l = (m : RootedModel) (units : List UnitPath) (classes : Classes) (u : UnitPath)

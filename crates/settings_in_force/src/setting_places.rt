@@ -7,8 +7,7 @@ ghost use Rattle.hierarchy.specs.Models.{RootedModel};
 ghost use Rattle.hierarchy.specs.Units.{UnitPath};
 ghost use Rattle.hierarchy.specs.Settings.{target_word_of, settings_at};
 ghost use Rattle.unit_rules.specs.Repeats.{code_of};
-ghost use Rattle.instantiate.specs.Values.{SetsAt};
-ghost use Rattle.instantiate.specs.SettingPlaces.{AddsSettings, TellsFirst, TellsSettings};
+ghost use Rattle.settings_in_force.specs.SettingPlaces.{SetsAt, AddsSettings, TellsFirst, TellsSettings};
 
 use ar_base::{BodyId, Memory};
 use ar_syntax::{Setting, Word};
@@ -20,7 +19,7 @@ use unit_rules::{settings_of, word_code};
 /// The place of the first setting of each target, by the numbers of the declaration's body, of its place there, and of
 /// the target's words.
 #[derive(Drop)]
-pub(crate) struct SettingPlaces {
+pub struct SettingPlaces {
     places: HashMap<Vec<u64>, usize>,
 }
 
@@ -40,7 +39,7 @@ fn key_of(alloc: Global, body: u64, member: u64, words: &[Word]) -> Result<Vec<u
 
 impl SettingPlaces {
     /// The places of the settings of a table.
-    pub(crate) fn new(alloc: Global, classes: &Classes) -> Result<SettingPlaces, Memory>
+    pub fn new(alloc: Global, classes: &Classes) -> Result<SettingPlaces, Memory>
         ensures { (m : RootedModel) → HoldsDeclared m.declared classes.now
             → IfOk result (TellsSettings m) }
     {

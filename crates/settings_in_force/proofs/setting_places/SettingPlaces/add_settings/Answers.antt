@@ -4,9 +4,9 @@ use Rattle.ar_syntax.specs.declared.members.Word.{Word}
 use Rattle.class_table.proofs.Taken.{item_stands}
 use Rattle.hierarchy.specs.Settings.{target_word_of}
 use Rattle.unit_rules.specs.Repeats.{code_of}
-use Rattle.instantiate.specs.SettingPlaces.{AddsSettings}
-use Rattle.instantiate.proofs.PlacesTold.{adds_none, adds_next}
-use Rattle.instantiate.proofs.setting_places.SettingPlaces.add_settings.Goals as goal
+use Rattle.settings_in_force.specs.SettingPlaces.{AddsSettings}
+use Rattle.settings_in_force.proofs.PlacesTold.{adds_none, adds_next}
+use Rattle.settings_in_force.proofs.setting_places.SettingPlaces.add_settings.Goals as goal
 
 pub loop-place-init : goal.loop-place-init
 loop-place-init c = record { within = omega arith; adds = adds_none _ _ c.args.settings.now _ (omega arith) }

@@ -4,9 +4,9 @@ use Rattle.class_table.specs.Members.{owned_at}
 use Rattle.class_table.specs.declared.tables.Owned.{Owned}
 use Rattle.class_table.proofs.Taken.{item_stands}
 use Rattle.hierarchy.specs.Settings.{settings_of}
-use Rattle.instantiate.specs.SettingPlaces.{AddsSettings}
-use Rattle.instantiate.proofs.PlacesTold.{member_next, body_next}
-use Rattle.instantiate.proofs.setting_places.SettingPlaces.add_body.Goals as goal
+use Rattle.settings_in_force.specs.SettingPlaces.{AddsSettings}
+use Rattle.settings_in_force.proofs.PlacesTold.{member_next, body_next}
+use Rattle.settings_in_force.proofs.setting_places.SettingPlaces.add_body.Goals as goal
 
 pub loop-place-init : goal.loop-place-init
 loop-place-init c = λ m e h. h

@@ -9,7 +9,7 @@ use Rattle.std.proofs.lemmas.Slice.Eq.{bytes_eq-Decides}
 use Rattle.ar_base.specs.Lists.{Stands}
 use Rattle.ar_base.proofs.Comparing.{lt_or_same}
 use Rattle.ar_base.proofs.Items.{none_left}
-use Rattle.instantiate.proofs.Dropped.{drop_here}
+use Rattle.settings_in_force.proofs.Dropped.{drop_here}
 use Rattle.ar_syntax.specs.declared.members.Setting.{Setting}
 use Rattle.class_table.specs.Declaring.{TextBody}
 use Rattle.class_table.specs.Members.{Site, own_of, own_at}
@@ -18,9 +18,8 @@ use Rattle.hierarchy.specs.Units.{UnitPath}
 use Rattle.hierarchy.specs.Settings.{TargetWord, Named, Init, Reset, same_word, same_target, target_of, setting_for, settings_of, settings_at}
 use Rattle.unit_rules.specs.Repeats.{code_of}
 use Rattle.unit_rules.proofs.Meeting.{codes_same}
-use Rattle.instantiate.specs.Values.{SetsAt, SetsFrom}
-use Rattle.instantiate.specs.SettingPlaces.{numbers_of, place_at, TellsAt, TellsFrom, AddsSettings, IsBehind, TellsFirst, TellsSettings}
-use Rattle.instantiate.specs.declared.setting_places.SettingPlaces.{SettingPlaces}
+use Rattle.settings_in_force.specs.SettingPlaces.{SetsAt, SetsFrom, numbers_of, place_at, TellsAt, TellsFrom, AddsSettings, IsBehind, TellsFirst, TellsSettings}
+use Rattle.settings_in_force.specs.declared.setting_places.SettingPlaces.{SettingPlaces}
 
 -- Targets that are the same
 

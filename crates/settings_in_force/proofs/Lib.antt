@@ -1,0 +1,4 @@
+mod Depth
+mod Dropped
+mod PlacesTold
+mod Upward

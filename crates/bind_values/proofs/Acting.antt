@@ -47,7 +47,8 @@ use Rattle.written_forms.specs.Parts.{InstrForm, IsPartOf}
 use Rattle.written_forms.specs.Parts as part
 use Rattle.written_forms.specs.Breaches.{MisnamesItself, MistypesItself}
 use Rattle.written_forms.specs.Breaches as b
-use Rattle.written_forms.specs.Acting.{ActsAs, ElseActs, All_act, SetsTo, SetsBoth}
+use Rattle.two_way_assignments.specs.Assigning.{SetsTo, SetsBoth}
+use Rattle.written_forms.specs.Acting.{ActsAs, ElseActs, All_act}
 use Rattle.written_forms.specs.Acting as acts
 use Rattle.bind_scopes.specs.Naming.{sort_in}
 use Rattle.bind_scopes.specs.declared.naming.Sort.TheVariants.{States}

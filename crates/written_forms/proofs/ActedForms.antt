@@ -6,15 +6,14 @@ use Rattle.ar_syntax.specs.declared.expressions.RawExpr.{RawExpr}
 use Rattle.ar_syntax.specs.declared.instructions.Instr.{Instr, out-Instr}
 use Rattle.ar_syntax.specs.declared.instructions.Instr.TheOpen as instr
 use Rattle.ar_syntax.specs.declared.paths.Path.{Path}
-use Rattle.typed_expr.specs.declared.expr.Expr.{Expr, Variable}
-use Rattle.typed_expr.proofs.Opened.{opened-variable}
+use Rattle.typed_expr.specs.declared.expr.Expr.{Expr}
 use Rattle.gts_core.specs.declared.bound.Act.{Act, Skip, Set, out-Act, roll-Act, out-roll-Act}
 use Rattle.gts_core.specs.declared.bound.Act.TheOpen as act
 use Rattle.gts_core.specs.declared.bound.Act.TheViews.{All, outs-All}
 use Rattle.class_table.proofs.Taken.{take_item}
 use Rattle.written_forms.specs.declared.naming.Leaf.{Leaf}
 use Rattle.written_forms.specs.Parts.{InstrForm}
-use Rattle.written_forms.specs.Acting.{SetsTo, SetsBoth, ActsAs, All_act, IsConditional}
+use Rattle.written_forms.specs.Acting.{ActsAs, All_act, IsConditional}
 use Rattle.written_forms.specs.Acting as acts
 
 pub opened_skip : out-Act Skip ≡ act.Skip
@@ -24,14 +23,6 @@ opened_skip = out-roll-Act act.Skip
 pub opened_set : (x : VarId) (e : Expr VarId) (p : Place) → out-Act (Set x e p) ≡ act.Set x e p
 unfolding roll-Act out-Act denote.Hole.Carrier.roll
 opened_set x e p = out-roll-Act (act.Set x e p)
-
-pub set_one : (x : VarId) (at : Place) (y : VarId) → SetsTo x at y (Set x (Variable y) at)
-set_one x at y = record { value = Variable y; names = opened-variable y; is = opened_set x (Variable y) at }
-
-pub set_both : (x : VarId) (at : Place) (y : VarId) (other : Place) (v : Vec Act Global) (b c : Act)
-    → v.items ≡ b ∷ c ∷ [] → SetsTo x at y b → SetsTo y other x c → SetsBoth x at y other (All v)
-set_both x at y other v b c e h k =
-    record { acts = v; is = outs-All v; first = b; second = c; are = e; sets_first = h; sets_second = k }
 
 module _ (leaves : Path → Leaf) where
   pub moved : (i : Instr) (l : InstrForm) (a : Act) → out-Instr i ≡ l → ActsAs leaves l a → ActsAs leaves (out-Instr i) a
@@ -74,9 +65,3 @@ module _ (leaves : Path → Leaf) where
 
   pub all_start : (v : List Act) → v ≡ [] → All_act leaves [] v
   all_start v j = subst (λ (z : List Act). All_act leaves [] z) (sym j) acts.none
-
--- two items put behind none
-pub two_items : (xs ys zs : List Act) (b c : Act) → xs ≡ [] → ys ≡ xs ++ b ∷ [] → zs ≡ ys ++ c ∷ [] → zs ≡ b ∷ c ∷ []
-two_items xs ys zs b c e i j =
-    let first : ys ≡ b ∷ [] = i ∙ ap (λ (l : List Act). l ++ b ∷ []) e in
-    j ∙ ap (λ (l : List Act). l ++ c ∷ []) first

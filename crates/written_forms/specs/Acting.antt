@@ -2,36 +2,19 @@
 use Rattle.std.specs.Prelude.{◌≡◌, List, [], ◌∷◌, Option, Some, None, Box, Vec}
 use Rattle.std.specs.Global.{Global}
 use Rattle.ar_base.specs.Numbers.{VarId}
-use Rattle.ar_base.specs.declared.places.Place.{Place}
 use Rattle.ar_syntax.specs.declared.expressions.RawExpr.{RawExpr}
 use Rattle.ar_syntax.specs.declared.instructions.Instr.{Instr, out-Instr}
 use Rattle.ar_syntax.specs.declared.instructions.Instr.TheOpen as instr
 use Rattle.ar_syntax.specs.declared.paths.Path.{Path}
 use Rattle.domains.specs.declared.Value.{Value}
-use Rattle.typed_expr.specs.declared.expr.Expr.{Expr, out-Expr}
-use Rattle.typed_expr.specs.declared.expr.Expr.TheOpen.{Variable}
+use Rattle.typed_expr.specs.declared.expr.Expr.{Expr}
 use Rattle.gts_core.specs.declared.bound.Act.{Act, out-Act}
 use Rattle.gts_core.specs.declared.bound.Act.TheOpen as act
+use Rattle.two_way_assignments.specs.Assigning.{SetsBoth}
 use Rattle.written_forms.specs.Translating.{BecomesBy}
 use Rattle.written_forms.specs.declared.naming.Leaf.{Leaf}
 use Rattle.written_forms.specs.declared.naming.Leaf.TheVariants as leaf
 use Rattle.written_forms.specs.Parts.{InstrForm}
-
--- the instruction gives the variable, at this place, the value of the other one
-pub record SetsTo (x : VarId) (at : Place) (y : VarId) (a : Act) : Type 0 where
-  pub value : Expr VarId
-  pub names : out-Expr VarId value ≡ Variable y
-  pub is : out-Act a ≡ act.Set x value at
-
--- the instruction gives each of the two variables the value of the other one, the first one first
-pub record SetsBoth (x : VarId) (at : Place) (y : VarId) (other : Place) (a : Act) : Type 0 where
-  pub acts : Vec Act Global
-  pub is : out-Act a ≡ act.All acts
-  pub first : Act
-  pub second : Act
-  pub are : acts.items ≡ first ∷ second ∷ []
-  pub sets_first : SetsTo x at y first
-  pub sets_second : SetsTo y other x second
 
 mutual
   -- the written instruction becomes this one, where paths stand for these variables and values; a `:=:` becomes its two

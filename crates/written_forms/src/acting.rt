@@ -3,14 +3,14 @@
 ghost use Rattle.std.specs.Prelude.{IfOk};
 ghost use Rattle.ar_syntax.specs.declared.instructions.Instr.{out-Instr};
 ghost use Rattle.ar_syntax.specs.declared.instructions.Instr.TheOpen.{Assign as AssignForm, Tie as TieForm};
-ghost use Rattle.written_forms.specs.Acting.{ActsAs, All_act, SetsTo, SetsBoth, IsConditional};
+ghost use Rattle.written_forms.specs.Acting.{ActsAs, All_act, IsConditional};
 
 use crate::{Leaf, Leaves, translated};
-use ar_base::{Memory, Place, VarId};
+use ar_base::Memory;
 use ar_syntax::{Instr, Path, RawExpr};
 use gts_core::Act;
 use std::alloc::Global;
-use typed_expr::Expr;
+use two_way_assignments::both_ways;
 
 /// The bound instruction that a written one becomes, where its paths stand for these variables and
 /// values.
@@ -82,26 +82,9 @@ fn tied<L: Leaves>(alloc: Global, left: &Path, right: &Path, leaves: &L) -> Resu
         Leaf::Constant(_) => Ok(Act::Skip),
         Leaf::Variable(first) => match leaves.leaf(right) {
             Leaf::Constant(_) => Ok(Act::Skip),
-            Leaf::Variable(second) => both(alloc, first, left.at, second, right.at),
+            Leaf::Variable(second) => both_ways(alloc, first, left.at, second, right.at),
         },
     }
-}
-
-// The two assignments of a `:=:`.
-fn both(alloc: Global, first: VarId, at: Place, second: VarId, other: Place) -> Result<Act, Memory>
-    ensures { IfOk result (SetsBoth first at second other) }
-{
-    let mut acts = Vec::new(alloc);
-    acts.push(set_to(first, at, second))?;
-    acts.push(set_to(second, other, first))?;
-    Ok(Act::All(acts))
-}
-
-// The assignment of a variable to another one.
-fn set_to(target: VarId, at: Place, value: VarId) -> Act
-    ensures { SetsTo target at value result }
-{
-    Act::Set(target, Expr::Variable(value), at)
 }
 
 // The conditional of a written test and two branches.

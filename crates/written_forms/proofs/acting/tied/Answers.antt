@@ -13,6 +13,6 @@ returns-in-Constant-leaf g c = no_right c.in-Constant-leaf.field-0
 
 pub returns-in-Variable-leaf : goal.returns-in-Variable-leaf
 returns-in-Variable-leaf g c =
-    ok_map c.both.result (λ a h. tie c.in-Variable.first c.in-Variable-leaf.second
+    ok_map c.both_ways.result (λ a h. tie c.in-Variable.first c.in-Variable-leaf.second
     (sym c.leaf.ensures ∙ c.in-Variable.is) (sym c.leaf-in-Variable.ensures ∙ c.in-Variable-leaf.is) h)
-    c.both.ensures
+    c.both_ways.ensures

@@ -1,5 +1,5 @@
-use Rattle.written_forms.proofs.ActedForms.{set_both, two_items}
-use Rattle.written_forms.proofs.acting.both.Goals as goal
+use Rattle.two_way_assignments.proofs.Pairs.{set_both, two_items}
+use Rattle.two_way_assignments.proofs.both_ways.Goals as goal
 
 pub returns : goal.returns
 returns c =

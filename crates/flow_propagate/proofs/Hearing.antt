@@ -1,6 +1,5 @@
 -- Values outside their domains are noted while the facts are gathered.
 use Rattle.std.proofs.Common.{◌≡◌, ℕ, ◌≤◌, ◌⊎◌, inl, inr, Bool, true, false, cond, nat_lt, List, length, Contains, Option, Some, None, refl, sym, subst, arith}
-use Rattle.std.proofs.lemmas.Bool.Decides.{nat_tests}
 use Rattle.std.proofs.lemmas.Bool.{ltb-false}
 use Rattle.ar_base.specs.Least.{least_with}
 use Rattle.ar_base.specs.Lists.{Stands, IsOneOf}

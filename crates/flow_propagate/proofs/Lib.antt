@@ -6,7 +6,6 @@ pub mod Reaching
 pub mod Putting
 pub mod Starting
 pub mod Searching
-pub mod Others
 pub mod Values
 pub mod Totalling
 pub mod Missing

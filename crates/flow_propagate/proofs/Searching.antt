@@ -1,7 +1,7 @@
 -- The searches for faults find what they look for.
-use Rattle.std.proofs.Common.{◌≡◌, ℕ, zero, suc, ◌+◌, ◌<◌, ◌≤◌, ◌⊎◌, inl, inr, Bool, true, false, List, [], ◌∷◌, length, get_or, Contains, Some, None, sym, ap, ◌∙◌, subst, arith}
-use Rattle.ar_base.specs.Lists.{Stands, IsOneOf, IsFirst, HasNo, HasOther}
-use Rattle.ar_base.proofs.Standing.{stands_one, stands_map, stands_map_back, stands_within, at_most}
+use Rattle.std.proofs.Common.{◌≡◌, ℕ, ◌<◌, ◌≤◌, Bool, true, false, List, length, Contains, Some, None, sym, ap, ◌∙◌, subst, arith}
+use Rattle.ar_base.specs.Lists.{Stands, IsOneOf, IsFirst, HasNo}
+use Rattle.ar_base.proofs.Standing.{stands_one, stands_map, stands_map_back, stands_within}
 use Rattle.domains.proofs.Domains.{held, listed}
 use Rattle.domains.specs.declared.Value.{Value}
 use Rattle.domains.specs.declared.Domain.{Domain}
@@ -21,17 +21,8 @@ use Rattle.gts_core.specs.declared.system.Assign.{Assign}
 use Rattle.gts_core.specs.declared.system.GtsParts.{GtsParts}
 use Rattle.typed_expr.specs.Rows.{Rows, row_at}
 use Rattle.flow_propagate.specs.Table.{Holds, AreFacts}
-use Rattle.flow_propagate.specs.Searches.{AreTwo, IsTwo, Leaves, LeavesDomain, IsLeast}
-
--- a row with a value that is not its first
-pub two_of_other : (row : List Value) (v : Value) → Contains row v → HasOther row v → AreTwo row
-two_of_other row v c h = record {
-  first = v;
-  second = h.other;
-  has_first = c;
-  has_second = h.has;
-  differ = λ e. h.differs (sym e);
-}
+use Rattle.fact_rows.specs.Rows.{IsTwo}
+use Rattle.flow_propagate.specs.Searches.{Leaves, LeavesDomain, IsLeast}
 
 module _ (p : GtsParts) (t : List Value) (rows : Rows) (facts : AreFacts (net_of p) t rows) where
   two_there : (n : ℕ) (x : Variable) → IsTwo x.is_state (row_at rows n) → HasTwo (net_of p) t (variable_of n x)

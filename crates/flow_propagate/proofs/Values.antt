@@ -1,5 +1,5 @@
 -- What holds of each of the values so far.
-use Rattle.std.proofs.Common.{◌≡◌, inl, inr, ℕ, ◌+◌, ◌<◌, ◌≤◌, List, [], ◌∷◌, take, length, get_or, Contains, subst, sym, take_all, slice_get, Some, arith}
+use Rattle.std.proofs.Common.{inl, inr, ℕ, ◌+◌, ◌<◌, ◌≤◌, List, take, length, get_or, Contains, subst, sym, take_all}
 use Rattle.std.proofs.lemmas.List.{take_more}
 use Rattle.std.proofs.lemmas.List.Elements.{Contains-push_cases}
 use Rattle.domains.specs.declared.Value.{Value}

@@ -1,5 +1,5 @@
 -- What the searches for faults look for.
-use Rattle.std.specs.Prelude.{◌≡◌, ℕ, ◌<◌, ◌≤◌, Bool, false, List, Contains, Option, Some, None}
+use Rattle.std.specs.Prelude.{◌≡◌, ℕ, ◌<◌, ◌≤◌, List, Option, Some, None}
 use Rattle.ar_base.specs.Lists.{Stands}
 use Rattle.domains.specs.Domains as domains
 use Rattle.domains.specs.declared.Domain.{Domain}
@@ -13,18 +13,6 @@ use Rattle.gts_core.specs.declared.system.Assign.{Assign}
 use Rattle.gts_core.specs.declared.system.GtsParts.{GtsParts}
 use Rattle.typed_expr.specs.Rows.{Rows}
 use Rattle.flow_propagate.specs.Table.{Holds}
-
--- two different values in a list
-pub record AreTwo (values : List Value) : Type 0 where
-  pub first : Value
-  pub second : Value
-  pub has_first : Contains values first
-  pub has_second : Contains values second
-  pub differ : first ≡ second → ⊥
-
--- a flow with two values
-abbrev pub IsTwo : Bool → List Value → Type 0
-IsTwo is_state row = (is_state ≡ false) × AreTwo row
 
 -- an assignment that is reached and yields a value outside a domain
 pub record Leaves (rows : Rows) (domain : Domain) (a : Assign) : Type 0 where

@@ -1,12 +1,9 @@
 -- Tables of facts: a row of values for each variable.
-use Rattle.std.specs.Prelude.{◌≡◌, ◌<◌, if◌then◌else◌, ℕ, ◌⊎◌, Bool, true, false, List, [], ◌∷◌, length, Option, Some, None, Contains}
-use Rattle.ar_base.specs.Lists.{Stands}
-use Rattle.gts_core.specs.declared.system.Variable.{Variable}
+use Rattle.std.specs.Prelude.{◌≡◌, ℕ, ◌⊎◌, Bool, true, false, List, length, Option, Contains}
 use Rattle.domains.specs.Domains as domains
 use Rattle.domains.specs.declared.Domain.{Domain}
 use Rattle.domains.specs.declared.Value.{Value}
 use Rattle.typed_expr.specs.Rows.{Rows, row_at}
-use Rattle.typed_expr.specs.Sets.{HasExactly}
 use Rattle.typed_expr.specs.Yields.{Yields}
 use Rattle.typed_expr.specs.declared.expr.Expr.{out-Expr}
 use Rattle.ar_meaning.specs.Systems.{Assign, Net}
@@ -66,9 +63,3 @@ pub record PutsAll (domain : Domain) (target : ℕ) (values : List Value) (old n
   pub still : changed ≡ false → new ≡ old
   pub there : (w : Value) → Contains values w → domains.Holds domain w → Holds new target w
   pub gains : changed ≡ true → Gains domain target old new
-
--- the first rows of a table: the value of each state variable, and nothing for a flow
-pub record Starts (variables : List Variable) (values : List Value) (count : ℕ) (rows : Rows) : Type 0 where
-  pub long : length rows ≡ count
-  pub row : (n : ℕ) (x : Variable) (v : Value) → n < count → Stands variables n x → Stands values n v
-      → row_at rows n ≡ (if x.is_state then v ∷ [] else [])

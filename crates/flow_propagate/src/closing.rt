@@ -10,7 +10,7 @@ ghost use Rattle.flow_propagate.specs.Table.{AreFacts, Moves, IsClosed};
 ghost use Rattle.flow_propagate.specs.Searches.{IsLeast, LeavesDomain};
 ghost use Rattle.flow_propagate.specs.Closing.{IsWorklist, IsSettled, LooksAt, IsHeard, Hears};
 
-use crate::facts::{apply, start};
+use crate::facts::apply;
 use crate::pairs::Runs;
 use crate::plan::Plan;
 use crate::searches::with_target;
@@ -18,6 +18,7 @@ use crate::table::Table;
 use crate::worklist::{Worklist, add_readers, all_waiting, take};
 use ar_base::Memory;
 use domains::Value;
+use fact_rows::first_rows;
 use gts_core::GtsParts;
 use std::alloc::Global;
 
@@ -119,8 +120,8 @@ pub(crate) fn known(
         IsLeast parts.now.assigns.items (length parts.now.assigns.items)
         (LeavesDomain parts.now known.table.rows.items) known.outside) }
 {
-    let first = start(alloc, parts, values)?;
+    let rows = first_rows(alloc, &parts.variables, values)?;
     let work = all_waiting(alloc, &plan.order, &plan.places);
-    let known = close(alloc, parts, &plan.readers, work, first)?;
+    let known = close(alloc, parts, &plan.readers, work, Table { rows })?;
     Ok(known)
 }

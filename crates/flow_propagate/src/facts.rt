@@ -1,10 +1,10 @@
 //! The facts that follow from a state.
 
-ghost use Rattle.std.specs.Prelude.{true, false, [], ◌∷◌, if◌then◌else◌, ◌≡◌, ◌<◌, length, IfOk};
+ghost use Rattle.std.specs.Prelude.{true, false, ◌≡◌, ◌<◌, length, IfOk};
 ghost use Rattle.ar_base.specs.Lists.{IsOneOf};
 ghost use Rattle.domains.specs.Domains.{IsDomain};
 ghost use Rattle.gts_core.specs.Sound.{IsSound};
-ghost use Rattle.flow_propagate.specs.Table.{Puts, PutsAll, Starts};
+ghost use Rattle.flow_propagate.specs.Table.{Puts, PutsAll};
 ghost use Rattle.flow_propagate.specs.Closing.{Applies};
 ghost use Rattle.flow_propagate.specs.Searches.{LeavesDomain};
 ghost use Rattle.ar_meaning.specs.Found.{IsAnswer};
@@ -86,31 +86,4 @@ pub(crate) fn apply(
     let outside = some_outside(domain, set.values());
     let changed = put_all(table, domain, assign.target.n, set.values())?;
     Ok(Look { changed, outside })
-}
-
-// The table with the values of the state variables alone.
-pub(crate) fn start(alloc: Global, parts: &GtsParts, values: &[Value]) -> Result<Table, Memory>
-    requires { length values.now ≡ length parts.now.variables.items }
-    ensures { IfOk result (λ table. Starts parts.now.variables.items values.now
-        (length parts.now.variables.items) table.rows.items) }
-{
-    let mut rows = Vec::new(alloc);
-    for (place, variable) in parts.variables.iter().enumerate() {
-        let row = first_row(alloc, variable.is_state, values[place])?;
-        rows.push(row)?;
-    }
-    Ok(Table { rows })
-}
-
-// The row of a variable: its value where it is a state variable, else nothing.
-fn first_row(alloc: Global, is_state: bool, v: Value) -> Result<Vec<Value>, Memory>
-    ensures { IfOk result (λ row. row.items ≡ (if is_state then v ∷ [] else [])) }
-{
-    let mut row = Vec::new(alloc);
-    if is_state {
-        row.push(v)?;
-        Ok(row)
-    } else {
-        Ok(row)
-    }
 }

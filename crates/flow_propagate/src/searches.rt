@@ -2,18 +2,17 @@
 
 ghost use Rattle.std.specs.Prelude.{false, ◌≡◌, ◌<◌, List, length, Contains};
 ghost use Rattle.ar_base.specs.Least.{least_with};
-ghost use Rattle.ar_base.specs.Lists.{HasOther};
 ghost use Rattle.domains.specs.Domains.{IsDomain, Holds as DomainHolds};
 ghost use Rattle.domains.specs.declared.Value.{Value};
 ghost use Rattle.ar_meaning.specs.Flows.{HasTwo};
 ghost use Rattle.ar_meaning.specs.Found.{IsAnswer, IsFirstOrNone};
 ghost use Rattle.gts_core.specs.Sound.{IsSound};
 ghost use Rattle.gts_core.specs.View.{net_of};
-ghost use Rattle.flow_propagate.specs.Searches.{IsTwo};
 ghost use Rattle.flow_propagate.specs.Table.{AreFacts};
 
 use crate::table::Table;
 use domains::{Domain, Value};
+use fact_rows::is_two;
 use gts_core::GtsParts;
 
 // The least flow with two values.
@@ -29,31 +28,6 @@ pub(crate) fn first_two(parts: &GtsParts, table: &Table) -> Option<u32>
         }
     }
     None
-}
-
-// Whether a variable is a flow with two values.
-fn is_two(is_state: bool, row: &[Value]) -> bool
-    ensures { IsAnswer result (IsTwo is_state row.now) }
-{
-    if is_state {
-        return false;
-    }
-    match row.first() {
-        Some(v) => has_other(row, *v),
-        None => false,
-    }
-}
-
-// Whether one of the values is not this one.
-fn has_other(values: &[Value], v: Value) -> bool
-    ensures { IsAnswer result (HasOther values.now v) }
-{
-    for w in values {
-        if *w != v {
-            return true;
-        }
-    }
-    false
 }
 
 /// Whether one of the values is outside the domain. Takes no memory.

@@ -1,4 +1,4 @@
-use Rattle.std.proofs.Common.{◌≡◌, ◌⊎◌, ◌||◌, Bool, true, false, true≢false, refl, sym, inl, inr}
+use Rattle.std.proofs.Common.{◌≡◌, ◌⊎◌, ◌||◌, Bool, true, false, true≢false, refl, inl, inr}
 use Rattle.std.proofs.lemmas.List.{get_or_default}
 use Rattle.flow_propagate.proofs.Putting.{puts_more}
 use Rattle.flow_propagate.proofs.facts.put_all.Goals as goal

@@ -1,6 +1,6 @@
 use Rattle.std.proofs.Common.{take}
 use Rattle.ar_base.specs.Lists.{HasOther}
-use Rattle.flow_propagate.proofs.searches.has_other.Given as goal
+use Rattle.fact_rows.proofs.has_other.Given as goal
 
 abbrev pub invariant-loop-w : goal.invariant-loop-w
 invariant-loop-w l = HasOther (take l.w-index l.values) l.v → ⊥

@@ -4,8 +4,17 @@ use Rattle.domains.specs.declared.Value.{Value}
 use Rattle.ar_meaning.specs.Found.{IsAnswer}
 use Rattle.ar_meaning.proofs.OneAnswer.{same_value}
 use Rattle.ar_base.specs.Lists.{HasOther}
-use Rattle.flow_propagate.specs.Searches.{IsTwo}
-use Rattle.flow_propagate.proofs.Searching.{two_of_other}
+use Rattle.fact_rows.specs.Rows.{AreTwo, IsTwo}
+
+-- a row with a value that is not its first
+two_of_other : (row : List Value) (v : Value) → Contains row v → HasOther row v → AreTwo row
+two_of_other row v c h = record {
+  first = v;
+  second = h.other;
+  has_first = c;
+  has_second = h.has;
+  differ = λ e. h.differs (sym e);
+}
 
 pub two_answer : (is_state : Bool) (row : List Value) (v : Value) (b : Bool) → is_state ≡ false → Contains row v
     → IsAnswer b (HasOther row v) → IsAnswer b (IsTwo is_state row)

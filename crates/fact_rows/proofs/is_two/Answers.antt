@@ -1,6 +1,6 @@
 use Rattle.std.proofs.Common.{Contains, sym}
-use Rattle.flow_propagate.proofs.Others.{two_answer}
-use Rattle.flow_propagate.proofs.searches.is_two.Goals as goal
+use Rattle.fact_rows.proofs.Others.{two_answer}
+use Rattle.fact_rows.proofs.is_two.Goals as goal
 use Rattle.domains.proofs.Members.{first-in}
 
 pub returns-in-Some : goal.returns-in-Some

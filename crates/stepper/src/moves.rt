@@ -23,8 +23,9 @@ use domains::Value;
 use flow_changes::{Present, propagate_from, restore};
 use flow_propagate::{Plan, PropagateFault};
 use gts_core::{Gts, GtsParts, Valuation};
+use part_flags::is_set;
 use std::alloc::Global;
-use way_flags::{ReceiveFault, WayIndex, is_set, received, renew};
+use way_flags::{ReceiveFault, WayIndex, received, renew};
 
 /// What the state variables receive where a way is fired, or the fault of the way or of what they receive.
 pub(crate) fn next_values(

@@ -25,9 +25,10 @@ use domains::Value;
 use flow_changes::{Present, make_present, restore};
 use flow_propagate::{Plan, PropagateFault, make_plan};
 use gts_core::{Gts, Valuation};
+use part_flags::is_set;
 use std::alloc::Global;
 use std::marker::Model;
-use way_flags::{WayIndex, is_set, turn, way_flags, way_index};
+use way_flags::{WayIndex, turn, way_flags, way_index};
 
 /// A run of a flat system, step by step: seen as the system's parts, the present total valuation, the standing valuations
 /// below it, the nearest first, and the variables that the last step or way back changed.

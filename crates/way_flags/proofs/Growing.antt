@@ -1,7 +1,7 @@
 -- The effects of one more assignment and of one more way.
-use Rattle.std.proofs.Common.{◌≡◌, ◌<◌, ◌+◌, ℕ, cond, List, [], ◌∷◌, ◌++◌, length, take, get_or, slice_get, refl, sym, ap, ◌∙◌, append_assoc}
+use Rattle.std.proofs.Common.{◌≡◌, cond, List, [], ◌∷◌, ◌++◌, slice_get, sym, ap, ◌∙◌, append_assoc}
 use Rattle.std.specs.List.{list_all}
-use Rattle.std.proofs.lemmas.List.{take_more, append-nil}
+use Rattle.std.proofs.lemmas.List.{append-nil}
 use Rattle.ar_base.specs.Numbers.{WayId}
 use Rattle.domains.specs.declared.Value.{Value}
 use Rattle.gts_core.specs.declared.system.Assign.{Assign}

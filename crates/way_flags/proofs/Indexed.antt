@@ -1,16 +1,14 @@
 -- The pairs of an index.
-use Rattle.std.proofs.Common.{◌≡◌, ◌<◌, ◌≤◌, ◌+◌, ◌⊎◌, ◌↔◌, ℕ, zero, suc, Bool, List, [], ◌∷◌, ◌++◌, length, set, inl, inr, refl, sym, ◌∙◌, ap, subst, arith}
-use Rattle.std.specs.List.Sorted.{IsNonDecreasingBy, IsPermutation}
+use Rattle.std.proofs.Common.{◌≡◌, ◌<◌, ◌≤◌, ◌+◌, ◌⊎◌, ◌↔◌, ℕ, zero, suc, Bool, List, [], ◌∷◌, ◌++◌, length, set, inl, inr, refl, sym, ap, subst, arith}
+use Rattle.std.specs.List.Sorted.{IsPermutation}
 use Rattle.std.proofs.lemmas.List.Sorted.{Contains-permutation, IsPermutation-sym}
-use Rattle.std.proofs.lemmas.Bool.{cases_eq}
 use Rattle.ar_base.specs.Lists.{Stands, IsOneOf}
-use Rattle.ar_base.specs.Numbers.{VarId, WayId}
-use Rattle.ar_base.proofs.Standing.{stands_within, stands_one, stands_none, stands_left, stands_next, stands_split, only_item, one_contains, contains_one, at_most, one_left}
+use Rattle.ar_base.specs.Numbers.{WayId}
+use Rattle.ar_base.proofs.Standing.{stands_within, stands_one, stands_none, only_item, one_contains, contains_one, at_most, one_left}
 use Rattle.ar_base.proofs.Items.{one_last, last_cases}
 use Rattle.gts_core.specs.declared.system.Way.{Way}
-use Rattle.gts_core.specs.declared.system.WayBody.{WayBody}
 use Rattle.gts_core.specs.declared.system.GtsParts.{GtsParts}
-use Rattle.way_flags.specs.Ways.{parts_of, HasPart, IsOrder}
+use Rattle.way_flags.specs.Ways.{parts_of, IsOrder}
 use Rattle.way_flags.specs.Renewing.{IsPlaceOf}
 use Rattle.way_flags.specs.Index.{IsPlacedAt, GuardNames, AreGuards, IsAbove, AreAbove, AddsGuards, IsPartOf, AddsParts, ArePlacedUpTo, IsWayIndex}
 use Rattle.way_flags.specs.declared.index.WayIndex.{WayIndex}

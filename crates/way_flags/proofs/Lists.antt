@@ -1,12 +1,8 @@
 -- Lists of values and of flags.
-use Rattle.std.proofs.Common.{◌≡◌, ◌<◌, ◌+◌, ◌⊎◌, ℕ, zero, suc, Bool, true, false, ◌||◌, List, [], ◌∷◌, ◌++◌, length, set, get_or, Some, refl, sym, ap, ◌∙◌, inl, inr, arith}
+use Rattle.std.proofs.Common.{◌≡◌, ◌<◌, ◌+◌, ◌⊎◌, ℕ, zero, suc, Bool, true, List, [], ◌∷◌, ◌++◌, length, set, get_or, Some, refl, sym, ap, inl, inr, arith}
 use Rattle.ar_base.specs.Lists.{Stands, IsOneOf}
 use Rattle.ar_base.proofs.Standing.{stands_split, stands_left, stands_next}
-use Rattle.way_flags.specs.Ways.{flag_at}
-
--- neither of two that are false
-pub none_of : (a b : Bool) → a ≡ false → b ≡ false → (a || b) ≡ false
-none_of a b h k = ap (λ (z : Bool). z || b) h ∙ k
+use Rattle.part_flags.specs.Parts.{flag_at}
 
 -- what was set is set
 pub flag_same : (flags : List Bool) (n : ℕ) (b : Bool) → n < length flags → flag_at (set flags n b) n ≡ b

@@ -15,7 +15,8 @@ use Rattle.gts_core.specs.Sound.{IsSound}
 use Rattle.gts_core.specs.declared.system.Way.{Way}
 use Rattle.gts_core.specs.declared.system.GtsParts.{GtsParts}
 use Rattle.gts_core.specs.Readings.{IsTotal}
-use Rattle.way_flags.specs.Ways.{flag_at, parts_of, IsOrder, AreFlags, can_by}
+use Rattle.part_flags.specs.Parts.{flag_at}
+use Rattle.way_flags.specs.Ways.{parts_of, IsOrder, AreFlags, can_by}
 use Rattle.way_flags.proofs.Lists.{flag_same, flag_other}
 use Rattle.way_flags.proofs.Firing.{can_answer}
 

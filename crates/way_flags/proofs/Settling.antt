@@ -12,26 +12,25 @@ use Rattle.ar_base.specs.Lists.{Stands, IsOneOf}
 use Rattle.ar_base.specs.Numbers.{VarId, WayId}
 use Rattle.ar_base.proofs.Standing.{stands_within, stands_one, stands_none, stands_some, one_first, one_here, one_none, one_rest, one_cases, stands_map}
 use Rattle.ar_base.proofs.Items.{last_cases}
-use Rattle.ar_base.proofs.Truths.{not_equal, other_mark}
+use Rattle.ar_base.proofs.Truths.{other_mark}
 use Rattle.domains.specs.declared.Value.{Value}
 use Rattle.typed_expr.specs.Mentions.{Mentions}
-use Rattle.typed_expr.specs.declared.expr.Expr.{Expr, out-Expr}
+use Rattle.typed_expr.specs.declared.expr.Expr.{out-Expr}
 use Rattle.typed_expr.specs.declared.expr.ValueKind.TheVariants as kind
-use Rattle.ar_meaning.specs.Systems as s
 use Rattle.ar_meaning.specs.Facts.{HasValue}
-use Rattle.ar_meaning.specs.Found.{IsAnswer}
 use Rattle.ar_meaning.specs.Ways.{Can}
 use Rattle.ar_meaning.proofs.Found.{same_answer}
 use Rattle.number_pairs.specs.Pairing.{IsPaired}
-use Rattle.gts_core.specs.View.{net_of, IsWayAt}
+use Rattle.gts_core.specs.View.{net_of}
 use Rattle.gts_core.specs.Sound.{IsSound}
 use Rattle.gts_core.specs.Readings.{IsTotal, value_at, is_met, is_truth}
 use Rattle.gts_core.specs.declared.system.Way.{Way}
 use Rattle.gts_core.specs.declared.system.WayBody.{WayBody}
 use Rattle.gts_core.specs.declared.system.WayBody.TheVariants.{Local, Sync}
 use Rattle.gts_core.specs.declared.system.GtsParts.{GtsParts}
-use Rattle.way_flags.specs.Ways.{flag_at, parts_of, HasPart, IsOrder, AreFlags, can_by, musts_by, some_by, has_must_in}
-use Rattle.way_flags.specs.Index.{IsPlacedAt, GuardNames, IsWayIndex, IsAbove}
+use Rattle.part_flags.specs.Parts.{flag_at, musts_by, some_by, has_must_in}
+use Rattle.way_flags.specs.Ways.{parts_of, HasPart, AreFlags, can_by}
+use Rattle.way_flags.specs.Index.{GuardNames, IsWayIndex, IsAbove}
 use Rattle.way_flags.specs.declared.index.WayIndex.{WayIndex}
 use Rattle.way_flags.specs.Renewing.{WereFlags, WaitsAt, Waits, IsPlaceOf, AreSettled, IsSettledBut, AreBehind, AreLooked}
 use Rattle.way_flags.proofs.Firing.{can_answer}

@@ -9,7 +9,7 @@ use Rattle.gts_core.specs.declared.system.WayBody.{WayBody}
 use Rattle.gts_core.specs.declared.system.WayBody.TheVariants.{Local, Sync}
 use Rattle.gts_core.specs.declared.system.GtsParts.{GtsParts}
 use Rattle.flow_propagate.specs.Named.{IsPairFor}
-use Rattle.way_flags.specs.Ways.{parts_of, HasPart, IsOrder}
+use Rattle.way_flags.specs.Ways.{HasPart, IsOrder}
 use Rattle.way_flags.specs.declared.index.WayIndex.{WayIndex}
 
 -- the way of number n stands at this place of the order

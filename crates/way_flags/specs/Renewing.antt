@@ -8,7 +8,8 @@ use Rattle.domains.specs.declared.Value.{Value}
 use Rattle.gts_core.specs.Readings.{IsTotal, value_at}
 use Rattle.gts_core.specs.declared.system.Way.{Way}
 use Rattle.gts_core.specs.declared.system.GtsParts.{GtsParts}
-use Rattle.way_flags.specs.Ways.{flag_at, can_by, AreFlags}
+use Rattle.part_flags.specs.Parts.{flag_at}
+use Rattle.way_flags.specs.Ways.{can_by, AreFlags}
 use Rattle.way_flags.specs.Turning.{turned, AreWays}
 
 -- the flags are those of a total valuation that differs from this one in none but these variables

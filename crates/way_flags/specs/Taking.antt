@@ -3,7 +3,8 @@ use Rattle.std.specs.Prelude.{◌≡◌, ℕ, Bool, true, ◌||◌, List}
 use Rattle.ar_base.specs.Lists.{Stands}
 use Rattle.ar_base.specs.Numbers.{WayId}
 use Rattle.gts_core.specs.declared.system.GtsParts.{GtsParts}
-use Rattle.way_flags.specs.Ways.{flag_at, HasPart}
+use Rattle.part_flags.specs.Parts.{flag_at}
+use Rattle.way_flags.specs.Ways.{HasPart}
 
 -- whether a part takes part where its way is fired: it is marked !, or its flag is set
 abbrev pub takes_part : List Bool → Bool × WayId → Bool

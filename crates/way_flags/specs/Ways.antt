@@ -1,6 +1,6 @@
 -- Ways in order, and which of them can fire.
-use Rattle.std.specs.Prelude.{◌≡◌, ℕ, ◌<◌, Bool, true, false, not, ◌||◌, if◌then◌else◌, List, [], length, slice_get, unwrap_or}
-use Rattle.std.specs.List.{list_all, list_any}
+use Rattle.std.specs.Prelude.{◌≡◌, ℕ, ◌<◌, Bool, true, if◌then◌else◌, List, [], length}
+use Rattle.std.specs.List.{list_all}
 use Rattle.ar_base.specs.Lists.{Stands, IsOneOf}
 use Rattle.domains.specs.declared.Value.{Value}
 use Rattle.ar_meaning.specs.Systems as s
@@ -14,10 +14,7 @@ use Rattle.gts_core.specs.declared.system.WayBody.{WayBody}
 use Rattle.gts_core.specs.declared.system.WayBody.TheVariants.{Local, Sync}
 use Rattle.gts_core.specs.declared.system.GtsParts.{GtsParts}
 use Rattle.gts_core.specs.Readings.{is_met}
-
--- the flag of a number, false past the end
-abbrev pub flag_at : List Bool → ℕ → Bool
-flag_at flags n = unwrap_or (slice_get flags n) false
+use Rattle.part_flags.specs.Parts.{flag_at, has_must_in, musts_by, some_by}
 
 -- the parts of a way, with their marks; a local way has none
 abbrev pub parts_of : WayBody → List (Bool × WayId)
@@ -52,18 +49,6 @@ pub record IsPlacing (p : GtsParts) (order : List WayId) (placed : List Bool) : 
 -- whether each part's flag is set
 abbrev pub are_set : List Bool → List (Bool × WayId) → Bool
 are_set flags parts = list_all (λ (p : Bool × WayId). flag_at flags p.1.n) parts
-
--- whether one of the parts is marked !
-abbrev pub has_must_in : List (Bool × WayId) → Bool
-has_must_in parts = list_any (λ (p : Bool × WayId). p.0) parts
-
--- whether the flag of each part that is marked ! is set
-abbrev pub musts_by : List Bool → List (Bool × WayId) → Bool
-musts_by flags parts = list_all (λ (p : Bool × WayId). not p.0 || flag_at flags p.1.n) parts
-
--- whether one part's flag is set
-abbrev pub some_by : List Bool → List (Bool × WayId) → Bool
-some_by flags parts = list_any (λ (p : Bool × WayId). flag_at flags p.1.n) parts
 
 -- whether a way can fire, by the flags of its parts
 abbrev pub can_by : List Value → List Bool → WayBody → Bool

@@ -14,7 +14,6 @@ mod turning;
 mod waiting;
 
 pub use faults::ReceiveFault;
-pub use flags::is_set;
 pub use index::{WayIndex, way_index};
 pub use looking::{renew, way_flags};
 pub use receiving::received;

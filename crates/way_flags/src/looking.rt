@@ -8,13 +8,14 @@ ghost use Rattle.way_flags.specs.Index.{IsWayIndex};
 ghost use Rattle.way_flags.specs.Turning.{turned, AreWays};
 ghost use Rattle.way_flags.specs.Renewing.{WereFlags, WaitsAt, IsSettledBut, AreSettled, AreBehind, AreLooked, AreTurned};
 
-use crate::flags::{can_fire, is_set, set_all, unset};
+use crate::flags::{can_fire, set_all, unset};
 use crate::index::WayIndex;
 use crate::turning::{turn, turn_one};
 use crate::waiting::{add_above, first_waiting, take_place};
 use ar_base::{Memory, VarId, WayId};
 use domains::Value;
 use gts_core::GtsParts;
+use part_flags::is_set;
 use std::alloc::Global;
 use std::collections::BTreeSet;
 

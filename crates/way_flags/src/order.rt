@@ -7,12 +7,14 @@ ghost use Rattle.ar_base.specs.Lists.{Stands};
 ghost use Rattle.gts_core.specs.Sound.{IsSound};
 ghost use Rattle.gts_core.specs.declared.system.Way.{Way as Ways};
 ghost use Rattle.gts_core.specs.View.{IsWayAt, way_bodies, part_of};
-ghost use Rattle.way_flags.specs.Ways.{IsOrder, IsPlacing, are_set, are_placed, flag_at, Keeps};
+ghost use Rattle.part_flags.specs.Parts.{flag_at};
+ghost use Rattle.way_flags.specs.Ways.{IsOrder, IsPlacing, are_set, are_placed, Keeps};
 
-use crate::flags::{is_set, unset};
+use crate::flags::unset;
 use crate::sequence::parts_first;
 use ar_base::{Memory, WayId};
 use gts_core::{GtsParts, WayBody};
+use part_flags::is_set;
 use std::alloc::Global;
 
 /// Ways that were put in order, and for each way whether it is among them.

@@ -3,9 +3,10 @@
 //! Nothing rests on the sequence but how deep the recursion goes that puts the ways in order: ways that are put in it one
 //! by one find their parts there already.
 
-use crate::flags::{is_set, unset};
+use crate::flags::unset;
 use ar_base::{Memory, WayId};
 use gts_core::{GtsParts, WayBody};
+use part_flags::is_set;
 use std::alloc::Global;
 
 // A way whose parts come first, and how many of them were looked at.

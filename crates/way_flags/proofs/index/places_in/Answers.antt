@@ -1,9 +1,9 @@
-use Rattle.std.proofs.Common.{◌≡◌, ◌<◌, ◌≤◌, ◌+◌, List, ℕ, Vec, Global, length, length-set, get_or, set, subst, sym, ap, ◌∙◌, arith}
+use Rattle.std.proofs.Common.{◌≤◌, ◌+◌, List, ℕ, Vec, Global, length, length-set, get_or, subst, sym, ap, ◌∙◌, arith}
 use Rattle.ar_base.specs.Lists.{Stands}
 use Rattle.ar_base.specs.Numbers.{WayId}
 use Rattle.ar_base.proofs.Standing.{stands_get}
 use Rattle.way_flags.specs.Index.{ArePlacedUpTo}
-use Rattle.way_flags.proofs.Indexed.{places_start, places_more, places_past, places_all}
+use Rattle.way_flags.proofs.Indexed.{places_more, places_past, places_all}
 use Rattle.way_flags.proofs.index.places_in.Goals as goal
 use Rattle.way_flags.proofs.index.places_in.Goals.{then-n-len, else-n-len}
 

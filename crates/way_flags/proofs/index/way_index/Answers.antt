@@ -1,4 +1,4 @@
-use Rattle.std.proofs.Common.{◌≡◌, ℕ, List, length, sym, arith}
+use Rattle.std.proofs.Common.{◌≡◌, length, arith}
 use Rattle.way_flags.proofs.Indexed.{all_placed, guards_moved, above_moved, same_pairs}
 use Rattle.way_flags.proofs.index.way_index.Goals as goal
 

@@ -1,9 +1,9 @@
-use Rattle.std.proofs.Common.{◌≡◌, ◌<◌, ◌∙◌, ◌++◌, ◌∷◌, [], Bool, List, length, ap, sym, subst, arith}
+use Rattle.std.proofs.Common.{◌≡◌, ◌<◌, ◌∙◌, ◌++◌, ◌∷◌, [], Bool, List, ap, sym, subst, arith}
 use Rattle.ar_base.specs.Lists.{Stands}
 use Rattle.ar_base.specs.Numbers.{WayId}
 use Rattle.ar_base.proofs.Truths.{not_equal}
-use Rattle.gts_core.specs.declared.system.Way.{Way}
-use Rattle.way_flags.specs.Ways.{can_by, flag_at}
+use Rattle.part_flags.specs.Parts.{flag_at}
+use Rattle.way_flags.specs.Ways.{can_by}
 use Rattle.way_flags.specs.Renewing.{AreSettled, AreTurned, AreLooked, WaitsAt}
 use Rattle.way_flags.proofs.Lists.{read_stands}
 use Rattle.way_flags.proofs.Turned.{flip, turned_more}

@@ -1,4 +1,4 @@
-use Rattle.std.proofs.Common.{◌≡◌, List, length, subst, sym, refl}
+use Rattle.std.proofs.Common.{List, length, subst, sym, refl}
 use Rattle.ar_base.specs.Numbers.{WayId}
 use Rattle.way_flags.specs.Renewing.{AreTurned, AreLooked}
 use Rattle.way_flags.proofs.Settling.{looks_less, taken, within_order, all_right, looked_none, looked_behind}

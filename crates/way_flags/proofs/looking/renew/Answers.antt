@@ -1,4 +1,3 @@
-use Rattle.std.proofs.Common.{◌≡◌, List, subst, sym}
 use Rattle.way_flags.proofs.Settling.{first_settled}
 use Rattle.way_flags.proofs.looking.renew.Goals as goal
 

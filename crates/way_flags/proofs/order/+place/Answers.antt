@@ -1,6 +1,7 @@
 use Rattle.std.proofs.Common.{◌≡◌, ◌+◌, ◌∙◌, true, false, Bool, List, sym, ap, subst, arith, get_or}
 use Rattle.ar_base.proofs.Standing.{stands_get}
-use Rattle.way_flags.specs.Ways.{IsPlacing, Keeps, ArePlaced, flag_at}
+use Rattle.part_flags.specs.Parts.{flag_at}
+use Rattle.way_flags.specs.Ways.{IsPlacing, Keeps, ArePlaced}
 use Rattle.way_flags.specs.declared.order.Placing.{Placing}
 use Rattle.way_flags.proofs.Heights.{part_low}
 use Rattle.way_flags.proofs.Placing.{placed_more, keeps_on, keeps_same, each_set}

@@ -1,5 +1,6 @@
 use Rattle.std.proofs.Common.{◌≡◌, ◌<◌, ℕ, true}
-use Rattle.way_flags.specs.Ways.{IsPlacing, flag_at}
+use Rattle.part_flags.specs.Parts.{flag_at}
+use Rattle.way_flags.specs.Ways.{IsPlacing}
 use Rattle.way_flags.proofs.order.way_order.Given as goal
 
 abbrev pub invariant-loop-n : goal.invariant-loop-n

@@ -1,4 +1,4 @@
-use Rattle.std.proofs.Common.{ℕ, List, ◌<◌, ◌∷◌, [], length, subst, sym, ◌≡◌, Result, Ok, Err, OnOk}
+use Rattle.std.proofs.Common.{ℕ, List, ◌<◌, ◌∷◌, [], length, subst, sym}
 use Rattle.std.proofs.lemmas.Result.{on_ok_weaker}
 use Rattle.ar_base.specs.Lists.{IsOneOf}
 use Rattle.way_flags.specs.Renewing.{WaitsAt}

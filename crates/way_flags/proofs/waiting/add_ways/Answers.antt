@@ -1,9 +1,8 @@
-use Rattle.std.proofs.Common.{◌≡◌, ◌<◌, ◌+◌, ◌++◌, ◌∷◌, ◌⊎◌, ◌↔◌, inl, inr, [], ℕ, List, length, take, take_all, get_or, sym, ap, ◌∙◌, subst}
+use Rattle.std.proofs.Common.{◌≡◌, ◌<◌, ◌+◌, ◌++◌, ◌∷◌, ◌⊎◌, ◌↔◌, inl, inr, [], ℕ, List, length, take, take_all, get_or, sym, subst}
 use Rattle.std.proofs.lemmas.List.{take_more}
 use Rattle.ar_base.specs.Lists.{Stands, IsOneOf}
 use Rattle.ar_base.proofs.Standing.{stands_get, stands_none, stands_one, one_left}
 use Rattle.ar_base.proofs.Items.{one_last, last_cases}
-use Rattle.std.specs.BTreeSet.{BTreeSet}
 use Rattle.way_flags.specs.Renewing.{WaitsAt, IsPlaceOf}
 use Rattle.way_flags.proofs.waiting.add_ways.Goals as goal
 

@@ -1,4 +1,4 @@
-use Rattle.std.proofs.Common.{ℕ, List, ◌<◌, length, subst, sym, ◌≡◌}
+use Rattle.std.proofs.Common.{ℕ, List, ◌<◌, length, subst, sym}
 use Rattle.ar_base.specs.Lists.{IsOneOf}
 use Rattle.way_flags.proofs.Indexed.{guard_within}
 use Rattle.way_flags.proofs.waiting.first_waiting.Goals as goal

@@ -1,10 +1,13 @@
-use Rattle.std.proofs.Common.{Bool, false, take, refl, sym, ap, ◌∙◌}
+use Rattle.std.proofs.Common.{◌≡◌, ◌||◌, Bool, false, refl, sym, ap, ◌∙◌}
 use Rattle.std.proofs.lemmas.List.{take_all}
 use Rattle.std.proofs.lemmas.List.Folds.{list_any_more, list_any_at}
 use Rattle.ar_base.specs.Numbers.{WayId}
-use Rattle.way_flags.specs.Ways.{has_must_in}
-use Rattle.way_flags.proofs.Lists.{none_of}
-use Rattle.way_flags.proofs.flags.has_must.Goals as goal
+use Rattle.part_flags.specs.Parts.{has_must_in}
+use Rattle.part_flags.proofs.has_must.Goals as goal
+
+-- neither of two that are false
+none_of : (a b : Bool) → a ≡ false → b ≡ false → (a || b) ≡ false
+none_of a b h k = ap (λ (z : Bool). z || b) h ∙ k
 
 -- what stands for no part where a list of parts is read
 no_part : Bool × WayId

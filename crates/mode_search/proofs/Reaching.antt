@@ -1,17 +1,18 @@
 -- What is reached, one look after the other.
-use Rattle.std.proofs.Common.{◌≡◌, ℕ, ◌+◌, ◌<◌, ◌≤◌, ◌⊎◌, inl, inr, Bool, true, false, List, [], ◌∷◌, ◌++◌, map, length, get_or, Contains, refl, sym, ap, ◌∙◌, subst, arith}
+use Rattle.std.proofs.Common.{◌≡◌, ℕ, ◌+◌, ◌<◌, ◌≤◌, ◌⊎◌, inl, inr, Bool, true, false, ◌||◌, List, [], ◌∷◌, ◌++◌, map, length, get_or, Contains, refl, sym, ap, ◌∙◌, subst, arith}
 use Rattle.std.proofs.lemmas.List.{append-nil, map-append}
 use Rattle.ar_base.specs.Lists.{Stands, IsOneOf, AreDifferent}
 use Rattle.ar_base.proofs.Standing.{stands_one, stands_within, stands_none, stands_left, stands_split, stands_next, stands_map_back, one_here, one_first, one_none, one_cases, one_split, one_left, one_right, different_more, at_most, only_item, stands_get}
 use Rattle.ar_base.proofs.Items.{single as last_place}
 use Rattle.domains.specs.declared.Value.{Value}
 use Rattle.gts_core.specs.declared.system.GtsParts.{GtsParts}
+use Rattle.mode_edges.specs.Adding.{AddsEdge}
 use Rattle.mode_search.specs.declared.moves.Move.{Move}
 use Rattle.mode_search.specs.declared.moves.Move.TheVariants.{Still, To, Wrong}
 use Rattle.mode_search.specs.declared.kept.KeptWay.{KeptWay}
 use Rattle.mode_trees.specs.declared.forests.Edge.{Edge}
 use Rattle.mode_search.specs.declared.searching.Reach.{Reach}
-use Rattle.mode_search.specs.Reached.{AreApart, Leads, IsMoveOf, Setting, IsEdgeOf, IsReachable, here, along, EntersAgain, IsAgain, IsStart, AddsEdge, known, fresh, AddsMove, IsDone, IsRecorded, Records, IsFound, IsReaching, Expands}
+use Rattle.mode_search.specs.Reached.{AreApart, Leads, IsMoveOf, Setting, IsEdgeOf, IsReachable, here, along, EntersAgain, IsAgain, IsStart, AddsMove, IsDone, IsRecorded, Records, IsFound, IsReaching, Expands}
 
 abbrev to_of : Edge → Value
 to_of e = e.to
@@ -297,25 +298,29 @@ module _ (s : Setting) (first : Value) where
                 (again_fresh first old.modes.items old.edges.items (edge_of to) old.again r.again)));
           }
 
-      step_edge : (new : Reach) → AddsEdge (edge_of to) old new → IsReaching s first next (i + 1) new
-      step_edge new (known o em ee ew ea) = step_known new o em ee ew ea
-      step_edge new (fresh n em ee ew ea) = step_fresh new n em ee ew ea
+      step_edge : (new : Reach) (known : Bool)
+          → AddsEdge (edge_of to) old.modes.items old.edges.items known new.modes.items new.edges.items
+          → new.wrong ≡ old.wrong → new.again ≡ (known || old.again) → IsReaching s first next (i + 1) new
+      step_edge new true a ew ea = step_known new a.0 a.1 a.2 ew ea
+      step_edge new false a ew ea = step_fresh new a.0 a.1 a.2 ew ea
 
     pub step : (move : Move) (new : Reach) → IsMoveOf s.parts s.number s.domain way.way.n mode move
         → AddsMove way mode move old new → IsReaching s first next (i + 1) new
     step Still new is e = step_still new e is
     step Wrong new is e = step_wrong new e is
-    step (To to) new is e = step_edge to is new e
+    step (To to) new is e = step_edge to is new e.known e.adds e.wrong e.again
 
     -- the mode stands where it stood
     pub stays : (move : Move) (new : Reach) → AddsMove way mode move old new → Stands new.modes.items next mode
     stays Still new e = subst (λ (z : Reach). Stands z.modes.items next mode) (sym e) at_mode
     stays Wrong new e = subst (λ (z : Reach). Stands z.modes.items next mode) (sym e) at_mode
-    stays (To to) new e = by e
+    stays (To to) new e = by e.known e.adds
       where
-        by : AddsEdge (edge_of to) old new → Stands new.modes.items next mode
-        by (known o em ee ew ea) = subst (λ (z : List Value). Stands z next mode) (sym em) at_mode
-        by (fresh n em ee ew ea) = subst (λ (z : List Value). Stands z next mode) (sym em)
+        by : (known : Bool)
+            → AddsEdge (edge_of to) old.modes.items old.edges.items known new.modes.items new.edges.items
+            → Stands new.modes.items next mode
+        by true a = subst (λ (z : List Value). Stands z next mode) (sym a.1) at_mode
+        by false a = subst (λ (z : List Value). Stands z next mode) (sym a.1)
             (stands_left old.modes.items (to ∷ []) next mode at_mode)
 
   -- all ways were looked at, at the mode of a place

@@ -1,5 +1,5 @@
 -- The modes that one variable reaches, and the edges from them.
-use Rattle.std.specs.Prelude.{◌≡◌, ◌<◌, ◌⊎◌, ◌++◌, ℕ, Bool, true, false, List, [], ◌∷◌, map, length, Contains, Vec}
+use Rattle.std.specs.Prelude.{◌≡◌, ◌<◌, ◌⊎◌, ℕ, Bool, true, false, ◌||◌, List, [], ◌∷◌, map, length, Contains, Vec}
 use Rattle.std.specs.Global.{Global}
 use Rattle.ar_base.specs.Lists.{Stands, IsOneOf, AreDifferent}
 use Rattle.ar_base.specs.Numbers.{VarId}
@@ -13,6 +13,7 @@ use Rattle.ar_firing.specs.Fragment.{At}
 use Rattle.gts_core.specs.declared.system.Variable.{Variable}
 use Rattle.gts_core.specs.declared.system.Assign.{Assign}
 use Rattle.gts_core.specs.declared.system.GtsParts.{GtsParts}
+use Rattle.mode_edges.specs.Adding.{AddsEdge}
 use Rattle.mode_search.specs.Modes.{transition_of}
 use Rattle.mode_search.specs.Moves.{IsMove}
 use Rattle.mode_search.specs.declared.moves.Move.{Move}
@@ -112,20 +113,19 @@ pub record IsStart (first : Value) (r : Reach) : Type 0 where
   pub wrong : r.wrong ≡ false
   pub again : r.again ≡ false
 
--- an edge more, and the mode that it enters where it was not there
-pub data AddsEdge (edge : Edge) (old new : Reach) : Type 0 where
-  known : IsOneOf old.modes.items edge.to → new.modes.items ≡ old.modes.items
-      → new.edges.items ≡ old.edges.items ++ edge ∷ [] → new.wrong ≡ old.wrong → new.again ≡ true
-      → AddsEdge edge old new
-  fresh : (IsOneOf old.modes.items edge.to → ⊥) → new.modes.items ≡ old.modes.items ++ edge.to ∷ []
-      → new.edges.items ≡ old.edges.items ++ edge ∷ [] → new.wrong ≡ old.wrong → new.again ≡ old.again
-      → AddsEdge edge old new
+-- an edge more is reached, and perhaps the mode that it enters
+pub record ReachesMore (edge : Edge) (old new : Reach) : Type 0 where
+  pub known : Bool
+  pub adds : AddsEdge edge old.modes.items old.edges.items known new.modes.items new.edges.items
+  pub wrong : new.wrong ≡ old.wrong
+  pub again : new.again ≡ (known || old.again)
 
 -- the same for where a way leads from a mode
 abbrev pub AddsMove : KeptWay → Value → Move → Reach → Reach → Type 0
 AddsMove way mode Still old new = new ≡ old
 AddsMove way mode Wrong old new = new ≡ record old { wrong = true }
-AddsMove way mode (To to) old new = AddsEdge (record { from = mode; event = way.event; way = way.way; to = to }) old new
+AddsMove way mode (To to) old new =
+    ReachesMore (record { from = mode; event = way.event; way = way.way; to = to }) old new
 
 -- the way of place q was looked at, at the mode of place j, before the way of place i at the mode of place next
 abbrev pub IsDone : ℕ → ℕ → ℕ → ℕ → Type 0

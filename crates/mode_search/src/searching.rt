@@ -1,15 +1,15 @@
 //! The modes that one variable reaches.
 
-ghost use Rattle.std.specs.Prelude.{◌<◌, length, IfOk, Contains};
-ghost use Rattle.ar_meaning.specs.Found.{IsAnswer};
+ghost use Rattle.std.specs.Prelude.{◌<◌, length, IfOk};
 ghost use Rattle.domains.specs.Domains.{IsDomain, values_of};
 ghost use Rattle.gts_core.specs.Sound.{IsSound};
-ghost use Rattle.mode_search.specs.Reached.{AreInside, AreApart, IsMoveOf, IsReach, Expands, AddsMove, AddsEdge};
+ghost use Rattle.mode_search.specs.Reached.{AreInside, AreApart, IsMoveOf, IsReach, Expands, AddsMove};
 
 use crate::{KeptWay, Move, move_at};
 use ar_base::{EventId, Memory, VarId, WayId};
 use domains::{Domain, Value};
 use gts_core::{GtsParts, WayBody};
+use mode_edges::add_edge;
 use mode_trees::Edge;
 use std::alloc::Global;
 
@@ -120,34 +120,18 @@ fn add_move(way: KeptWay, mode: Value, led: Move, found: &mut Reach) -> Result<(
             found.wrong = true;
             Ok(())
         }
-        Move::To(to) => add_edge(
-            Edge {
+        Move::To(to) => {
+            let edge = Edge {
                 from: mode,
                 event: way.event,
                 way: way.way,
                 to,
-            },
-            found,
-        ),
+            };
+            let known = add_edge(edge, &mut found.modes, &mut found.edges)?;
+            if known {
+                found.again = true;
+            }
+            Ok(())
+        }
     }
-}
-
-// Adds an edge, and the mode that it enters where it was not reached before.
-fn add_edge(edge: Edge, found: &mut Reach) -> Result<(), Memory>
-    ensures { IfOk result (λ _. AddsEdge edge found.old found.new) }
-{
-    found.edges.push(edge)?;
-    if has(&found.modes, edge.to) {
-        found.again = true;
-        return Ok(());
-    }
-    found.modes.push(edge.to)?;
-    Ok(())
-}
-
-// Whether the value is one of these.
-fn has(values: &[Value], v: Value) -> bool
-    ensures { IsAnswer result (Contains values.now v) }
-{
-    values.contains(&v)
 }

@@ -1,5 +1,5 @@
 -- Assignments and rounds, step by step.
-use Rattle.std.proofs.Common.{◌≡◌, ℕ, suc, zero, ◌+◌, ◌<◌, Bool, true, false, if◌then◌else◌, nat_eq, List, [], ◌∷◌, length, drop, map, refl, sym, ap, ◌∙◌, subst, arith, Vec, Global}
+use Rattle.std.proofs.Common.{◌≡◌, inl, inr, ℕ, suc, zero, ◌+◌, ◌<◌, ◌≤◌, Bool, true, false, true≢false, if◌then◌else◌, nat_eq, List, [], ◌∷◌, length, drop, map, refl, sym, ap, ◌∙◌, subst, arith, Vec, Global}
 use Rattle.ar_base.specs.Lists.{Stands}
 use Rattle.ar_base.proofs.Standing.{stands_one}
 use Rattle.domains.specs.Domains.{values_of}
@@ -8,6 +8,7 @@ use Rattle.typed_expr.specs.declared.expr.Expr.{out-Expr}
 use Rattle.ar_meaning.specs.Systems as s
 use Rattle.ar_meaning.specs.Systems.{Net}
 use Rattle.std.proofs.Common.{◌++◌, append-nil, length-append}
+use Rattle.std.proofs.lemmas.Bool.{cases_lt}
 use Rattle.std.proofs.lemmas.List.{nil_from_length}
 use Rattle.eq_core.specs.Gates.{Operand, Gate}
 use Rattle.eq_core.specs.Values.{Grows}
@@ -153,6 +154,16 @@ module _ (net : Net ℕ) (block : List ℕ) (n : ℕ) (g : List Gate) (first : R
   pub rounds_end : (i : ℕ) (h : List Gate) (read : Reading) → i ≡ n → RoundsSoFar net block n g first i h read
       → Rounds net block n g first read h
   rounds_end i h read e f = f.on 0 read h (omega (arith, e)) t.no_round
+
+  -- no round more is needed
+  pub rounds_over : (i : ℕ) (h : List Gate) (read : Reading) (still needs : Bool) → needs ≡ false
+      → ((i < n) × (still ≡ false) → needs ≡ true) → i ≤ n → RoundsSoFar net block n g first i h read
+      → (still ≡ true → Rounds net block n g first read h) → Rounds net block n g first read h
+  rounds_over i h read true needs not_so so within f over = over refl
+  rounds_over i h read false needs not_so so within f over = elim (cases_lt i n) [
+    | inl l ↦ absurd (true≢false (sym (so (l, refl)) ∙ not_so))
+    | inr l ↦ rounds_end i h read (omega (arith, l, within)) f
+  ]
 
 -- lists of gates of one length, of which one has only more gates, are one
 same_gates : (h k : List Gate) → Grows h k → length k ≡ length h → k ≡ h

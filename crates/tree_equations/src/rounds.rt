@@ -16,6 +16,7 @@ ghost use Rattle.tree_equations.specs.Index.{IsIndex, AreNumbersOf, AreUnder};
 use crate::assigning::{given, together};
 use crate::index::Index;
 use crate::rows::{are_rows, put_rows};
+use block_rounds::needs_round;
 use domains::Domain;
 use eq_build::{BuildFault, Entry};
 use eq_core::Gate;
@@ -68,13 +69,14 @@ fn rounds(
         gates.new.items }
     ensures long { OnOk result (length rows.new.items ≡ length rows.old.items) }
 {
-    for _ in 0..block.len() {
+    let mut made = 0;
+    let mut still = false;
+    while needs_round(block, made, still) {
         let before = gates.len();
         let new = round(alloc, gates, parts, index, rows, block)?;
-        if gates.len() == before && are_rows(rows, block, &new) {
-            return Ok(());
-        }
+        still = gates.len() == before && are_rows(rows, block, &new);
         put_rows(rows, block, new);
+        made += 1;
     }
     Ok(())
 }

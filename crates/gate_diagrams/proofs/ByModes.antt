@@ -25,7 +25,8 @@ use Rattle.mode_diagrams.specs.declared.drawing.Undrawn.{Undrawn}
 use Rattle.mode_diagrams.specs.Numbers.{HasFewEdges, IsByModes}
 use Rattle.mode_diagrams.specs.Sets.{AreSmall, HasSets, IsTrueFrom}
 use Rattle.mode_diagrams.specs.declared.listing.Listed.{Listed}
-use Rattle.gate_diagrams.specs.Needed.{family_at, own, named, IsNeeded, IsNeededByBoth, itself}
+use Rattle.gate_cones.specs.Cones.{own, named}
+use Rattle.gate_diagrams.specs.Needed.{family_at, IsNeeded, IsNeededByBoth, itself}
 use Rattle.gate_diagrams.specs.NodeLimits.{NodesMay}
 use Rattle.gate_diagrams.specs.Needed.IsNeeded.{of_signed}
 use Rattle.gate_diagrams.specs.declared.answer.Drawn.{Drawn}
@@ -33,7 +34,7 @@ use Rattle.gate_diagrams.specs.declared.answer.Drawn.TheVariants.{Conflicts, Cut
 use Rattle.gate_diagrams.specs.declared.answer.Family.{Family as Answered}
 use Rattle.gate_diagrams.specs.declared.by_modes.Unanswered.{Unanswered}
 use Rattle.gate_diagrams.specs.declared.by_modes.Unanswered.TheVariants.{Beyond, Nodes}
-use Rattle.gate_diagrams.specs.Drawing.{AreMarks}
+use Rattle.gate_cones.specs.Marks.{AreMarks}
 use Rattle.gate_diagrams.specs.ByModes.{IsListed, AnswersByModes, unanswered_of}
 use Rattle.gate_diagrams.proofs.Answering.{least_drawn, needed_conflict, full_conflict, sets_conflict, needed_both, full_both, sets_top}
 use Rattle.gate_diagrams.proofs.Filters.{of_members}

@@ -3,7 +3,6 @@ pub mod Needing
 pub mod Operands
 pub mod MoreOperands
 pub mod GateLoop
-pub mod Marking
 pub mod Tables
 pub mod Holding
 pub mod Stepping

@@ -11,7 +11,8 @@ use Rattle.zdd_nodes.proofs.Growing.{Draws-weaker}
 use Rattle.eq_core.specs.Gates.{Operand, EventIs, GateIs, Gate, opposite}
 use Rattle.eq_core.specs.Ordered.{AreOrdered}
 use Rattle.eq_core.proofs.Telling.{place_below}
-use Rattle.gate_diagrams.specs.Needed.{family_at, joint_family, InGateCone, IsOperandInCone, IsNeeded}
+use Rattle.gate_cones.specs.Cones.{InGateCone}
+use Rattle.gate_diagrams.specs.Needed.{family_at, joint_family, IsOperandInCone, IsNeeded}
 use Rattle.gate_diagrams.specs.Needed.IsNeeded.{of_firable, of_signed, of_plain, of_first, of_half}
 use Rattle.gate_diagrams.proofs.Filters.{family_of_event, family_of_opposite, joint_first, joint_meet, joint_union, family_of_gate}
 

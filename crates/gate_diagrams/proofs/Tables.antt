@@ -12,7 +12,8 @@ use Rattle.eq_core.specs.Gates.{Operand, GateIs, Gate}
 use Rattle.eq_core.specs.Ordered.{AreOrdered}
 use Rattle.eq_core.specs.Values.{IsBelow}
 use Rattle.eq_core.proofs.Telling.{place_below}
-use Rattle.gate_diagrams.specs.Needed.{family_at, InGateCone, own, named, IsNeeded}
+use Rattle.gate_cones.specs.Cones.{InGateCone, own, named}
+use Rattle.gate_diagrams.specs.Needed.{family_at, IsNeeded}
 use Rattle.gate_diagrams.specs.Drawing.{IsDrawn, IsTable, IsReady}
 
 -- want of memory is no full store

@@ -1,5 +1,5 @@
--- Families of operands over the firable sets, the cone of an operand, and the families that drawing an operand may
--- store.
+-- Families of operands over the firable sets, the operands in the cone of one, and the families that drawing an operand
+-- may store.
 use Rattle.std.specs.Prelude.{◌≡◌, ◌<◌, ◌≤◌, ◌⊎◌, ℕ, Bool, true, List, length, take}
 use Rattle.std.specs.List.{filter}
 use Rattle.ar_base.specs.Lists.{Stands, IsOneOf}
@@ -7,6 +7,7 @@ use Rattle.zdd_families.specs.Families.{Family}
 use Rattle.zdd_families.specs.Sections.{IsCounted, IsHalf}
 use Rattle.eq_core.specs.Gates.{Operand, Always, Never, EventIs, GateIs, Gate, Table}
 use Rattle.eq_core.specs.Values.{values_at, joint_at, value_at}
+use Rattle.gate_cones.specs.Cones.{InGateCone}
 
 -- the sets at which the operand is true
 unfoldable pub family_at : Family → List Gate → Operand → Family
@@ -22,12 +23,6 @@ plain Always = Always
 plain Never = Never
 plain (EventIs e sign) = EventIs e true
 plain (GateIs g sign) = GateIs g true
-
--- the gate is the operand's, or one that an operand of such a gate names
-pub data InGateCone (gates : List Gate) (o : Operand) : ℕ → Type 0 where
-  own : {g : ℕ} {sign : Bool} → o ≡ GateIs g sign → InGateCone gates o g
-  named : {g h : ℕ} {gate : Gate} {sign : Bool} → InGateCone gates o g → Stands gates g gate
-      → IsOneOf gate.operands (GateIs h sign) → InGateCone gates o h
 
 -- p is the operand, or an operand of a gate of its cone
 pub data IsOperandInCone (gates : List Gate) (o : Operand) : Operand → Type 0 where

@@ -10,9 +10,9 @@ ghost use Rattle.eq_core.specs.Views.{gate_of, operand_of};
 ghost use Rattle.gate_diagrams.specs.Needed.{family_at, IsNeeded};
 ghost use Rattle.gate_diagrams.specs.Drawing.{IsReady};
 
-use crate::cone::cone;
 use crate::gates::{gate, operand};
 use eq_core::{Gate, Operand};
+use gate_cones::cone;
 use std::alloc::Global;
 use zdd_nodes::{NodeFault, NodeId};
 use zdd_ops::Ops;

@@ -3,7 +3,6 @@
 
 mod answer;
 mod by_modes;
-mod cone;
 mod draw;
 mod firable;
 mod from_forest;

@@ -2,9 +2,9 @@ use Rattle.std.proofs.Common.{◌∷◌, [], map, take, get_or, take_all, sym, s
 use Rattle.std.proofs.lemmas.List.{take_more, map-append}
 use Rattle.eq_core.specs.Views.{operand_of}
 use Rattle.eq_core.specs.declared.joints.Operand.TheVariants.{Always}
-use Rattle.gate_diagrams.specs.Drawing.{Marks}
-use Rattle.gate_diagrams.proofs.Marking.{marks_none, marks_then}
-use Rattle.gate_diagrams.proofs.cone.mark_all.Goals as goal
+use Rattle.gate_cones.specs.Marks.{Marks}
+use Rattle.gate_cones.proofs.Marking.{marks_none, marks_then}
+use Rattle.gate_cones.proofs.marks.mark_all.Goals as goal
 
 pub loop-operand-init : goal.loop-operand-init
 loop-operand-init c = marks_none c.args.marks.now

@@ -1,7 +1,7 @@
 use Rattle.std.proofs.Common.{map}
 use Rattle.eq_core.specs.Views.{gate_of, operand_of}
-use Rattle.gate_diagrams.proofs.Marking.{IsMarking}
-use Rattle.gate_diagrams.proofs.cone.cone.Given as goal
+use Rattle.gate_cones.proofs.Marking.{IsMarking}
+use Rattle.gate_cones.proofs.marks.cone.Given as goal
 
 abbrev pub invariant-loop-left : goal.invariant-loop-left
 invariant-loop-left l = IsMarking (map gate_of l.gates) (operand_of l.fn.root) l.left l.marks.items

@@ -1,17 +1,17 @@
-//! The gates that an operand rests on.
+//! The gates of a cone, marked.
 
 ghost use Rattle.std.specs.Prelude.{◌<◌, IfOk, map, length, [], ◌∷◌};
 ghost use Rattle.eq_core.specs.Ordered.{AreBelow, AreOrdered};
 ghost use Rattle.eq_core.specs.Values.{IsBelow};
 ghost use Rattle.eq_core.specs.Views.{gate_of, operand_of};
-ghost use Rattle.gate_diagrams.specs.Drawing.{AreMarks, Marks};
+ghost use Rattle.gate_cones.specs.Marks.{AreMarks, Marks};
 
 use ar_base::Memory;
 use eq_core::{Gate, Operand};
 use std::alloc::Global;
 
-/// For each gate whether it is in the operand's cone: one pass from the last gate to the first.
-pub(crate) fn cone(alloc: Global, gates: &[Gate], root: Operand) -> Result<Vec<bool>, Memory>
+/// For each gate whether it is in the operand's cone: one pass from the last gate to the first. The error is want of memory.
+pub fn cone(alloc: Global, gates: &[Gate], root: Operand) -> Result<Vec<bool>, Memory>
     requires ordered { AreOrdered (map gate_of gates.now) }
     requires root_in { IsBelow (length gates.now) (operand_of root) }
     ensures { IfOk result (λ marks. AreMarks (map gate_of gates.now) (operand_of root)

@@ -7,8 +7,8 @@ use Rattle.eq_core.specs.Gates.{Operand, Always, Never, EventIs, GateIs, Gate}
 use Rattle.eq_core.specs.Ordered.{AreBelow, AreOrdered}
 use Rattle.eq_core.specs.Values.{IsBelow}
 use Rattle.eq_core.proofs.Telling.{place_below}
-use Rattle.gate_diagrams.specs.Needed.{InGateCone, own, named}
-use Rattle.gate_diagrams.specs.Drawing.{AreMarks, Marks}
+use Rattle.gate_cones.specs.Cones.{InGateCone, own, named}
+use Rattle.gate_cones.specs.Marks.{AreMarks, Marks}
 
 pub marks_none : (m : List Bool) → Marks [] m m
 marks_none m = record {

@@ -5,9 +5,9 @@ use Rattle.ar_base.specs.Lists.{Stands}
 use Rattle.ar_base.proofs.Standing.{stands_map}
 use Rattle.eq_core.specs.Ordered.{AreBelow}
 use Rattle.eq_core.specs.Views.{gate_of, operand_of}
-use Rattle.gate_diagrams.specs.Drawing.{Marks}
-use Rattle.gate_diagrams.proofs.Marking.{IsMarking, all_below, marking_begins, marking_passes, marking_on, marking_ends}
-use Rattle.gate_diagrams.proofs.cone.cone.Goals as goal
+use Rattle.gate_cones.specs.Marks.{Marks}
+use Rattle.gate_cones.proofs.Marking.{IsMarking, all_below, marking_begins, marking_passes, marking_on, marking_ends}
+use Rattle.gate_cones.proofs.marks.cone.Goals as goal
 
 pub loop-left-init : goal.loop-left-init
 loop-left-init c =

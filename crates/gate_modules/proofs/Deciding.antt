@@ -13,11 +13,12 @@ use Rattle.zdd_families.proofs.Sections.{section-nil}
 use Rattle.zdd_nodes.specs.Nodes.{Stored, family, IsNumber, IsSoundStore}
 use Rattle.gate_modules.specs.Ends.{IsSectionAt}
 use Rattle.gate_modules.specs.Ends.IsSectionAt.{empty, taken}
-use Rattle.gate_modules.specs.Entries.{AreEntries, AllEnd, IsEntryExit, EntryDiffers}
+use Rattle.event_bounds.specs.Bounds.{AllEnd, AtLeast, EndsBelow, HasBelow}
+use Rattle.gate_modules.specs.Entries.{AreEntries, IsEntryExit, EntryDiffers}
 use Rattle.gate_modules.specs.Modules.{IsPartOfUnit, IsModule}
 use Rattle.gate_modules.specs.Parts.{AreSomeHeads}
 use Rattle.gate_modules.specs.Deciding.{IsModuleWith}
-use Rattle.gate_modules.specs.Walked.{AtLeast, EndsBelow, HasBelow, EntryAgrees}
+use Rattle.gate_modules.specs.Walked.{EntryAgrees}
 use Rattle.gate_modules.specs.declared.ranges.Range.{Range}
 use Rattle.gate_modules.proofs.Criterion.{module_agrees, part_of_entry, part_of_reference, module_from, follows}
 use Rattle.gate_modules.proofs.Exchange.{exit, has_exit, part_found, Found}

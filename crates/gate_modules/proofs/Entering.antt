@@ -1,16 +1,15 @@
 -- How entries are gathered.
-use Rattle.std.proofs.Common.{◌≡◌, ◌≢◌, ◌⊎◌, inl, inr, ℕ, zero, suc, ◌+◌, ◌<◌, Bool, true, List, [], ◌∷◌, ◌++◌, length, take, get_or, slice_set, refl, sym, ap, ◌∙◌, subst, arith, append_assoc}
-use Rattle.std.proofs.lemmas.List.{take_more, map-append}
+use Rattle.std.proofs.Common.{◌≡◌, ◌≢◌, ◌⊎◌, inl, inr, ℕ, zero, suc, ◌<◌, Bool, true, List, [], ◌∷◌, ◌++◌, slice_set, refl, sym, ap, ◌∙◌, subst, arith, append_assoc}
 use Rattle.ar_base.specs.Lists.{Stands, IsOneOf}
-use Rattle.ar_base.proofs.Standing.{one_left, one_right, one_split, only_item, one_none, stands_get, stands_map}
+use Rattle.ar_base.proofs.Standing.{one_left, one_right, one_split, only_item, one_none}
 use Rattle.zdd_families.specs.Families.{Family}
 use Rattle.zdd_families.specs.Sections.{section}
 use Rattle.zdd_families.proofs.Sections.{section-with, section-above, section-low}
-use Rattle.zdd_nodes.specs.Nodes.{NodeId, Stored, family, IsNumber}
+use Rattle.zdd_nodes.specs.Nodes.{Stored, family, IsNumber}
 use Rattle.gate_modules.specs.Ends.{IsSectionAt}
 use Rattle.gate_modules.specs.Ends.IsSectionAt.{empty, taken}
-use Rattle.gate_modules.specs.Walked.{EndsBelow, HasBelow}
-use Rattle.gate_modules.specs.Entries.{node_numbers, IsCovered, AreSeen, Adds, AreEntries, IsExit, IsEntryExit}
+use Rattle.event_bounds.specs.Bounds.{EndsBelow, HasBelow}
+use Rattle.gate_modules.specs.Entries.{IsCovered, AreSeen, Adds, AreEntries, IsExit, IsEntryExit}
 use Rattle.gate_modules.proofs.Sections.{section_lower, section_end, starts_above, by_start, ByStart}
 use Rattle.gate_modules.proofs.Sections.ByStart.{with_it, without_it}
 use Rattle.gate_modules.specs.Entries.IsReached.{here, up}
@@ -113,32 +112,6 @@ module _ (s : Stored) (from : ℕ) where
     inside = λ e i. a.inside e (subst (λ z. IsOneOf z e) a.is i);
     sections = λ e i. a.sections e (subst (λ z. IsOneOf z e) a.is i);
   }
-
--- the numbers of the entries with one more
-pub numbers_push : (xs : List NodeId) (x : NodeId) → node_numbers (xs ++ x ∷ []) ≡ node_numbers xs ++ x.n ∷ []
-numbers_push xs x = map-append (λ (n : NodeId). n.n) xs (x ∷ [])
-
-pub numbers_more : (xs : List NodeId) (k : ℕ) (d : NodeId) → k < length xs
-    → node_numbers (take (k + 1) xs) ≡ node_numbers (take k xs) ++ (get_or xs k d).n ∷ []
-numbers_more xs k d l = ap node_numbers (take_more xs k d l) ∙ numbers_push (take k xs) (get_or xs k d)
-
-pub number_stands : (xs : List NodeId) (k : ℕ) (d : NodeId) → k < length xs
-    → IsOneOf (node_numbers xs) (get_or xs k d).n
-number_stands xs k d l = record {
-  place = k;
-  stands = stands_map (λ (n : NodeId). n.n) xs k (get_or xs k d) (stands_get xs k d l);
-}
-
--- a fact of all entries, one more
-pub all_more : (P : ℕ → Type 0) (xs : List NodeId) (k : ℕ) (d : NodeId) → k < length xs
-    → ((e : ℕ) → IsOneOf (node_numbers (take k xs)) e → P e) → P (get_or xs k d).n
-    → (e : ℕ) → IsOneOf (node_numbers (take (k + 1) xs)) e → P e
-all_more P xs k d l before this e i =
-    elim (one_split (node_numbers (take k xs)) ((get_or xs k d).n ∷ []) e
-    (subst (λ z. IsOneOf z e) (numbers_more xs k d l) i)) [
-      | inl b ↦ before e b
-      | inr h ↦ subst P (only_item (get_or xs k d).n e h) this
-    ]
 
 -- exits
 pub exit_up : (s : Stored) (to n v lo hi x : ℕ) → HasBelow s to n v lo hi → IsExit s to hi x → IsExit s to n x

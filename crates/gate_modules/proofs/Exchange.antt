@@ -14,7 +14,7 @@ use Rattle.gate_modules.specs.Modules.{lies, inside, outside, joined_sets, IsPar
 use Rattle.gate_modules.specs.declared.ranges.Range.{Range}
 use Rattle.gate_modules.proofs.Sections.{section_end, section_lower, by_start, ByStart}
 use Rattle.gate_modules.proofs.Sections.ByStart.{with_it, without_it}
-use Rattle.gate_modules.proofs.Ending.{ends_at_node}
+use Rattle.event_bounds.proofs.Ending.{ends_at_node}
 use Rattle.gate_modules.proofs.Splitting.{AllBelow, all_append, all_left, all_weaker, all_both, all_filter, all_passed, filter_all, filter_none, filter_both, below_all, cut, has_section, in_section, has_some}
 
 -- the range's test, number by number

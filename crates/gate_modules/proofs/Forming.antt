@@ -14,7 +14,7 @@ use Rattle.gate_modules.specs.Modules.{lies}
 use Rattle.gate_modules.specs.Shortened.{ShortForm, touches, is_covered, short_form, units_where, same_form, once, event_numbers}
 use Rattle.ar_base.specs.Numbers.{EventId}
 use Rattle.zdd_nodes.specs.Nodes.{Stored, family}
-use Rattle.gate_modules.specs.Walked.{AtLeast}
+use Rattle.event_bounds.specs.Bounds.{AtLeast}
 use Rattle.gate_modules.specs.declared.ranges.Range.{Range}
 use Rattle.gate_modules.proofs.Exchange.{AllIn, not_high}
 use Rattle.gate_modules.proofs.Once.{is_new, repeated, once_apart, once_repeated}

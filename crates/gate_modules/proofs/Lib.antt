@@ -2,7 +2,6 @@ mod Sections
 mod Numbers
 mod Answering
 mod Tables
-mod Ending
 mod Splitting
 pub mod Exchange
 mod Criterion

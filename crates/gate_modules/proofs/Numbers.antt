@@ -5,7 +5,8 @@ use Rattle.zdd_families.specs.Families.{Family, node, IsAbove}
 use Rattle.zdd_nodes.specs.Nodes.{Stored, family, IsNumber, IsNode, IsSoundStore}
 use Rattle.zdd_nodes.proofs.Lists.{same_number, some_sets, node_above}
 use Rattle.gate_modules.specs.Ends.{Agree, AgreeSome}
-use Rattle.gate_modules.specs.Walked.{EndsBelow, HasBelow, Agrees, AgreesSome, AreEnds}
+use Rattle.event_bounds.specs.Bounds.{EndsBelow, HasBelow}
+use Rattle.gate_modules.specs.Walked.{Agrees, AgreesSome, AreEnds}
 use Rattle.gate_modules.specs.declared.twins.Question.{Question}
 use Rattle.gate_modules.proofs.Sections.{agree_node, agree_upper, agree_lower, some_node, some_upper, some_lower, differ_first, differ_second, all_agree, none_from_end, none_from_above, agree_ends, ends_agree, ends_some}
 

@@ -11,7 +11,7 @@ use Rattle.zdd_families.proofs.Sections.{section-with, section-above, section-ni
 use Rattle.zdd_families.proofs.Behind.{behind_node}
 use Rattle.zdd_nodes.specs.Nodes.{Stored, family, IsNumber, IsSoundStore}
 use Rattle.zdd_nodes.proofs.Order.{IsFamily-node, IsFamily-nil, IsFamily-unit}
-use Rattle.gate_modules.specs.Walked.{EndsBelow, HasBelow}
+use Rattle.event_bounds.specs.Bounds.{EndsBelow, HasBelow}
 use Rattle.ar_base.specs.Numbers.{EventId}
 use Rattle.gate_modules.specs.Shortened.{event_numbers, set_of}
 use Rattle.gate_modules.specs.declared.ranges.EventSet.{EventSet}

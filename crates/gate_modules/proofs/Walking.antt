@@ -17,10 +17,10 @@ use Rattle.gate_modules.specs.Entries.IsReached.{here, up, down}
 use Rattle.gate_modules.specs.Forms.{AreOfDifferentUnits, GoesOnAlike, IsFit, AddsForms, IsSkip}
 use Rattle.gate_modules.specs.Modules.{lies}
 use Rattle.gate_modules.specs.Shortened.{ShortForm, touches, is_covered, short_form, once}
-use Rattle.gate_modules.specs.Walked.{AtLeast, EndsBelow, HasBelow}
+use Rattle.event_bounds.specs.Bounds.{AtLeast, EndsBelow, HasBelow}
 use Rattle.gate_modules.specs.declared.ranges.Range.{Range}
 use Rattle.gate_modules.proofs.Deciding.{event_not_end, first_at_least}
-use Rattle.gate_modules.proofs.Ending.{ends_at_node, ends_at_leaf}
+use Rattle.event_bounds.proofs.Ending.{ends_at_node, ends_at_leaf}
 use Rattle.gate_modules.proofs.Entering.{entry_exit_up}
 use Rattle.gate_modules.proofs.Exchange.{AllIn, lies_in, in_lies}
 use Rattle.gate_modules.proofs.Forming.{touches_both, uncovered_in, with_v, without_v, once_uncovered, once_covered}

@@ -1,16 +1,13 @@
 -- The families that follow the events below a range.
-use Rattle.std.specs.Prelude.{◌≡◌, ◌≢◌, ◌⊎◌, ◌<◌, ◌≤◌, ℕ, Bool, true, false, List, [], ◌++◌, map}
+use Rattle.std.specs.Prelude.{◌≡◌, ◌≢◌, ◌⊎◌, ◌<◌, ◌≤◌, ℕ, Bool, true, false, List, [], ◌++◌}
 use Rattle.ar_base.specs.Lists.{Stands, IsOneOf}
 use Rattle.zdd_families.specs.Families.{Family}
 use Rattle.zdd_families.specs.Sections.{section}
-use Rattle.zdd_nodes.specs.Nodes.{NodeId, Stored, family, IsNumber}
+use Rattle.zdd_nodes.specs.Nodes.{Stored, family, IsNumber}
 use Rattle.gate_modules.specs.Ends.{IsSectionAt}
-use Rattle.gate_modules.specs.Walked.{EndsBelow, HasBelow, AreEnds, AgreesSome, EntryAgrees}
+use Rattle.event_bounds.specs.Bounds.{EndsBelow, HasBelow}
+use Rattle.gate_modules.specs.Walked.{AreEnds, AgreesSome, EntryAgrees}
 use Rattle.gate_modules.specs.declared.twins.Question.{Question}
-
--- the numbers of the families
-abbrev pub node_numbers : List NodeId → List ℕ
-node_numbers nodes = map (λ (n : NodeId). n.n) nodes
 
 -- each section of the family at the number is empty or one of the entries
 abbrev pub IsCovered : Stored → ℕ → List ℕ → Family → Type 0
@@ -33,22 +30,6 @@ pub record AreEntries (s : Stored) (from n : ℕ) (entries : List ℕ) : Type 0 
   pub covered : IsCovered s from entries (family s n)
   pub inside : (e : ℕ) → IsOneOf entries e → IsNumber s e
   pub sections : (e : ℕ) → IsOneOf entries e → IsSectionAt from (family s n) (family s e)
-
--- no entry has an event below the bound
-pub record AllEnd (s : Stored) (to : ℕ) (entries : List ℕ) : Type 0 where
-  pub each : (e : ℕ) → IsOneOf entries e → EndsBelow s to e
-
--- the number has an event below the bound
-pub record HasEvent (s : Stored) (to n : ℕ) : Type 0 where
-  pub event : ℕ
-  pub lo : ℕ
-  pub hi : ℕ
-  pub has : HasBelow s to n event lo hi
-
--- the entry has an event below the bound
-pub record IsReference (s : Stored) (to : ℕ) (entries : List ℕ) (e : ℕ) : Type 0 where
-  pub is_entry : IsOneOf entries e
-  pub event : HasEvent s to e
 
 -- x is reached from n through numbers with events below the bound
 pub data IsReached (s : Stored) (to : ℕ) : ℕ → ℕ → Type 0 where

@@ -8,7 +8,7 @@ use Rattle.zdd_families.specs.Behind.{behind}
 use Rattle.zdd_nodes.specs.Nodes.{Stored, family, IsNumber}
 use Rattle.gate_modules.specs.Modules.{lies}
 use Rattle.gate_modules.specs.Shortened.{ShortForm, touches, short_form, once}
-use Rattle.gate_modules.specs.Walked.{AtLeast, EndsBelow}
+use Rattle.event_bounds.specs.Bounds.{AtLeast, EndsBelow}
 use Rattle.gate_modules.specs.Entries.{IsReached}
 use Rattle.gate_modules.specs.declared.ranges.Range.{Range}
 

@@ -1,24 +1,11 @@
 -- What the walks keep.
-use Rattle.std.specs.Prelude.{◌≡◌, ℕ, ◌<◌, ◌≤◌, Bool, true, List}
-use Rattle.std.specs.List.{AllByRecursion}
+use Rattle.std.specs.Prelude.{◌≡◌, ℕ, ◌<◌, Bool, true, List}
 use Rattle.ar_base.specs.Lists.{Stands}
-use Rattle.zdd_nodes.specs.Nodes.{Stored, family, IsNumber, IsNode}
+use Rattle.zdd_nodes.specs.Nodes.{Stored, family, IsNumber}
+use Rattle.event_bounds.specs.Bounds.{EndsBelow}
 use Rattle.gate_modules.specs.Ends.{Agree, AgreeSome}
 use Rattle.gate_modules.specs.declared.twins.Twin.{Twin}
 use Rattle.gate_modules.specs.declared.twins.Question.{Question}
-
--- each event of the set is at or above the bound
-abbrev pub AtLeast : ℕ → List ℕ → Type 0
-AtLeast i s = AllByRecursion (λ x. i ≤ x) s
-
--- the family has no event below the bound
-pub record EndsBelow (s : Stored) (to n : ℕ) : Type 0 where
-  pub at_least : AllByRecursion (AtLeast to) (family s n)
-
--- the family is that of a node whose event is below the bound
-pub record HasBelow (s : Stored) (to n event lo hi : ℕ) : Type 0 where
-  pub node : IsNode s.families n event lo hi
-  pub below : event < to
 
 -- each of the table's entries tells of two families that agree; its number 0 stands for no entry
 pub record AreTwins (s : Stored) (twins : List Twin) : Type 0 where

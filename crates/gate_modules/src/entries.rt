@@ -1,14 +1,16 @@
 //! The families that follow the events below a unit's range, and whether they go on alike after each part of the unit.
 
-ghost use Rattle.std.specs.Prelude.{◌≡◌, ◌<◌, ℕ, IfOk, OnOk, MatchOption, length, true, false};
+ghost use Rattle.std.specs.Prelude.{◌≡◌, ◌<◌, ℕ, IfOk, OnOk, length, true, false};
 ghost use Rattle.ar_base.specs.Lists.{Stands};
 ghost use Rattle.zdd_nodes.specs.Nodes.{NodeId, family, IsNumber};
-ghost use Rattle.gate_modules.specs.Walked.{AreTwins, EndsBelow};
-ghost use Rattle.gate_modules.specs.Entries.{node_numbers, AreSeen, IsCovered, Adds, AreEntries, AllEnd};
-ghost use Rattle.gate_modules.specs.Entries.{IsReference, IsExit, IsEntryExit, EntriesAnswer};
+ghost use Rattle.event_bounds.specs.Bounds.{EndsBelow, node_numbers};
+ghost use Rattle.gate_modules.specs.Walked.{AreTwins};
+ghost use Rattle.gate_modules.specs.Entries.{AreSeen, IsCovered, Adds, AreEntries};
+ghost use Rattle.gate_modules.specs.Entries.{IsExit, IsEntryExit, EntriesAnswer};
 
-use crate::twins::{Question, Twin, agree_some, below};
+use crate::twins::{Question, Twin, agree_some};
 use ar_base::Memory;
+use event_bounds::below;
 use std::alloc::Global;
 use zdd_nodes::{NodeId, Store};
 
@@ -71,21 +73,6 @@ fn collect(
             Ok(())
         }
     }
-}
-
-/// The first entry that has an event below the bound.
-pub(crate) fn first_with_event(store: &Store, to: u32, entries: &[NodeId]) -> Option<NodeId>
-    requires { (k : ℕ) (e : NodeId) → Stands entries.now k e → IsNumber store.now e.n }
-    ensures { MatchOption result (AllEnd store.now to (node_numbers entries.now))
-        (λ e. IsReference store.now to (node_numbers entries.now) e.n) }
-{
-    for entry in entries {
-        match below(store, to, *entry) {
-            Some(_) => return Some(*entry),
-            None => {}
-        }
-    }
-    None
 }
 
 /// What follows the first events of a number below the bound.

@@ -11,8 +11,8 @@ ghost use Rattle.gate_modules.specs.Forms.{AreOfDifferentUnits, IsFit, AddsForms
 use crate::entries::exit;
 use crate::parts::longer;
 use crate::ranges::{Range, ShortSet};
-use crate::twins::below;
 use ar_base::{EventId, Memory, UnitId};
+use event_bounds::below;
 use std::alloc::Global;
 use zdd_nodes::{NodeId, Store};
 

@@ -7,11 +7,12 @@ ghost use Rattle.gate_modules.specs.Modules.{IsModule};
 ghost use Rattle.gate_modules.specs.Shortened.{set_of};
 ghost use Rattle.gate_modules.specs.Walked.{AreTwins};
 
-use crate::entries::{Reference, entries_agree, entries_of, entry_exit, first_with_event};
+use crate::entries::{Reference, entries_agree, entries_of, entry_exit};
 use crate::parts::add_some_parts;
 use crate::ranges::{EventSet, Range};
 use crate::twins::Twin;
 use ar_base::Memory;
+use event_bounds::first_with_event;
 use std::alloc::Global;
 use zdd_nodes::{NodeId, Store};
 

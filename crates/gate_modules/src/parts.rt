@@ -6,8 +6,8 @@ ghost use Rattle.gate_modules.specs.Shortened.{event_numbers, set_of};
 ghost use Rattle.gate_modules.specs.Parts.{AddsHeads, AddsSomeHeads};
 
 use crate::ranges::EventSet;
-use crate::twins::below;
 use ar_base::{EventId, Memory};
+use event_bounds::below;
 use std::alloc::Global;
 use zdd_nodes::{NodeId, Store};
 

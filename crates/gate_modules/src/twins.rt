@@ -1,11 +1,11 @@
 //! Whether two families have the same sets of events below a bound, each with one family that follows.
 
-ghost use Rattle.std.specs.Prelude.{◌≡◌, ◌↔◌, ◌<◌, MatchOption, length, true, ◌⊎◌};
-ghost use Rattle.zdd_nodes.specs.Nodes.{Stored, IsNumber, IsSoundStore};
-ghost use Rattle.gate_modules.specs.Walked.{AreTwins, EndsBelow, HasBelow, IsAsked, AreEnds, Answers, Agrees};
+ghost use Rattle.std.specs.Prelude.{◌≡◌, ◌<◌, length, true};
+ghost use Rattle.zdd_nodes.specs.Nodes.{Stored, IsNumber};
+ghost use Rattle.gate_modules.specs.Walked.{AreTwins, IsAsked, AreEnds, Answers, Agrees};
 ghost use Rattle.gate_modules.specs.Walked.{AgreesSome};
 
-use ar_base::EventId;
+use event_bounds::{below, both_end};
 use zdd_nodes::{NodeId, Store};
 
 /// Two families that were found to agree: the number of the second, and those of what follows.
@@ -23,19 +23,6 @@ pub(crate) struct Question {
     pub(crate) to: u32,
     pub(crate) end: NodeId,
     pub(crate) node_end: NodeId,
-}
-
-/// The event and the halves of a number whose family has an event below the bound. Takes no memory.
-pub(crate) fn below(store: &Store, to: u32, number: NodeId) -> Option<(EventId, NodeId, NodeId)>
-    requires { IsNumber store.now number.n }
-    ensures halves { MatchOption result (EndsBelow store.now to number.n)
-        (λ t. HasBelow store.now to number.n t.0.n t.1.n t.2.n) }
-    ensures sound { IsSoundStore store.now }
-{
-    match store.split(number) {
-        Some((event, lo, hi)) if event.n < to => Some((event, lo, hi)),
-        _ => None,
-    }
 }
 
 // Whether the table tells that the families agree as asked.
@@ -59,14 +46,6 @@ fn is_asked(known: Twin, asked: Question, second: NodeId) -> bool
         return false;
     }
     true
-}
-
-// Whether both families are empty, or what is to follow.
-fn both_end(asked: Question, first: NodeId, second: NodeId) -> bool
-    ensures { (result ≡ true) ↔ (((first.n ≡ 0) × (second.n ≡ 0))
-        ⊎ ((first.n ≡ asked.end.n) × (second.n ≡ asked.node_end.n))) }
-{
-    (first.n == 0 && second.n == 0) || (first.n == asked.end.n && second.n == asked.node_end.n)
 }
 
 /// Whether both families have the same sets of events below the bound, where after each of these the first goes on as
@@ -112,7 +91,7 @@ pub(crate) fn agree(
             };
             true
         }
-        (None, None) => both_end(asked, first, second),
+        (None, None) => both_end(first, second, asked.end, asked.node_end),
         (Some(_), None) => false,
         (None, Some(_)) => false,
     }

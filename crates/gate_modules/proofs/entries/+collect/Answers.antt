@@ -1,7 +1,9 @@
 use Rattle.std.proofs.Common.{sym, ap, ◌∙◌, subst}
 use Rattle.zdd_nodes.specs.Nodes.{family}
-use Rattle.gate_modules.specs.Entries.{node_numbers, IsCovered, Adds}
-use Rattle.gate_modules.proofs.Entering.{covered_more, covered_node, seen_set, seen_more, adds_node, covered_leaf, adds_leaf, numbers_push}
+use Rattle.event_bounds.specs.Bounds.{node_numbers}
+use Rattle.event_bounds.proofs.Numbering.{numbers_push}
+use Rattle.gate_modules.specs.Entries.{IsCovered, Adds}
+use Rattle.gate_modules.proofs.Entering.{covered_more, covered_node, seen_set, seen_more, adds_node, covered_leaf, adds_leaf}
 use Rattle.gate_modules.proofs.entries.+collect.Goals as goal
 
 pub returns-in_ok-collect-in-Some-2-clause-covered : goal.returns-in_ok-collect-in-Some-2-clause-covered

@@ -1,5 +1,6 @@
 use Rattle.std.proofs.Common.{subst}
-use Rattle.gate_modules.specs.Entries.{node_numbers, Adds}
+use Rattle.event_bounds.specs.Bounds.{node_numbers}
+use Rattle.gate_modules.specs.Entries.{Adds}
 use Rattle.gate_modules.proofs.Entering.{entries_from}
 use Rattle.gate_modules.proofs.entries.entries_of.Goals as goal
 

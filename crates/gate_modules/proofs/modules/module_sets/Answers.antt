@@ -6,7 +6,8 @@ use Rattle.zdd_families.specs.Families.{Family}
 use Rattle.zdd_nodes.specs.Nodes.{NodeId, Stored, family, IsNumber}
 use Rattle.gate_modules.specs.Parts.{AreSomeHeads, AddsSomeHeads}
 use Rattle.gate_modules.specs.Shortened.{set_of}
-use Rattle.gate_modules.specs.Entries.{node_numbers, AllEnd, IsReference, EntriesAnswer}
+use Rattle.event_bounds.specs.Bounds.{node_numbers, AllEnd, IsReference}
+use Rattle.gate_modules.specs.Entries.{EntriesAnswer}
 use Rattle.gate_modules.proofs.Deciding.{event_not_end, none_is_module, differs_no_module, few_no_module, is_module}
 use Rattle.gate_modules.proofs.Exchange.{from_or_none}
 use Rattle.gate_modules.proofs.modules.module_sets.Goals as goal

@@ -4,7 +4,7 @@ use Rattle.std.specs.List.{AllByRecursion}
 use Rattle.zdd_families.specs.Families.{Family, node, IsAbove}
 use Rattle.zdd_families.proofs.Laws.{IsAbove_set, each_of}
 use Rattle.zdd_nodes.specs.Nodes.{Stored, family, IsNode}
-use Rattle.gate_modules.specs.Walked.{AtLeast, EndsBelow}
+use Rattle.event_bounds.specs.Bounds.{AtLeast, EndsBelow}
 
 at_least : (to v : ℕ) (s : List ℕ) → to ≤ v → IsAbove_set v s → AtLeast to s
 at_least to v [] l a = tt

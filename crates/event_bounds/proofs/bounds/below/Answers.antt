@@ -1,5 +1,5 @@
-use Rattle.gate_modules.proofs.Ending.{ends_at_node}
-use Rattle.gate_modules.proofs.twins.below.Goals as goal
+use Rattle.event_bounds.proofs.Ending.{ends_at_node}
+use Rattle.event_bounds.proofs.bounds.below.Goals as goal
 
 pub returns-in_default-clause-halves : goal.returns-in_default-clause-halves
 returns-in_default-clause-halves c =

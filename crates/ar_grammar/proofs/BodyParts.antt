@@ -11,18 +11,20 @@ use Rattle.ar_lexer.specs.declared.words.TheConstants.{ASSERTION, BLOCK, BOOLEAN
 use Rattle.ar_syntax.specs.declared.members.Member.{Member}
 use Rattle.ar_syntax.specs.declared.members.TypeForm.{TypeForm}
 use Rattle.ar_syntax.specs.declared.members.TypeForm.TheVariants as type_form
-use Rattle.ar_grammar.specs.declared.lexeme.Refusal.{Refusal}
-use Rattle.ar_grammar.specs.declared.lexeme.Refusal.TheVariants.{Syntax, Depth, Memory}
+use Rattle.expression_grammar.specs.declared.lexeme.Refusal.{Refusal}
+use Rattle.expression_grammar.specs.declared.lexeme.Refusal.TheVariants.{Syntax, Depth, Memory}
 use Rattle.ar_base.specs.Numbers.{NameId}
-use Rattle.ar_grammar.specs.Words.{Form, Tokens, kind_or, token, no_kind, deep, ◌▸◌, ◌∣◌, nothing, between, each, many, groups, concat}
+use Rattle.expression_grammar.specs.Words.{Form, Tokens, kind_or, token, no_kind, deep, ◌▸◌, ◌∣◌, nothing, between, each, many, groups, concat}
 use Rattle.ar_grammar.specs.Members.{ReadsTypeForm, ReadsDeclared, ReadsSingle, boolean, ReadsMember, named, ReadsSection, ReadsLater, ReadsSections, none, some, ReadsBody}
-use Rattle.ar_grammar.specs.Texts.{list_of, path_tokens, is_type, expr_tokens, instr_tokens, declared_rest, body_tokens}
+use Rattle.expression_grammar.specs.Texts.{list_of, path_tokens, expr_tokens}
+use Rattle.ar_grammar.specs.Texts.{is_type, instr_tokens, declared_rest, body_tokens}
 use Rattle.ar_grammar.specs.Texts as text
 use Rattle.ar_grammar.specs.Parts.{event_tokens, transition_of, section_of, declaration_tokens, alias_tokens, value_tokens, kept_value_tokens, parameter_tokens, single_tokens, unit_of, keyed_of, member_tokens, later_tokens, sections_tokens, inside_body}
-use Rattle.ar_grammar.specs.Results.{kind_at, Plain, Spans, Takes, Arrives, Finds, is_word, is_name, ends_transitions, ends_assertions, ends_body, ends_members, ends_section, begins_instr, begins_keyed, begins_member, begins_section, begins_later, begins_body}
-use Rattle.ar_grammar.proofs.Finding.{Follows, Loops, loops_start, loops_next, kind_join, kind_before, kind_behind, plain_kind, apart, fails, token_kind, then_kind, follows_many, spans_then, spans_map, spans_push}
-use Rattle.ar_grammar.proofs.ExpressionForms.{then_map, word_from}
-use Rattle.ar_grammar.proofs.TextParts.{first_of, one_kind, one_as}
+use Rattle.expression_grammar.specs.Results.{kind_at, Plain, Spans, Takes, Arrives, Finds, is_word, is_name}
+use Rattle.ar_grammar.specs.Results.{ends_transitions, ends_assertions, ends_body, ends_members, ends_section, begins_instr, begins_keyed, begins_member, begins_section, begins_later, begins_body}
+use Rattle.expression_grammar.proofs.Finding.{Follows, Loops, loops_next, kind_join, kind_before, kind_behind, plain_kind, apart, fails, token_kind, then_kind, follows_many, spans_then, spans_map, spans_push}
+use Rattle.expression_grammar.proofs.ExpressionForms.{then_map, word_from}
+use Rattle.expression_grammar.proofs.TextParts.{first_of, one_kind, one_as}
 
 -- The first token of what was taken
 
@@ -518,16 +520,6 @@ pub record GathersGroups {X : Type 0} (One : List X → Form) (A : ℕ → Form)
   pub pushed : items ≡ before ++ more
   pub taken : Spans (groups One more) start rest
   pub loops : Loops A ends start rest
-
-pub groups_start : {X : Type 0} {One : List X → Form} {A : ℕ → Form} {ends : TokenKind → Bool} {before : List X}
-    {start : Tokens} → GathersGroups One A ends before before start start
-groups_start {before = before} = record {
-  more = [];
-  pushed = sym (append-nil before);
-  taken = record { front = []; split = refl; form = record { parts = []; all = refl; are = refl } };
-  loops =
-      loops_start;
-}
 
 pub groups_push : {X Y : Type 0} {One : List X → Form} {A : ℕ → Form} {ends ends' : TokenKind → Bool} {left : ℕ} {y : Y}
     (ys : List X) {before items items' : List X} {start rest new : Tokens} →

@@ -10,18 +10,22 @@ use Rattle.ar_syntax.specs.declared.members.Member.{Member}
 use Rattle.ar_syntax.specs.declared.members.TypeForm.{TypeForm}
 use Rattle.ar_syntax.specs.declared.members.TypeForm.TheVariants as type_form
 use Rattle.ar_syntax.specs.declared.members.Unit.{Unit as UnitTree}
-use Rattle.ar_grammar.specs.declared.lexeme.Lexeme.{Lexeme}
-use Rattle.ar_grammar.specs.Words.{Form, Tokens, token, deep, ◌▸◌, ◌∣◌, between, many, groups, covering}
+use Rattle.expression_grammar.specs.declared.lexeme.Lexeme.{Lexeme}
+use Rattle.expression_grammar.specs.Words.{Form, Tokens, token, deep, ◌▸◌, ◌∣◌, between, many, groups, covering}
 use Rattle.ar_grammar.specs.Members as tree
 use Rattle.ar_grammar.specs.Members.{kept, ReadsAssertion, ReadsTypeForm, ReadsDeclared, ReadsSingle, ReadsKeyed, ReadsUnit, ReadsMember, ReadsSection, ReadsLater, ReadsSections, ReadsBody}
 use Rattle.ar_grammar.specs.Texts as text
-use Rattle.ar_grammar.specs.Texts.{one_of, maybe, expr_tokens, instr_tokens, bracketed_tokens, is_type, declared_rest, unit_tokens, keyed_tokens, body_made_of, body_tokens}
+use Rattle.expression_grammar.specs.Texts.{maybe, expr_tokens}
+use Rattle.ar_grammar.specs.Texts.{instr_tokens, bracketed_tokens, is_type, declared_rest, unit_tokens, keyed_tokens, body_made_of, body_tokens}
 use Rattle.ar_grammar.specs.Parts.{alias_tokens, value_tokens, single_tokens, section_of, unit_of, keyed_of, member_tokens}
-use Rattle.ar_grammar.specs.Results.{Begins, is_word, is_name, begins_keyed, begins_member, begins_section, begins_body}
-use Rattle.ar_grammar.proofs.ExpressionForms.{word_from}
-use Rattle.ar_grammar.proofs.Standing.{Turns, turns_token, turns_then, begins_token, begins_one, begins_here, begins_nothing, begins_no_more, begins_then, begins_after, begins_map, begins_maybe, begins_some}
-use Rattle.ar_grammar.proofs.Turning.{turns_list, turns_placed, turns_path, turns_tree}
-use Rattle.ar_grammar.proofs.Beginnings.{some_expr}
+use Rattle.expression_grammar.specs.Results.{Begins, is_word, is_name}
+use Rattle.ar_grammar.specs.Results.{begins_keyed, begins_member, begins_section, begins_body}
+use Rattle.expression_grammar.proofs.ExpressionForms.{word_from}
+use Rattle.expression_grammar.proofs.Standing.{Turns, turns_token, turns_then, begins_token, begins_one, begins_here, begins_nothing, begins_no_more, begins_then, begins_after, begins_map}
+use Rattle.ar_grammar.proofs.Standing.{begins_maybe, begins_some}
+use Rattle.expression_grammar.proofs.Turning.{turns_list, turns_path, turns_tree}
+use Rattle.ar_grammar.proofs.NameForms.{turns_placed}
+use Rattle.expression_grammar.proofs.Beginnings.{some_expr}
 use Rattle.ar_grammar.proofs.InstrTexts.{May, Moves, moves_of, moves_token, moves_then, moves_each, moves_instr, moves_closed, moves_groups, turns_groups, some_path}
 use Rattle.ar_grammar.proofs.UnreadParts.{turns_kept}
 use Rattle.ar_grammar.proofs.MemberParts.{turns_type, turns_names, turns_settings, turns_event, turns_hidden, moves_transition, some_declared_rest}

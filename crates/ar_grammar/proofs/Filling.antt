@@ -5,15 +5,18 @@ use Rattle.ar_lexer.specs.declared.token.TokenKind.{TokenKind}
 use Rattle.ar_lexer.specs.declared.token.TokenKind.TheVariants.{Sign, Reserved, End}
 use Rattle.ar_lexer.specs.declared.signs.TheConstants.{OPEN_PARENTHESIS, CLOSE_PARENTHESIS, SEMICOLON}
 use Rattle.ar_lexer.specs.declared.words.TheConstants.{ASSERTION, ELSE, SKIP, TRUE}
-use Rattle.ar_grammar.specs.declared.lexeme.Lexeme.{Lexeme}
-use Rattle.ar_grammar.specs.Words.{Form, Tokens, kind_or, token, no_kind, deep, never, nothing, not_before, ◌▸◌, ◌∣◌, between, each, many, ReadsSome}
-use Rattle.ar_grammar.specs.Paths.{ReadsStart}
-use Rattle.ar_grammar.specs.Texts.{one_of, list_of, maybe, names_tokens, path_tokens, plus_tokens, product_tokens, sum_tokens, relation_tokens, compare_tokens, and_tokens, or_tokens, if_tokens, case_made_of, switch_tokens, operands_tokens, primary_tokens, expr_tokens, not_tokens, minus_tokens, simple_tokens, else_tokens, conditional_tokens, group_tokens, instr_of, instr_tokens, is_type, is_target_word, setting_tokens, settings_tokens, is_unread, is_kept, bracketed_tokens, kept_tokens, declared_rest, valued_tokens, is_part, transition_tokens, section_tokens, unit_tokens, keyed_tokens, body_made_of, body_tokens, bound_tokens, whole_tokens, domain_tokens, item_tokens, model_tokens, Viable, FitsNesting, begins_constant}
+use Rattle.expression_grammar.specs.declared.lexeme.Lexeme.{Lexeme}
+use Rattle.expression_grammar.specs.Words.{Form, Tokens, kind_or, token, no_kind, deep, never, nothing, not_before, ◌▸◌, ◌∣◌, between, each, many, ReadsSome}
+use Rattle.expression_grammar.specs.Paths.{ReadsStart}
+use Rattle.expression_grammar.specs.Texts.{one_of, list_of, maybe, names_tokens, path_tokens, plus_tokens, product_tokens, sum_tokens, relation_tokens, compare_tokens, and_tokens, or_tokens, if_tokens, case_made_of, switch_tokens, operands_tokens, primary_tokens, expr_tokens, not_tokens, minus_tokens, begins_constant}
+use Rattle.ar_grammar.specs.Texts.{simple_tokens, else_tokens, conditional_tokens, group_tokens, instr_of, instr_tokens, is_type, is_target_word, setting_tokens, settings_tokens, is_unread, is_kept, bracketed_tokens, kept_tokens, declared_rest, valued_tokens, is_part, transition_tokens, section_tokens, unit_tokens, keyed_tokens, body_made_of, body_tokens, bound_tokens, whole_tokens, domain_tokens, item_tokens, model_tokens, Viable, FitsNesting}
+use Rattle.expression_grammar.specs.Texts as primary
 use Rattle.ar_grammar.specs.Texts as text
-use Rattle.ar_grammar.specs.Results.{Plain, is_word, is_sign}
-use Rattle.ar_grammar.proofs.Finding.{apart}
-use Rattle.ar_grammar.proofs.Turning.{turns_start}
-use Rattle.ar_grammar.proofs.Standing.{Turns, turns_token, turns_nothing, some_token}
+use Rattle.expression_grammar.specs.Results.{Plain, is_word, is_sign}
+use Rattle.expression_grammar.proofs.Finding.{apart}
+use Rattle.expression_grammar.proofs.Turning.{turns_start}
+use Rattle.expression_grammar.proofs.Standing.{Turns, turns_token, some_token}
+use Rattle.ar_grammar.proofs.Standing.{turns_nothing}
 
 -- The second list is the first, where some tokens that no text has have given way to one token or more, the first no
 -- `else`.
@@ -169,17 +172,17 @@ module _ {E E' : Form} where
   fills_case f = fills_then (fills_between f) f
 
   fills_primary : Fills E E' → Fills (primary_tokens E) (primary_tokens E')
-  fills_primary f next ts (text.constant h) = fills_map fills_one (λ next ts j. text.constant j) next ts h
-  fills_primary f next ts (text.path h) = fills_map fills_path (λ next ts j. text.path j) next ts h
-  fills_primary f next ts (text.brackets h) = fills_map (fills_between f) (λ next ts j. text.brackets j) next ts h
-  fills_primary f next ts (text.call h) =
+  fills_primary f next ts (primary.constant h) = fills_map fills_one (λ next ts j. primary.constant j) next ts h
+  fills_primary f next ts (primary.path h) = fills_map fills_path (λ next ts j. primary.path j) next ts h
+  fills_primary f next ts (primary.brackets h) = fills_map (fills_between f) (λ next ts j. primary.brackets j) next ts h
+  fills_primary f next ts (primary.call h) =
       fills_map (fills_then fills_one (fills_then fills_token
-      (fills_then f (fills_then (fills_many (fills_then fills_token f)) fills_token)))) (λ next ts j. text.call j) next
+      (fills_then f (fills_then (fills_many (fills_then fills_token f)) fills_token)))) (λ next ts j. primary.call j) next
       ts h
-  fills_primary f next ts (text.switch h) =
+  fills_primary f next ts (primary.switch h) =
       fills_map (fills_then fills_token (fills_then fills_token
       (fills_then (fills_case f) (fills_then (fills_many (fills_case f)) (fills_then fills_token (fills_between f))))))
-      (λ next ts j. text.switch j) next ts h
+      (λ next ts j. primary.switch j) next ts h
 
 fills_sum : {M M' : Form} → Fills M M' → Fills (sum_tokens (product_tokens M)) (sum_tokens (product_tokens M'))
 fills_sum f = fills_then (fills_list f) (fills_many (fills_then fills_has (fills_list f)))
@@ -342,7 +345,7 @@ alone : {A B : Form} (t : Lexeme) (next : TokenKind) → A next (t ∷ []) → B
 alone t next a b = record { front = t ∷ []; back = []; split = refl; first = a; second = b }
 
 true_minus : (m : ℕ) (next : TokenKind) → minus_tokens never (suc m) next (some_token (Reserved TRUE) ∷ [])
-true_minus m next = inr (text.constant (record { one = some_token (Reserved TRUE); alone = refl; passes = refl }))
+true_minus m next = inr (primary.constant (record { one = some_token (Reserved TRUE); alone = refl; passes = refl }))
 
 true_not : (m : ℕ) (next : TokenKind) → not_tokens never (suc (suc m)) next (some_token (Reserved TRUE) ∷ [])
 true_not m next = let t = some_token (Reserved TRUE) in inr (alone t next (alone t next (alone t next (true_minus m next) ([], refl)) ([], refl)) (inl refl))

@@ -4,11 +4,11 @@ use Rattle.std.proofs.Math.Numerals.{sub-one}
 use Rattle.ar_lexer.specs.declared.token.TokenKind.{TokenKind}
 use Rattle.ar_lexer.specs.declared.token.TokenKind.TheVariants.{Sign}
 use Rattle.ar_syntax.specs.declared.instructions.Instr.{Instr}
-use Rattle.ar_grammar.specs.Words.{Form, Tokens, kind_or, ◌▸◌, between}
+use Rattle.expression_grammar.specs.Words.{Form, Tokens, kind_or, ◌▸◌, between}
 use Rattle.ar_grammar.specs.Instructions.{simple, group, conditional, ReadsInstr, ReadsSimple, ReadsGroup, ReadsConditional}
-use Rattle.ar_grammar.specs.Results.{is_sign}
-use Rattle.ar_grammar.proofs.Finding.{kind_join, then_kind}
-use Rattle.ar_grammar.proofs.ExpressionForms.{sign_from}
+use Rattle.expression_grammar.specs.Results.{is_sign}
+use Rattle.expression_grammar.proofs.Finding.{kind_join, then_kind}
+use Rattle.expression_grammar.proofs.ExpressionForms.{sign_from}
 
 -- a kind that is no sign of this number
 pub not_sign : (n : ℕ) (k : TokenKind) → k ≢ Sign n → is_sign n k ≡ false

@@ -10,22 +10,24 @@ use Rattle.ar_lexer.specs.declared.words.TheConstants.{ELSE, IF, MAIN, OWNER, SK
 use Rattle.ar_syntax.specs.declared.expressions.RawExpr.{RawExpr}
 use Rattle.ar_syntax.specs.declared.instructions.Instr.{Instr}
 use Rattle.ar_syntax.specs.declared.paths.PathStart.TheVariants.{Here}
-use Rattle.ar_grammar.specs.declared.lexeme.Lexeme.{Lexeme}
-use Rattle.ar_grammar.specs.declared.lexeme.Refusal.{Refusal}
-use Rattle.ar_grammar.specs.Words.{Form, Tokens, kind_or, token, no_kind, deep, nothing, ◌▸◌, ◌∣◌, between, each, many, ReadsSome}
-use Rattle.ar_grammar.specs.Paths.{ReadsStart}
-use Rattle.ar_grammar.specs.Expressions.{Node, ReadsExpr}
+use Rattle.expression_grammar.specs.declared.lexeme.Lexeme.{Lexeme}
+use Rattle.expression_grammar.specs.declared.lexeme.Refusal.{Refusal}
+use Rattle.expression_grammar.specs.Words.{Form, Tokens, kind_or, token, no_kind, deep, nothing, ◌▸◌, ◌∣◌, between, each, many, ReadsSome}
+use Rattle.expression_grammar.specs.Paths.{ReadsStart}
+use Rattle.expression_grammar.specs.Expressions.{Node, ReadsExpr}
 use Rattle.ar_grammar.specs.Instructions.{ReadsElse, ReadsSimpleOf, assign, tie, skip, ReadsInstr, ReadsInstrOf, ReadsGroupOf, ReadsIfOf}
 use Rattle.ar_grammar.specs.Instructions as tree
-use Rattle.ar_grammar.specs.Texts.{path_tokens, expr_tokens, simple_tokens, else_tokens, conditional_tokens, group_tokens, instr_of, simple, group, conditional, instr_tokens}
-use Rattle.ar_grammar.specs.Results.{kind_at, Spans, Begins, Refuses, is_sign, is_word, anything, ends_path, begins_path, begins_instr}
-use Rattle.ar_grammar.proofs.Finding.{Follows, inside, token_kind, then_kind, apart, fails, each_push}
-use Rattle.ar_grammar.proofs.Standing.{Turns, turns_token, turns_then, tells_most, refuses_map, begins_token, begins_here, begins_no_more, begins_then, begins_map, begins_after, turns_each}
-use Rattle.ar_grammar.proofs.TextParts.{first_of, path_starts}
-use Rattle.ar_grammar.proofs.Turning.{turns_path, turns_tree}
-use Rattle.ar_grammar.proofs.Beginnings.{some_expr, path_at}
-use Rattle.ar_grammar.specs.Words.{groups}
-use Rattle.ar_grammar.proofs.Standing.{each_some}
+use Rattle.expression_grammar.specs.Texts.{path_tokens, expr_tokens}
+use Rattle.ar_grammar.specs.Texts.{simple_tokens, else_tokens, conditional_tokens, group_tokens, instr_of, simple, group, conditional, instr_tokens}
+use Rattle.expression_grammar.specs.Results.{kind_at, Spans, Begins, Refuses, is_sign, is_word, anything, ends_path, begins_path}
+use Rattle.ar_grammar.specs.Results.{begins_instr}
+use Rattle.expression_grammar.proofs.Finding.{Follows, inside, token_kind, then_kind, apart, fails, each_push}
+use Rattle.expression_grammar.proofs.Standing.{Turns, turns_token, turns_then, tells_most, refuses_map, begins_token, begins_here, begins_no_more, begins_then, begins_map, begins_after, turns_each}
+use Rattle.expression_grammar.proofs.TextParts.{first_of, path_starts}
+use Rattle.expression_grammar.proofs.Turning.{turns_path, turns_tree}
+use Rattle.expression_grammar.proofs.Beginnings.{some_expr, path_at}
+use Rattle.expression_grammar.specs.Words.{groups}
+use Rattle.expression_grammar.proofs.Standing.{each_some}
 
 -- First tokens
 

@@ -15,22 +15,24 @@ use Rattle.ar_syntax.specs.declared.items.DomainBody.TheVariants as domain
 use Rattle.ar_syntax.specs.declared.items.DomainDecl.{DomainDecl}
 use Rattle.ar_syntax.specs.declared.items.Item.{Item}
 use Rattle.ar_syntax.specs.declared.items.Item.TheVariants as item
-use Rattle.ar_grammar.specs.declared.lexeme.Lexeme.{Lexeme}
-use Rattle.ar_grammar.specs.declared.lexeme.Refusal.{Refusal}
-use Rattle.ar_grammar.specs.declared.lexeme.Refusal.TheVariants.{Syntax, Depth, Memory}
-use Rattle.ar_grammar.specs.Words.{Form, Tokens, kind_or, token, deep, nothing, ◌▸◌, ◌∣◌, each, many, between, ReadsSome}
-use Rattle.ar_grammar.specs.Texts.{maybe, names_tokens, whole_tokens, bound_tokens, domain_tokens, item_tokens, model_tokens}
+use Rattle.expression_grammar.specs.declared.lexeme.Refusal.{Refusal}
+use Rattle.expression_grammar.specs.declared.lexeme.Refusal.TheVariants.{Syntax, Depth, Memory}
+use Rattle.expression_grammar.specs.Words.{Form, Tokens, kind_or, token, deep, nothing, ◌▸◌, ◌∣◌, each, many, between, ReadsSome}
+use Rattle.expression_grammar.specs.Texts.{maybe, names_tokens}
+use Rattle.ar_grammar.specs.Texts.{whole_tokens, bound_tokens, domain_tokens, item_tokens, model_tokens}
 use Rattle.ar_grammar.specs.Parts.{unit_of, domain_body_tokens}
 use Rattle.ar_grammar.specs.Items.{ReadsWhole, ReadsBound, whole, negated, ReadsDomainBody, ReadsDomain, ReadsItem, ReadsItems}
-use Rattle.ar_grammar.specs.Results.{kind_at, Spans, Plain, AreUnsigned, Arrives, Finds, Begins, Refuses, Eats, Gets, IsRefusedAs, is_sign, is_word, begins_item, ends_item, is_end}
-use Rattle.ar_grammar.proofs.Finding.{Follows, apart, fails, token_kind, then_kind, follows_many, spans_then, spans_map, spans_token, spans_nothing, spans_at, finds_given, finds_token, finds_nothing, finds_at, eats_kind}
-use Rattle.ar_grammar.proofs.ExpressionForms.{then_map, then_assoc, then_unassoc, then_some, token_some}
+use Rattle.expression_grammar.specs.Results.{kind_at, Spans, Plain, Arrives, Finds, Begins, Refuses, Eats, is_sign, is_word}
+use Rattle.ar_grammar.specs.Results.{AreUnsigned, Gets, IsRefusedAs, begins_item, ends_item, is_end}
+use Rattle.expression_grammar.proofs.Finding.{Follows, apart, fails, token_kind, then_kind, follows_many, spans_then, spans_map, spans_token, spans_at, finds_given, finds_token, finds_nothing, finds_at, eats_kind}
+use Rattle.ar_grammar.proofs.Finding.{spans_nothing}
+use Rattle.expression_grammar.proofs.ExpressionForms.{then_map, then_assoc, then_unassoc, then_some, token_some}
 use Rattle.ar_grammar.proofs.InstrParts.{between_kind}
-use Rattle.ar_grammar.proofs.TextParts.{token_as}
-use Rattle.ar_grammar.proofs.Standing.{Turns, turns_token, turns_then, turns_each, some_token, begins_token, begins_no_more, begins_then, begins_map}
-use Rattle.ar_grammar.proofs.Turning.{turns_placed}
+use Rattle.expression_grammar.proofs.TextParts.{token_as}
+use Rattle.expression_grammar.proofs.Standing.{Turns, turns_token, turns_then, turns_each, some_token, begins_token, begins_no_more, begins_then, begins_map}
+use Rattle.ar_grammar.proofs.NameForms.{turns_placed}
 use Rattle.ar_grammar.proofs.MemberParts.{turns_names}
-use Rattle.ar_grammar.proofs.BodyTexts.{turns_a_unit, some_unit}
+use Rattle.ar_grammar.proofs.BodyTexts.{turns_a_unit}
 use Rattle.ar_grammar.proofs.Places.{syntax_there, syntax_behind, depth_there}
 
 -- Numbers without signs
@@ -45,14 +47,6 @@ unsigned_at e u = subst AreUnsigned e u
 -- what is left behind a text
 pub unsigned_past : {A : Form} {old new : Tokens} → Spans A old new → AreUnsigned old → AreUnsigned new
 unsigned_past {new = new} s u = unsigned_behind s.front new (unsigned_at s.split u)
-
--- what is left behind a token
-pub unsigned_next : {t : Lexeme} {old new : Tokens} {k : TokenKind} → (old ≡ t ∷ new) × (t.kind ≡ k) → AreUnsigned old
-    → AreUnsigned new
-unsigned_next e u = (unsigned_at e.0 u).1
-
-pub unsigned_eaten : {k : TokenKind} {old new : Tokens} → Eats k old new → AreUnsigned old → AreUnsigned new
-unsigned_eaten e u = (unsigned_at e.split u).1
 
 pub no_sign_of : (z : ℤ) {old new : Tokens} → Eats (Whole z) old new → AreUnsigned old → pos 0 ≤ℤ z
 no_sign_of z e u = (unsigned_at e.split u).0 z e.of_kind
@@ -222,9 +216,6 @@ turns_item n m l (item.Block u) = λ next next' ts h. inr
 pub turns_items : (n m : ℕ) → n ≤ m → (xs : List Item) → Turns (ReadsItems n xs) (model_tokens deep m)
 turns_items n m l [] = λ next next' ts h. elim h [ ]
 turns_items n m l (x ∷ xs) = turns_then (turns_item n m l x) (turns_each (turns_item n m l) xs)
-
-pub some_item : (m : ℕ) → Begins (item_tokens deep m) []
-some_item m = begins_map (begins_then (begins_token (Reserved BLOCK)) (some_unit m)) (λ next ts h. inr (inr h))
 
 pub items_made : (n : ℕ) (x : Item) (more items : List Item) {old mid new : Tokens} → Spans (ReadsItem n x) old mid
     → Spans (each (ReadsItem n) more) mid new → items ≡ x ∷ more → Spans (ReadsItems n items) old new

@@ -1,13 +1,7 @@
-pub mod Ends
 pub mod Finding
 pub mod Standing
-pub mod PathForms
+pub mod NameForms
 pub mod ExpressionForms
-pub mod ExpressionParts
-pub mod PrimaryParts
-pub mod TextParts
-pub mod Turning
-pub mod Beginnings
 pub mod InstrParts
 pub mod InstrTexts
 pub mod Filling
@@ -17,4 +11,3 @@ pub mod MemberParts
 pub mod BodyParts
 pub mod BodyTexts
 pub mod ItemParts
-pub mod Measures

@@ -16,19 +16,22 @@ use Rattle.ar_syntax.specs.declared.members.TypeForm.TheVariants as type_form
 use Rattle.ar_syntax.specs.declared.members.Word.{Word}
 use Rattle.ar_syntax.specs.declared.members.Word.TheVariants as word
 use Rattle.ar_base.specs.Numbers.{NameId}
-use Rattle.ar_grammar.specs.Words.{Form, Tokens, kind_or, token, deep, ◌▸◌, nothing, each, many, separated_by, standing, StandsAt, place_at, between, ◌∣◌}
-use Rattle.ar_grammar.specs.Paths.{ReadsName, ReadsPlacedName, ReadsNames}
-use Rattle.ar_grammar.specs.Expressions.{Node, ReadsExpr}
+use Rattle.expression_grammar.specs.Words.{Form, Tokens, kind_or, token, deep, ◌▸◌, nothing, each, many, separated_by, standing, StandsAt, place_at, between, ◌∣◌}
+use Rattle.expression_grammar.specs.Paths.{ReadsName, ReadsPlacedName, ReadsNames}
+use Rattle.expression_grammar.specs.Expressions.{Node, ReadsExpr}
 use Rattle.ar_grammar.specs.Members.{ReadsType, ReadsTypeForm, ReadsWord, ReadsSetting, ReadsSettings}
-use Rattle.ar_grammar.specs.Texts.{one_of, list_of, names_tokens, is_type, is_target_word, expr_tokens, setting_tokens, settings_tokens}
-use Rattle.ar_grammar.specs.Results.{kind_at, Spans, Begins, anything, ends_names, ends_expr, ends_list, ends_attribute, is_sign}
-use Rattle.ar_grammar.proofs.Finding.{Follows, kind_join, fails, token_kind, then_kind, follows_many, spans_then}
-use Rattle.ar_grammar.proofs.PathForms.{stands_there}
-use Rattle.ar_grammar.proofs.ExpressionForms.{then_map, then_assoc, then_some, token_some, sign_from}
-use Rattle.ar_grammar.proofs.TextParts.{first_of, one_kind, one_as}
-use Rattle.ar_grammar.proofs.Standing.{Turns, turns_token, turns_then, begins_token, begins_one, begins_no_more, begins_then}
-use Rattle.ar_grammar.proofs.Turning.{turns_list, turns_placed, turns_tree}
-use Rattle.ar_grammar.proofs.Beginnings.{some_expr}
+use Rattle.expression_grammar.specs.Texts.{one_of, list_of, names_tokens, expr_tokens}
+use Rattle.ar_grammar.specs.Texts.{is_type, is_target_word, setting_tokens, settings_tokens}
+use Rattle.expression_grammar.specs.Results.{kind_at, Spans, Begins, anything, ends_expr, ends_list, is_sign}
+use Rattle.ar_grammar.specs.Results.{ends_names, ends_attribute}
+use Rattle.expression_grammar.proofs.Finding.{Follows, kind_join, fails, token_kind, then_kind, follows_many, spans_then}
+use Rattle.expression_grammar.proofs.PathForms.{stands_there}
+use Rattle.expression_grammar.proofs.ExpressionForms.{then_map, then_assoc, then_some, token_some, sign_from}
+use Rattle.expression_grammar.proofs.TextParts.{first_of, one_kind, one_as}
+use Rattle.expression_grammar.proofs.Standing.{Turns, turns_token, turns_then, begins_token, begins_one, begins_no_more, begins_then}
+use Rattle.expression_grammar.proofs.Turning.{turns_list, turns_tree}
+use Rattle.ar_grammar.proofs.NameForms.{turns_placed}
+use Rattle.expression_grammar.proofs.Beginnings.{some_expr}
 use Rattle.std.specs.Prelude.{if◌then◌else◌}
 use Rattle.ar_lexer.specs.declared.signs.TheConstants.{AMPERSAND, ARROW, COLON, EXCLAMATION, QUESTION}
 use Rattle.ar_syntax.specs.declared.members.Member.{Member}
@@ -36,15 +39,17 @@ use Rattle.ar_syntax.specs.declared.members.Member.TheVariants as member
 use Rattle.ar_syntax.specs.declared.members.Part.{Part}
 use Rattle.ar_syntax.specs.declared.instructions.Instr.{Instr}
 use Rattle.ar_grammar.specs.Instructions.{ReadsInstr}
-use Rattle.ar_grammar.specs.Members.{ReadsDeclared, ReadsEvent, ReadsHidden, ReadsPart, ReadsTransition, sync, local}
-use Rattle.ar_grammar.specs.Texts.{path_tokens, is_part, declared_rest}
-use Rattle.ar_grammar.specs.Parts.{declaration_tokens, event_tokens, part_tokens, parts_tokens, guarded_tokens, transition_of}
-use Rattle.ar_grammar.specs.Results.{ends_path, ends_semicolon, begins_expr, begins_part}
-use Rattle.ar_grammar.proofs.Finding.{spans_map}
-use Rattle.ar_grammar.proofs.ExpressionForms.{then_unassoc}
-use Rattle.ar_grammar.proofs.TextParts.{expr_begins}
-use Rattle.ar_grammar.proofs.Standing.{begins_map, begins_nothing}
-use Rattle.ar_grammar.proofs.Turning.{turns_path}
+use Rattle.ar_grammar.specs.Members.{ReadsEvent, ReadsHidden, ReadsPart, ReadsTransition, sync, local}
+use Rattle.expression_grammar.specs.Texts.{path_tokens}
+use Rattle.ar_grammar.specs.Texts.{is_part, declared_rest}
+use Rattle.ar_grammar.specs.Parts.{event_tokens, part_tokens, parts_tokens, guarded_tokens, transition_of}
+use Rattle.expression_grammar.specs.Results.{ends_path, begins_expr}
+use Rattle.ar_grammar.specs.Results.{ends_semicolon, begins_part}
+use Rattle.expression_grammar.proofs.Finding.{spans_map}
+use Rattle.expression_grammar.proofs.ExpressionForms.{then_unassoc}
+use Rattle.expression_grammar.proofs.TextParts.{expr_begins}
+use Rattle.expression_grammar.proofs.Standing.{begins_map, begins_nothing}
+use Rattle.expression_grammar.proofs.Turning.{turns_path}
 use Rattle.ar_grammar.proofs.InstrTexts.{May, Moves, moves_of, moves_then, moves_instr, some_instr}
 use Rattle.ar_grammar.proofs.UnreadParts.{turns_attribute}
 
@@ -63,8 +68,6 @@ stand_made A end at {old} {new} e s some = record {
 
 pub name_some : (id : NameId) (next : TokenKind) (ts : Tokens) → ReadsName id next ts → ts ≡ [] → ⊥
 name_some id next ts h z = let q : h.one ∷ [] ≡ [] = sym h.alone ∙ z in absurd (cc)
-
--- Types
 
 -- Words
 
@@ -126,8 +129,6 @@ pub settings_made : (n : ℕ) (x : Setting) (more items : List Setting) {old a b
 settings_made n x more items {old} {new = new} e o f m d =
     subst (λ (xs : List Setting). Spans (ReadsSettings n xs) old new) (sym e)
     (spans_then o (spans_then (spans_then f m) d))
-
--- Declarations
 
 -- Texts
 
@@ -226,11 +227,6 @@ some_setting m = begins_then (begins_then (begins_one {test = is_target_word} Na
     (begins_then (begins_token (Sign EQUALS)) (some_expr m))
 
 -- Declarations before any token
-
-pub turns_declared : (n m : ℕ) → n ≤ m → (d : Member) → Turns (ReadsDeclared n d) (declaration_tokens m)
-turns_declared n m l d = λ next next' ts h. turns_then (turns_type h.type)
-    (turns_then (turns_names h.names.items) (turns_then (turns_settings n m l h.settings.items) turns_token)) next next'
-    ts h.reads
 
 pub some_declared_rest : (m : ℕ) → Begins (declared_rest (expr_tokens deep m)) []
 some_declared_rest m = begins_then (begins_then (begins_token Name) begins_no_more)

@@ -2,12 +2,13 @@
 use Rattle.std.proofs.Common.{◌≡◌, ℕ, ◌+◌, ◌⊎◌, inl, inr, [], ◌∷◌, ◌++◌, Result, Ok, Err, refl, sym, ap, ◌∙◌, subst, append_assoc, arith}
 use Rattle.std.proofs.lemmas.List.{append-nil, append_cancel_right}
 use Rattle.ar_lexer.specs.declared.token.TokenKind.TheVariants.{End}
-use Rattle.ar_grammar.specs.declared.lexeme.Lexeme.{Lexeme}
-use Rattle.ar_grammar.specs.declared.lexeme.Refusal.{Refusal}
-use Rattle.ar_grammar.specs.declared.lexeme.Refusal.TheVariants.{Syntax, Depth}
-use Rattle.ar_grammar.specs.Words.{Tokens, deep, never}
+use Rattle.expression_grammar.specs.declared.lexeme.Lexeme.{Lexeme}
+use Rattle.expression_grammar.specs.declared.lexeme.Refusal.{Refusal}
+use Rattle.expression_grammar.specs.declared.lexeme.Refusal.TheVariants.{Syntax, Depth}
+use Rattle.expression_grammar.specs.Words.{Tokens, deep, never}
 use Rattle.ar_grammar.specs.Texts.{model_tokens, Viable, FitsNesting, Ends, IsSyntaxAt, IsDepthAt}
-use Rattle.ar_grammar.specs.Results.{kind_at, Plain, Arrives, Finds, Stands, before, through, is_end}
+use Rattle.expression_grammar.specs.Results.{kind_at, Plain, Arrives, Finds, Stands, before, through}
+use Rattle.ar_grammar.specs.Results.{is_end}
 use Rattle.ar_grammar.proofs.Filling.{up, Filled, fills_model, not_cut, to_fill, viable_of, filled_front}
 
 plain_front : (front rest : Tokens) → Plain (front ++ rest) → Plain front

@@ -6,27 +6,30 @@ use Rattle.std.proofs.Math.Numerals.{sub-one}
 use Rattle.ar_lexer.specs.declared.token.TokenKind.{TokenKind}
 use Rattle.ar_lexer.specs.declared.token.TokenKind.TheVariants.{Name, Whole, Real, Sign, Reserved, End}
 use Rattle.ar_lexer.specs.declared.signs.TheConstants.{OPEN_PARENTHESIS, CLOSE_PARENTHESIS, SEMICOLON}
-use Rattle.ar_grammar.specs.declared.lexeme.Refusal.{Refusal}
-use Rattle.ar_grammar.specs.Words.{Form, Tokens, kind_or, token, no_kind, deep, ◌▸◌, many, between}
+use Rattle.expression_grammar.specs.declared.lexeme.Refusal.{Refusal}
+use Rattle.expression_grammar.specs.Words.{Form, Tokens, kind_or, token, no_kind, deep, ◌▸◌, many, between}
 use Rattle.ar_grammar.specs.Members.{plain_token, unread, unread_piece, bracketed}
-use Rattle.ar_grammar.specs.declared.lexeme.Lexeme.{Lexeme}
-use Rattle.ar_grammar.specs.Texts.{is_unread, bracketed_tokens, one_of}
-use Rattle.ar_grammar.proofs.TextParts.{one_kind, one_as, token_as}
-use Rattle.ar_grammar.proofs.Standing.{Turns, turns_token, turns_then, turns_each, begins_token, begins_here, begins_no_more, begins_then}
-use Rattle.ar_grammar.specs.Results.{kind_at, Spans, Eats, Begins, is_sign, goes_unread, ends_unread}
-use Rattle.ar_grammar.proofs.Finding.{inside, apart, fails, token_kind, then_kind, spans_map}
-use Rattle.ar_grammar.proofs.ExpressionForms.{sign_from, and_right}
+use Rattle.expression_grammar.specs.declared.lexeme.Lexeme.{Lexeme}
+use Rattle.expression_grammar.specs.Texts.{one_of}
+use Rattle.ar_grammar.specs.Texts.{is_unread, bracketed_tokens}
+use Rattle.expression_grammar.proofs.TextParts.{one_kind, one_as, token_as}
+use Rattle.expression_grammar.proofs.Standing.{Turns, turns_token, turns_then, turns_each, begins_token, begins_here, begins_no_more, begins_then}
+use Rattle.expression_grammar.specs.Results.{kind_at, Spans, Eats, Begins, is_sign}
+use Rattle.ar_grammar.specs.Results.{goes_unread, ends_unread}
+use Rattle.expression_grammar.proofs.Finding.{inside, apart, fails, token_kind, then_kind, spans_map}
+use Rattle.expression_grammar.proofs.ExpressionForms.{sign_from}
+use Rattle.ar_grammar.proofs.ExpressionForms.{and_right}
 use Rattle.ar_grammar.specs.Parts.{unread_tokens}
 use Rattle.std.specs.Prelude.{Option}
-use Rattle.ar_grammar.specs.Words.{nothing, covering, IsSpanOf}
+use Rattle.expression_grammar.specs.Words.{nothing, covering, IsSpanOf}
 use Rattle.ar_grammar.specs.Members.{kept_token, kept, kept_piece, ReadsAttribute}
 use Rattle.ar_grammar.specs.Texts.{is_kept, kept_tokens}
 use Rattle.ar_grammar.specs.Parts.{attribute_tokens, kept_piece_tokens}
 use Rattle.ar_grammar.specs.Results.{goes_kept, ends_kept, ends_attribute}
-use Rattle.ar_grammar.proofs.Finding.{spans_then}
-use Rattle.ar_grammar.proofs.ExpressionForms.{and_left}
-use Rattle.ar_grammar.proofs.TextParts.{first_of}
-use Rattle.ar_grammar.proofs.Standing.{begins_one, begins_map}
+use Rattle.expression_grammar.proofs.Finding.{spans_then}
+use Rattle.expression_grammar.proofs.ExpressionForms.{and_left}
+use Rattle.expression_grammar.proofs.TextParts.{first_of}
+use Rattle.expression_grammar.proofs.Standing.{begins_one, begins_map}
 use Rattle.ar_base.specs.declared.places.Span.{Span}
 
 -- a bracket that closes goes on with nothing

@@ -10,9 +10,9 @@ use Rattle.ar_syntax.specs.declared.expressions.RawExpr.{RawExpr}
 use Rattle.ar_syntax.specs.declared.expressions.RawForm.{RawForm}
 use Rattle.ar_syntax.specs.declared.instructions.Instr.{Instr}
 use Rattle.ar_syntax.specs.declared.instructions.Instr.TheVariants as instr
-use Rattle.ar_grammar.specs.Words.{Form, Tokens, token, ◌▸◌, not_before, each, between}
-use Rattle.ar_grammar.specs.Paths.{ReadsPath}
-use Rattle.ar_grammar.specs.Expressions.{Node, ReadsExpr}
+use Rattle.expression_grammar.specs.Words.{Form, Tokens, token, ◌▸◌, not_before, each, between}
+use Rattle.expression_grammar.specs.Paths.{ReadsPath}
+use Rattle.expression_grammar.specs.Expressions.{Node, ReadsExpr}
 
 -- [ "else" Instr ], where an `if` without `else` is not before the token `else`
 abbrev pub ReadsElse : (Instr → Form) → Option (Box Instr Global) → Form

@@ -9,8 +9,8 @@ use Rattle.ar_syntax.specs.declared.items.DomainBody.TheVariants as domain
 use Rattle.ar_syntax.specs.declared.items.DomainDecl.{DomainDecl}
 use Rattle.ar_syntax.specs.declared.items.Item.{Item}
 use Rattle.ar_syntax.specs.declared.items.Item.TheVariants as item
-use Rattle.ar_grammar.specs.Words.{Form, Tokens, token, nothing, never, ◌▸◌, ◌∣◌, each, between}
-use Rattle.ar_grammar.specs.Paths.{ReadsPlacedName, ReadsNames}
+use Rattle.expression_grammar.specs.Words.{Form, Tokens, token, nothing, never, ◌▸◌, ◌∣◌, each, between}
+use Rattle.expression_grammar.specs.Paths.{ReadsPlacedName, ReadsNames}
 use Rattle.ar_grammar.specs.Members.{ReadsBody, ReadsUnit}
 
 -- a whole number, which has no sign

@@ -1,10 +1,6 @@
-pub mod Words
-pub mod Paths
-pub mod Expressions
 pub mod Instructions
 pub mod Members
 pub mod Items
 pub mod Results
-pub mod Chains
 pub mod Texts
 pub mod Parts

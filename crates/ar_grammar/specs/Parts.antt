@@ -4,27 +4,9 @@ use Rattle.std.specs.Prelude.{ℕ}
 use Rattle.ar_lexer.specs.declared.token.TokenKind.TheVariants.{Name, Sign, Reserved}
 use Rattle.ar_lexer.specs.declared.signs.TheConstants.{OPEN_BRACE, CLOSE_BRACE, OPEN_BRACKET, CLOSE_BRACKET, COMMA, SEMICOLON, EQUALS, ARROW, AMPERSAND}
 use Rattle.ar_lexer.specs.declared.words.TheConstants.{AS, BOOLEAN, CLONES, EMBEDS, EXTENDS, OBSERVER, PARAMETER, REAL}
-use Rattle.ar_grammar.specs.declared.terms.Chain.{Chain}
-use Rattle.ar_grammar.specs.declared.terms.Chain.TheVariants as chain
-use Rattle.ar_grammar.specs.Words.{Form, token, deep, ◌▸◌, ◌∣◌, many, between}
-use Rattle.ar_grammar.specs.Texts.{one_of, list_of, maybe, path_tokens, plus_tokens, product_tokens, and_tokens, case_made_of, expr_tokens, not_tokens, minus_tokens, instr_tokens, is_type, is_unread, is_kept, bracketed_tokens, kept_tokens, declared_rest, valued_tokens, is_part, transition_tokens, section_tokens, unit_tokens, keyed_tokens, body_tokens, names_tokens, bound_tokens}
-use Rattle.ar_grammar.specs.Chains.{separator_of}
-
--- Expressions: what stands between the separators of a chain, the chain, a term behind the first, and a case
-
-abbrev pub operand_tokens : Chain → ℕ → Form
-operand_tokens chain.Any n = and_tokens (not_tokens deep n)
-operand_tokens chain.All n = not_tokens deep n
-operand_tokens chain.Product n = minus_tokens deep n
-
-abbrev pub chain_tokens : Chain → ℕ → Form
-chain_tokens c n = list_of (separator_of c) (operand_tokens c n)
-
-abbrev pub term_tokens : ℕ → Form
-term_tokens n = plus_tokens ▸ product_tokens (minus_tokens deep n)
-
-abbrev pub case_tokens : ℕ → Form
-case_tokens n = case_made_of (expr_tokens deep n)
+use Rattle.expression_grammar.specs.Words.{Form, token, deep, ◌▸◌, ◌∣◌, many, between}
+use Rattle.expression_grammar.specs.Texts.{one_of, list_of, maybe, path_tokens, expr_tokens, names_tokens}
+use Rattle.ar_grammar.specs.Texts.{instr_tokens, is_type, is_unread, is_kept, bracketed_tokens, kept_tokens, declared_rest, valued_tokens, is_part, transition_tokens, section_tokens, unit_tokens, keyed_tokens, body_tokens, bound_tokens}
 
 -- Unread and kept texts, piece by piece, and an event
 

@@ -1,54 +1,11 @@
-//! Which tokens begin an expression, an instruction, a member, a section, a body or an item.
+//! Which tokens begin an instruction, a member, a section, a body or an item.
 
 ghost use Rattle.std.specs.Prelude.{◌≡◌};
-ghost use Rattle.ar_grammar.specs.Results.{is_word, begins_minus, begins_not, begins_expr, begins_instr, begins_keyed, begins_member, begins_section, begins_later, begins_body, begins_item};
+ghost use Rattle.expression_grammar.specs.Results.{is_word};
+ghost use Rattle.ar_grammar.specs.Results.{begins_instr, begins_keyed, begins_member, begins_section, begins_later, begins_body, begins_item};
 
 use ar_lexer::{TokenKind, signs, words};
-
-/// Whether the token is this reserved word.
-fn is_word(word: u8, kind: TokenKind) -> bool
-    ensures { result ≡ is_word word kind }
-{
-    match kind {
-        TokenKind::Reserved(other) => other == word,
-        _ => false,
-    }
-}
-
-/// Whether the token begins an operand of a product: `-`, a constant, a path, a call, a choice or a bracket.
-pub(crate) fn begins_minus(kind: TokenKind) -> bool
-    ensures { result ≡ begins_minus kind }
-{
-    match kind {
-        TokenKind::Name | TokenKind::Whole(_) | TokenKind::Real => true,
-        TokenKind::Sign(sign) => sign == signs::MINUS || sign == signs::OPEN_PARENTHESIS,
-        TokenKind::Reserved(word) => {
-            word == words::OWNER
-                || word == words::MAIN
-                || word == words::TRUE
-                || word == words::FALSE
-                || word == words::MIN
-                || word == words::MAX
-                || word == words::COUNT
-                || word == words::SWITCH
-        }
-        TokenKind::End => false,
-    }
-}
-
-/// Whether the token begins an operand of `and`.
-pub(crate) fn begins_not(kind: TokenKind) -> bool
-    ensures { result ≡ begins_not kind }
-{
-    is_word(words::NOT, kind) || begins_minus(kind)
-}
-
-/// Whether the token begins an expression.
-pub(crate) fn begins_expr(kind: TokenKind) -> bool
-    ensures { result ≡ begins_expr kind }
-{
-    is_word(words::IF, kind) || begins_not(kind)
-}
+use expression_grammar::is_word;
 
 /// Whether the token begins an instruction.
 pub(crate) fn begins_instr(kind: TokenKind) -> bool

@@ -3,16 +3,10 @@
 
 mod begins;
 mod body;
-mod cursor;
-mod expressions;
 mod instructions;
-mod lexeme;
-mod lists;
+mod items;
 mod members;
-mod model;
-mod paths;
-mod terms;
+mod names;
 mod unread;
 
-pub use cursor::{Parser, place_of};
-pub use lexeme::{Lexeme, Refusal};
+pub use items::model;

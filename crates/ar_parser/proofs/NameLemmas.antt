@@ -21,11 +21,11 @@ use Rattle.ar_lexer.specs.Spelling.{AllPass, is_word_byte, IsWord, IsDigits, IsT
 use Rattle.ar_lexer.specs.Tokens.{IsToken, joined_pieces, AreCut, AreTokens, end_of_text, IsFirstFault}
 use Rattle.ar_lexer.proofs.RunLemmas.{letter_of_word}
 use Rattle.ar_lexer.proofs.Laws.{tokens_one, tokens_no_fault, fault_one}
-use Rattle.ar_grammar.specs.declared.lexeme.Lexeme.{Lexeme}
+use Rattle.expression_grammar.specs.declared.lexeme.Lexeme.{Lexeme}
 use Rattle.ar_parser.specs.declared.fault.ParseFault.{ParseFault}
 use Rattle.ar_parser.specs.declared.fault.ParseFault.TheVariants.{Lex, Memory}
 use Rattle.ar_base.specs.Numbers.{NameId}
-use Rattle.ar_grammar.specs.Words.{Tokens}
+use Rattle.expression_grammar.specs.Words.{Tokens}
 use Rattle.ar_parser.specs.Names.{IsSpelled, AreSpelled, lexeme_of}
 use Rattle.ar_parser.specs.Models.{token_of, text_of, IsNumbered, name, other, AreNamesNumbered, AreLexemes, HasFaultAt, IsPlaceOf}
 use Rattle.ar_parser.specs.Names.{fault_of}

@@ -8,9 +8,10 @@ use Rattle.ar_lexer.specs.declared.token.Token.{Token}
 use Rattle.ar_lexer.specs.declared.token.TokenKind.{TokenKind}
 use Rattle.ar_lexer.specs.Spelling.{signs, place_in, IsTextOfKind}
 use Rattle.ar_lexer.specs.Tokens.{AreCut, AreTokens, end_of_text}
-use Rattle.ar_grammar.specs.Words.{Tokens}
+use Rattle.expression_grammar.specs.Words.{Tokens}
 use Rattle.ar_parser.specs.Models.{token_of}
-use Rattle.ar_grammar.specs.Results.{Plain, AreUnsigned}
+use Rattle.expression_grammar.specs.Results.{Plain}
+use Rattle.ar_grammar.specs.Results.{AreUnsigned}
 use Rattle.ar_lexer.specs.declared.token.TokenKind.TheVariants.{Whole}
 use Rattle.std.proofs.lemmas.Int.{ints}
 

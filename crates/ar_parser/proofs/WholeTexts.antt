@@ -6,14 +6,15 @@ use Rattle.ar_syntax.specs.declared.items.Model.{Model}
 use Rattle.ar_syntax.specs.declared.items.Item.{Item}
 use Rattle.ar_parser.specs.declared.fault.ParseFault.{ParseFault}
 use Rattle.ar_parser.specs.declared.fault.ParseFault.TheVariants.{Lex, Syntax, Depth, Memory}
-use Rattle.ar_grammar.specs.declared.lexeme.Refusal.{Refusal}
-use Rattle.ar_grammar.specs.declared.lexeme.Refusal.TheVariants as refusal
-use Rattle.ar_grammar.specs.Words.{Tokens, ReadsSome, place_at}
+use Rattle.expression_grammar.specs.declared.lexeme.Refusal.{Refusal}
+use Rattle.expression_grammar.specs.declared.lexeme.Refusal.TheVariants as refusal
+use Rattle.expression_grammar.specs.Words.{Tokens, ReadsSome, place_at}
 use Rattle.ar_grammar.specs.Texts.{IsSyntaxAt, IsDepthAt}
 use Rattle.ar_parser.specs.Names.{told}
 use Rattle.ar_parser.specs.Models.{AreLexemes, HasFaultAt, ReadsWithin, EndsWithin, IsRefusedAt, SyntaxStandsAt, DepthStandsAt}
 use Rattle.ar_grammar.specs.Items.{ReadsItems}
-use Rattle.ar_grammar.specs.Results.{Gets, Plain, AreUnsigned, IsRefusedAs}
+use Rattle.expression_grammar.specs.Results.{Plain}
+use Rattle.ar_grammar.specs.Results.{Gets, AreUnsigned, IsRefusedAs}
 use Rattle.ar_parser.proofs.NameLemmas.{one_lexing, no_fault_there, one_fault_place}
 use Rattle.ar_parser.proofs.PlainTexts.{plain_tokens, unsigned_tokens}
 use Rattle.ar_grammar.proofs.Places.{IsRefusal, one_refusal, not_both, text_stands}

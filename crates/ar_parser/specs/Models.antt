@@ -11,8 +11,8 @@ use Rattle.ar_lexer.specs.declared.token.LexFault.{LexFault}
 use Rattle.ar_lexer.specs.declared.token.LexFault.TheVariants.{Byte, OpenComment, Number, Memory}
 use Rattle.ar_lexer.specs.Tokens.{AreTokens, IsFirstFault, end_of_text, place_after}
 use Rattle.ar_syntax.specs.declared.items.Model.{Model}
-use Rattle.ar_grammar.specs.declared.lexeme.Lexeme.{Lexeme}
-use Rattle.ar_grammar.specs.Words.{Tokens, place_at}
+use Rattle.expression_grammar.specs.declared.lexeme.Lexeme.{Lexeme}
+use Rattle.expression_grammar.specs.Words.{Tokens, place_at}
 use Rattle.ar_grammar.specs.Items.{ReadsItems}
 use Rattle.ar_grammar.specs.Texts.{IsSyntaxAt, IsDepthAt}
 use Rattle.ar_parser.specs.declared.fault.ParseFault.{ParseFault}

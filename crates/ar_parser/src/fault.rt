@@ -5,7 +5,7 @@ ghost use Rattle.ar_parser.specs.declared.fault.ParseFault.TheVariants.{Memory};
 ghost use Rattle.ar_parser.specs.Names.{told};
 
 use ar_base::Place;
-use ar_grammar::Refusal;
+use expression_grammar::Refusal;
 use std::alloc::{AllocError, AllocFailed};
 
 /// Why a text is no model.

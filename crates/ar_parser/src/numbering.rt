@@ -10,8 +10,8 @@ ghost use Rattle.ar_parser.specs.Names.{IsSpelled, AreSpelled, lexeme_of, fault_
 
 use crate::fault::ParseFault;
 use ar_base::{NameId, Names, Place};
-use ar_grammar::Lexeme;
 use ar_lexer::{LexFault, Token, TokenKind, tokens};
+use expression_grammar::Lexeme;
 use std::alloc::Global;
 use std::str::from_utf8_unchecked;
 

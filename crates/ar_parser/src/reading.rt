@@ -9,8 +9,9 @@ ghost use Rattle.ar_parser.specs.Models.{HasFaultAt, ReadsWithin, Reads, EndsWit
 use crate::fault::{ParseFault, refused_at};
 use crate::numbering::lexemes;
 use ar_base::{Count, Names};
-use ar_grammar::{Parser, place_of};
+use ar_grammar::model;
 use ar_syntax::Model;
+use expression_grammar::{Parser, place_of};
 use std::alloc::Global;
 
 /// Reads a model: the tree that the grammar gives for the text, which has at most 4,194,304 bytes.
@@ -48,7 +49,7 @@ pub fn parse(alloc: Global, text: &[u8]) -> Result<Model, ParseFault>
         rest: lexemes.as_slice(),
         end,
     };
-    let read = parser.model(Count::Nesting.limit());
+    let read = model(&mut parser, Count::Nesting.limit());
     let Parser {
         alloc: _,
         rest,

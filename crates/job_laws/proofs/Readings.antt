@@ -4,9 +4,9 @@ use Rattle.ar_base.specs.declared.places.Place.{Place}
 use Rattle.ar_base.specs.Counts.{limit_of}
 use Rattle.ar_base.specs.declared.counts.Count.TheVariants.{Nesting}
 use Rattle.ar_lexer.specs.declared.token.TokenKind.TheVariants.{End}
-use Rattle.ar_grammar.specs.Words.{Tokens, place_at}
+use Rattle.expression_grammar.specs.Words.{Tokens, place_at}
 use Rattle.ar_grammar.specs.Texts.{IsSyntaxAt, IsDepthAt, FitsNesting, Viable}
-use Rattle.ar_grammar.specs.Results.{Plain}
+use Rattle.expression_grammar.specs.Results.{Plain}
 use Rattle.ar_grammar.proofs.Filling.{viable_of}
 use Rattle.ar_grammar.proofs.ItemParts.{turns_items}
 use Rattle.ar_grammar.proofs.Places.{IsRefusal, one_refusal, not_both, text_stands}

@@ -22,7 +22,7 @@ use Rattle.ar_lexer.proofs.RunLemmas.{letter_of_word}
 use Rattle.ar_meaning.specs.Facts.{AreKeyed}
 use Rattle.ar_meaning.specs.Systems.{Event, Net}
 use Rattle.ar_parser.specs.Models.{token_of, text_of, IsNumbered, name, other, AreNamesNumbered, Reads}
-use Rattle.ar_grammar.specs.Words.{Tokens}
+use Rattle.expression_grammar.specs.Words.{Tokens}
 use Rattle.parser_laws.specs.Keeps.{TreesKeep, ItemKeeps, DomainKeeps, IsNameIn}
 use Rattle.ar_syntax.specs.declared.items.DomainBody.{DomainBody}
 use Rattle.ar_syntax.specs.declared.items.DomainBody.TheVariants as body

@@ -14,7 +14,7 @@ ghost use Rattle.hierarchy.specs.Models.{RootedModel};
 ghost use Rattle.hierarchy.specs.Listing.{Unfolded};
 ghost use Rattle.instantiate.specs.Unfolding.{Instantiates};
 ghost use Rattle.ar_grammar.specs.Texts.{FitsNesting, Viable};
-ghost use Rattle.ar_grammar.specs.Words.{Tokens};
+ghost use Rattle.expression_grammar.specs.Words.{Tokens};
 ghost use Rattle.ar_io.specs.Outside.{Told};
 ghost use Rattle.ar_parser.specs.Models.{AreLexemes, Reads};
 ghost use Rattle.parser_laws.specs.Models.{SameModel};

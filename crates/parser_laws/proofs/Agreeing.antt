@@ -6,10 +6,10 @@ use Rattle.ar_base.specs.declared.places.Place.{Place}
 use Rattle.ar_base.proofs.Truths.{not_true}
 use Rattle.ar_lexer.specs.declared.token.TokenKind.{TokenKind}
 use Rattle.ar_lexer.proofs.NumberLemmas.{cons_head}
-use Rattle.ar_grammar.specs.declared.lexeme.Lexeme.{Lexeme}
-use Rattle.ar_grammar.specs.Words.{Form, Tokens, kind_or, token, ◌▸◌, nothing, each, separated_by, groups, concat, standing, StandsAt}
-use Rattle.ar_grammar.specs.Results.{kind_at, anything}
-use Rattle.ar_grammar.proofs.Finding.{kind_before, kind_join, token_kind}
+use Rattle.expression_grammar.specs.declared.lexeme.Lexeme.{Lexeme}
+use Rattle.expression_grammar.specs.Words.{Form, Tokens, kind_or, token, ◌▸◌, nothing, each, separated_by, groups, concat, standing, StandsAt}
+use Rattle.expression_grammar.specs.Results.{kind_at, anything}
+use Rattle.expression_grammar.proofs.Finding.{kind_before, kind_join, token_kind}
 
 -- Both texts have these forms and end where they may: then R holds, and they have the same tokens.
 pub record Agree (ends : TokenKind → Bool) (A B : Form) (R : Type 0) : Type 0 where

@@ -7,14 +7,15 @@ use Rattle.ar_lexer.specs.declared.words.TheConstants.{BLOCK, BOOLEAN, CLONES, E
 use Rattle.ar_syntax.specs.declared.expressions.RawForm.{RawForm}
 use Rattle.ar_syntax.specs.declared.instructions.Instr.{Instr}
 use Rattle.ar_syntax.specs.declared.members.Member.{Member}
-use Rattle.ar_grammar.specs.Words.{Form, Tokens, kind_or, ReadsSome}
-use Rattle.ar_grammar.specs.Expressions.{ReadsExpr}
+use Rattle.expression_grammar.specs.Words.{Form, Tokens, kind_or, ReadsSome}
+use Rattle.expression_grammar.specs.Expressions.{ReadsExpr}
 use Rattle.ar_grammar.specs.Instructions.{ReadsSimpleOf, assign, tie, skip, simple, group, conditional, ReadsInstr}
 use Rattle.ar_grammar.specs.Members.{plain_token, unread_piece, ReadsSingle, extends, boolean, clones, embeds, kept_value, parameter, observer, ReadsSection, ReadsKeyed, single, block, event, hide, ReadsMember, keyed, named, ReadsLater}
 use Rattle.std.specs.Prelude.{◌==◌}
 use Rattle.std.proofs.lemmas.Bool.{eqb-true, or_right, or_left}
-use Rattle.ar_grammar.specs.Results.{goes_unread, is_name, begins_instr, begins_keyed, begins_member, begins_section, begins_later}
-use Rattle.ar_grammar.proofs.Finding.{then_kind}
+use Rattle.expression_grammar.specs.Results.{is_name}
+use Rattle.ar_grammar.specs.Results.{goes_unread, begins_instr, begins_keyed, begins_member, begins_section, begins_later}
+use Rattle.expression_grammar.proofs.Finding.{then_kind}
 use Rattle.ar_grammar.proofs.ExpressionForms.{then_first, path_first}
 use Rattle.ar_grammar.proofs.InstrParts.{between_kind}
 use Rattle.ar_grammar.proofs.BodyParts.{boolean_kind, named_kind}

@@ -12,13 +12,13 @@ use Rattle.ar_lexer.specs.declared.words.TheConstants.{AND, CASE, OR}
 use Rattle.ar_syntax.specs.declared.paths.Path.{Path}
 use Rattle.ar_syntax.specs.declared.expressions.RawExpr.{RawExpr}
 use Rattle.ar_syntax.specs.declared.expressions.RawForm.{RawForm}
-use Rattle.ar_grammar.specs.declared.lexeme.Lexeme.{Lexeme}
+use Rattle.expression_grammar.specs.declared.lexeme.Lexeme.{Lexeme}
 use Rattle.ar_base.specs.Numbers.{NameId}
-use Rattle.ar_grammar.specs.Words.{Form, Tokens, kind_or, token, ◌▸◌, between, each, separated_by, standing, StandsAt}
-use Rattle.ar_grammar.specs.Paths.{ReadsName, ReadsPlacedName, ReadsNames, ReadsStart, ReadsPath}
-use Rattle.ar_grammar.specs.Expressions as tree
-use Rattle.ar_grammar.specs.Expressions.{Node, OneOrMore, ReadsProduct, ReadsTerm, ReadsTerms, ReadsSum, ReadsCompare, ReadsNegation, ReadsAnd, ReadsOr, ReadsIf, ReadsChoice, ReadsCase, ReadsSwitch, ReadsOperands, ReadsPrimary, ReadsMinusOf, ReadsExpr, ReadsNot, ReadsMinus}
-use Rattle.ar_grammar.proofs.ExpressionForms.{then_some, token_some}
+use Rattle.expression_grammar.specs.Words.{Form, Tokens, kind_or, token, ◌▸◌, between, each, separated_by, standing, StandsAt}
+use Rattle.expression_grammar.specs.Paths.{ReadsName, ReadsPlacedName, ReadsNames, ReadsStart, ReadsPath}
+use Rattle.expression_grammar.specs.Expressions as tree
+use Rattle.expression_grammar.specs.Expressions.{Node, OneOrMore, ReadsProduct, ReadsTerm, ReadsTerms, ReadsSum, ReadsCompare, ReadsNegation, ReadsAnd, ReadsOr, ReadsIf, ReadsChoice, ReadsCase, ReadsSwitch, ReadsOperands, ReadsPrimary, ReadsMinusOf, ReadsExpr, ReadsNot, ReadsMinus}
+use Rattle.expression_grammar.proofs.ExpressionForms.{then_some, token_some}
 use Rattle.ar_grammar.proofs.MemberParts.{name_some}
 use Rattle.parser_laws.specs.Expressions.{Listed, all, any, product, least, greatest, count, form_of}
 use Rattle.parser_laws.specs.Keeps as keeps
@@ -39,7 +39,7 @@ use Rattle.ar_syntax.specs.declared.items.DomainBody.{DomainBody}
 use Rattle.ar_syntax.specs.declared.items.DomainBody.TheVariants as domain
 use Rattle.ar_syntax.specs.declared.items.Item.{Item}
 use Rattle.ar_syntax.specs.declared.items.Item.TheVariants as item
-use Rattle.ar_grammar.specs.Words.{groups, concat}
+use Rattle.expression_grammar.specs.Words.{groups, concat}
 use Rattle.ar_grammar.specs.Instructions as step
 use Rattle.ar_grammar.specs.Instructions.{ReadsElse, ReadsSimpleOf, ReadsInstr}
 use Rattle.ar_grammar.specs.Members as grammar

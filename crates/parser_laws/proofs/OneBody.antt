@@ -19,14 +19,15 @@ use Rattle.ar_syntax.specs.declared.members.TypeName.{TypeName}
 use Rattle.ar_syntax.specs.declared.members.Unit.{Unit as UnitTree}
 use Rattle.ar_base.specs.Numbers.{NameId}
 use Rattle.ar_base.proofs.Truths.{not_true}
-use Rattle.ar_grammar.specs.Words.{Form, Tokens, kind_or, token, ◌▸◌, between, groups, covering}
-use Rattle.ar_grammar.specs.Paths.{ReadsPlacedName, ReadsPath}
-use Rattle.ar_grammar.specs.Expressions.{Node, ReadsExpr}
+use Rattle.expression_grammar.specs.Words.{Form, Tokens, kind_or, token, ◌▸◌, between, groups, covering}
+use Rattle.expression_grammar.specs.Paths.{ReadsPlacedName, ReadsPath}
+use Rattle.expression_grammar.specs.Expressions.{Node, ReadsExpr}
 use Rattle.ar_grammar.specs.Members.{ReadsTypeForm, ReadsType, ReadsEvent, ReadsDeclared, ReadsTransition, ReadsAssertion, ReadsSection, ReadsHidden, ReadsUnit, ReadsSingle, extends, boolean, clones, embeds, kept_value, parameter, observer, ReadsKeyed, single, block, event, hide, ReadsMember, keyed, named, ReadsLater, ReadsSections, some, ReadsBodyOf, ReadsBody, kept}
 use Rattle.ar_grammar.specs.Members as grammar
-use Rattle.ar_grammar.specs.Results.{kind_at, anything, is_word, ends_path, ends_attribute, ends_semicolon, ends_body, ends_members, ends_section, begins_instr, begins_keyed, begins_section, begins_later}
-use Rattle.ar_grammar.proofs.Finding.{fails, token_kind, then_kind, kind_join}
-use Rattle.ar_grammar.proofs.ExpressionForms.{sign_from, word_from}
+use Rattle.expression_grammar.specs.Results.{kind_at, anything, is_word, ends_path}
+use Rattle.ar_grammar.specs.Results.{ends_attribute, ends_semicolon, ends_body, ends_members, ends_section, begins_instr, begins_keyed, begins_section, begins_later}
+use Rattle.expression_grammar.proofs.Finding.{fails, token_kind, then_kind, kind_join}
+use Rattle.expression_grammar.proofs.ExpressionForms.{sign_from, word_from}
 use Rattle.ar_grammar.proofs.BodyParts.{section_ends_assertions, member_open, later_open}
 use Rattle.parser_laws.proofs.Firsts.{instr_first, section_first, keyed_first, member_first, later_first}
 use Rattle.parser_laws.specs.Expressions.{SamePath, SameExpr}

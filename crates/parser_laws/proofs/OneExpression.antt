@@ -15,12 +15,13 @@ use Rattle.ar_syntax.specs.declared.expressions.RawForm.{RawForm}
 use Rattle.ar_syntax.specs.declared.expressions.RawForm.TheVariants as form
 use Rattle.ar_syntax.specs.declared.expressions.RawRelation.{RawRelation}
 use Rattle.ar_syntax.specs.declared.expressions.RawRelation.TheVariants as relation
-use Rattle.ar_grammar.specs.Words.{Form, Tokens, kind_or, token, ◌▸◌, separated_by, between, StandsAt, IsSpanOf}
-use Rattle.ar_grammar.specs.Expressions.{Node, OneOrMore, one, more, ReadsProduct, ReadsTerm, ReadsTerms, ReadsSum, ReadsCompare, two, sign_of, ReadsNegation, negated, plain, ReadsAnd, ReadsOr, ReadsChoice, choice, ReadsCase, ReadsSwitch, ReadsOperands, ReadsPrimary, truth, falsehood, whole, real, path, brackets, least, greatest, count, switch, ReadsMinusOf, ReadsExpr, ReadsNot, ReadsMinus}
-use Rattle.ar_grammar.specs.Results.{kind_at, anything, is_sign, is_word, begins_minus, begins_not, begins_primary, ends_path, ends_product, ends_sum, ends_not, ends_and, ends_expr, ends_list, ends_cases}
-use Rattle.ar_grammar.proofs.Finding.{fails, kind_before, token_kind, then_kind}
-use Rattle.ar_grammar.proofs.ExpressionForms.{then_map, and_left, path_first, primary_first, compare_first, or_first, sign_from, word_from}
-use Rattle.ar_grammar.proofs.ExpressionParts.{relation_ends}
+use Rattle.expression_grammar.specs.Words.{Form, Tokens, kind_or, token, ◌▸◌, separated_by, between, StandsAt, IsSpanOf}
+use Rattle.expression_grammar.specs.Expressions.{Node, OneOrMore, one, more, ReadsProduct, ReadsTerm, ReadsTerms, ReadsSum, ReadsCompare, two, sign_of, ReadsNegation, negated, plain, ReadsAnd, ReadsOr, ReadsChoice, choice, ReadsCase, ReadsSwitch, ReadsOperands, ReadsPrimary, truth, falsehood, whole, real, path, brackets, least, greatest, count, switch, ReadsMinusOf, ReadsExpr, ReadsNot, ReadsMinus}
+use Rattle.expression_grammar.specs.Results.{kind_at, anything, is_sign, is_word, begins_minus, begins_not, begins_primary, ends_path, ends_product, ends_sum, ends_not, ends_and, ends_expr, ends_list, ends_cases}
+use Rattle.expression_grammar.proofs.Finding.{fails, kind_before, token_kind, then_kind}
+use Rattle.expression_grammar.proofs.ExpressionForms.{then_map, and_left, sign_from, word_from}
+use Rattle.ar_grammar.proofs.ExpressionForms.{path_first, primary_first, compare_first, or_first}
+use Rattle.expression_grammar.proofs.ExpressionParts.{relation_ends}
 use Rattle.parser_laws.specs.Expressions.{SamePath, Listed, form_of, SameParts, SameToDepth}
 use Rattle.parser_laws.specs.Expressions as same
 use Rattle.parser_laws.proofs.Agreeing.{Agree, First, agree_all, other, first_token, first_front, first_nothing, first_each, agree_map, agree_turned, agree_ended, agree_told, agree_apart, agree_token, agree_then, agree_next, agree_closed, with_nothing, agree_each, agree_separated}

@@ -9,13 +9,14 @@ use Rattle.ar_lexer.specs.declared.words.TheConstants.{IF, MAIN, OWNER, SKIP}
 use Rattle.ar_syntax.specs.declared.paths.Path.{Path}
 use Rattle.ar_syntax.specs.declared.expressions.RawExpr.{RawExpr}
 use Rattle.ar_syntax.specs.declared.instructions.Instr.{Instr}
-use Rattle.ar_grammar.specs.Words.{Form, Tokens, kind_or, token, ◌▸◌, between}
-use Rattle.ar_grammar.specs.Paths.{ReadsPath}
-use Rattle.ar_grammar.specs.Expressions.{Node, ReadsExpr}
+use Rattle.expression_grammar.specs.Words.{Form, Tokens, kind_or, token, ◌▸◌, between}
+use Rattle.expression_grammar.specs.Paths.{ReadsPath}
+use Rattle.expression_grammar.specs.Expressions.{Node, ReadsExpr}
 use Rattle.ar_grammar.specs.Instructions.{ReadsElse, ReadsIfOf, ReadsGroupOf, ReadsSimpleOf, assign, tie, skip, ReadsInstrOf, simple, group, conditional, ReadsInstr}
-use Rattle.ar_grammar.specs.Results.{kind_at, anything, is_sign, is_word, ends_group, begins_instr}
-use Rattle.ar_grammar.proofs.Finding.{fails, then_kind}
-use Rattle.ar_grammar.proofs.ExpressionForms.{sign_from, word_from}
+use Rattle.expression_grammar.specs.Results.{kind_at, anything, is_sign, is_word}
+use Rattle.ar_grammar.specs.Results.{ends_group, begins_instr}
+use Rattle.expression_grammar.proofs.Finding.{fails, then_kind}
+use Rattle.expression_grammar.proofs.ExpressionForms.{sign_from, word_from}
 use Rattle.parser_laws.proofs.Firsts.{instr_first}
 use Rattle.parser_laws.specs.Expressions.{SamePath, SameExpr, SameOption, SameSteps, SameStepsToDepth, SameInstr}
 use Rattle.parser_laws.specs.Expressions as same

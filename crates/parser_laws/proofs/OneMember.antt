@@ -22,14 +22,16 @@ use Rattle.ar_syntax.specs.declared.members.TypeName.{TypeName}
 use Rattle.ar_syntax.specs.declared.members.Word.{Word}
 use Rattle.ar_syntax.specs.declared.members.Word.TheVariants as word
 use Rattle.ar_base.specs.Numbers.{NameId}
-use Rattle.ar_grammar.specs.Words.{Form, Tokens, token, ◌▸◌, separated_by, between}
-use Rattle.ar_grammar.specs.Paths.{ReadsPlacedName}
-use Rattle.ar_grammar.specs.Expressions.{Node, ReadsExpr}
+use Rattle.expression_grammar.specs.Words.{Form, Tokens, token, ◌▸◌, separated_by, between}
+use Rattle.expression_grammar.specs.Paths.{ReadsPlacedName}
+use Rattle.expression_grammar.specs.Expressions.{Node, ReadsExpr}
 use Rattle.ar_grammar.specs.Instructions.{ReadsInstr}
 use Rattle.ar_grammar.specs.Members.{ReadsTypeForm, ReadsType, ReadsWord, ReadsSetting, ReadsSettings, ReadsEvent, ReadsDeclared, ReadsPart, ReadsTransition, sync, local, ReadsAssertion, ReadsHidden}
-use Rattle.ar_grammar.specs.Results.{kind_at, anything, is_sign, is_word, is_name, ends_path, ends_names, ends_expr, ends_list, ends_attribute, ends_semicolon, begins_expr, begins_part}
-use Rattle.ar_grammar.proofs.Finding.{fails}
-use Rattle.ar_grammar.proofs.ExpressionForms.{then_map, then_assoc, expr_first, sign_from, word_from}
+use Rattle.expression_grammar.specs.Results.{kind_at, anything, is_sign, is_word, is_name, ends_path, ends_expr, ends_list, begins_expr}
+use Rattle.ar_grammar.specs.Results.{ends_names, ends_attribute, ends_semicolon, begins_part}
+use Rattle.expression_grammar.proofs.Finding.{fails}
+use Rattle.expression_grammar.proofs.ExpressionForms.{then_map, then_assoc, sign_from, word_from}
+use Rattle.ar_grammar.proofs.ExpressionForms.{expr_first}
 use Rattle.ar_grammar.proofs.MemberParts.{list_end, semicolon_path}
 use Rattle.parser_laws.specs.Expressions.{SameExpr, SameInstr}
 use Rattle.parser_laws.specs.Members.{SameSetting, SamePart, SameMemberBy, SameMemberToDepth, SameMember}

@@ -16,12 +16,13 @@ use Rattle.ar_syntax.specs.declared.items.Item.{Item}
 use Rattle.ar_syntax.specs.declared.items.Item.TheVariants as item
 use Rattle.ar_base.specs.Numbers.{NameId}
 use Rattle.ar_base.proofs.Truths.{not_true}
-use Rattle.ar_grammar.specs.Words.{Form, Tokens, kind_or, token, nothing, ◌▸◌, ◌∣◌}
+use Rattle.expression_grammar.specs.Words.{Form, Tokens, kind_or, token, nothing, ◌▸◌, ◌∣◌}
 use Rattle.ar_parser.specs.Models.{text_of, IsNumbered, name, other, AreNamesNumbered}
 use Rattle.ar_grammar.specs.Items.{ReadsWhole, ReadsBound, whole, negated, ReadsDomainBody, ReadsDomain, ReadsItem, ReadsItems}
-use Rattle.ar_grammar.specs.Results.{kind_at, anything, is_sign, is_word, ends_item, is_end}
-use Rattle.ar_grammar.proofs.Finding.{fails, token_kind, then_kind}
-use Rattle.ar_grammar.proofs.ExpressionForms.{sign_from, word_from}
+use Rattle.expression_grammar.specs.Results.{kind_at, anything, is_sign, is_word}
+use Rattle.ar_grammar.specs.Results.{ends_item, is_end}
+use Rattle.expression_grammar.proofs.Finding.{fails, token_kind, then_kind}
+use Rattle.expression_grammar.proofs.ExpressionForms.{sign_from, word_from}
 use Rattle.ar_parser.proofs.NameLemmas.{one_lexing, one_interned}
 use Rattle.parser_laws.specs.Models.{SameDomain, SameDeclared, SameItem, SameModel, HasOneTree}
 use Rattle.parser_laws.specs.Models as same

@@ -9,13 +9,15 @@ use Rattle.ar_lexer.proofs.NumberLemmas.{cons_head}
 use Rattle.ar_syntax.specs.declared.paths.Path.{Path}
 use Rattle.ar_syntax.specs.declared.paths.PathStart.{PathStart}
 use Rattle.ar_syntax.specs.declared.paths.PathStart.TheVariants.{Here, Owner, Main}
-use Rattle.ar_grammar.specs.declared.lexeme.Lexeme.{Lexeme}
+use Rattle.expression_grammar.specs.declared.lexeme.Lexeme.{Lexeme}
 use Rattle.ar_base.specs.Numbers.{NameId}
-use Rattle.ar_grammar.specs.Words.{Form, Tokens, kind_or, separated_by}
-use Rattle.ar_grammar.specs.Paths.{ReadsName, ReadsPlacedName, ReadsNames, ReadsStart, ReadsPath}
-use Rattle.ar_grammar.specs.Results.{anything, is_name, is_word, ends_path, ends_names}
-use Rattle.ar_grammar.proofs.Finding.{fails}
-use Rattle.ar_grammar.proofs.ExpressionForms.{path_first, word_from}
+use Rattle.expression_grammar.specs.Words.{Form, Tokens, kind_or, separated_by}
+use Rattle.expression_grammar.specs.Paths.{ReadsName, ReadsPlacedName, ReadsNames, ReadsStart, ReadsPath}
+use Rattle.expression_grammar.specs.Results.{anything, is_name, is_word, ends_path}
+use Rattle.ar_grammar.specs.Results.{ends_names}
+use Rattle.expression_grammar.proofs.Finding.{fails}
+use Rattle.expression_grammar.proofs.ExpressionForms.{word_from}
+use Rattle.ar_grammar.proofs.ExpressionForms.{path_first}
 use Rattle.parser_laws.specs.Expressions.{SamePath}
 use Rattle.parser_laws.proofs.Agreeing.{Agree, First, first_token, first_front, first_nothing, agree_map, agree_apart, agree_token, agree_nothing, agree_then, agree_next, agree_standing, agree_separated, along_equal}
 

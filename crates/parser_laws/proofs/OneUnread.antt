@@ -8,11 +8,12 @@ use Rattle.ar_lexer.specs.declared.token.TokenKind.{TokenKind}
 use Rattle.ar_lexer.specs.declared.token.TokenKind.TheVariants.{Name, Whole, Real, Sign, Reserved, End}
 use Rattle.ar_lexer.specs.declared.signs.TheConstants.{OPEN_PARENTHESIS, SEMICOLON}
 use Rattle.ar_lexer.proofs.NumberLemmas.{cons_head}
-use Rattle.ar_grammar.specs.declared.lexeme.Lexeme.{Lexeme}
-use Rattle.ar_grammar.specs.Words.{Form, Tokens, kind_or, token, ◌▸◌, many, covering, IsSpanOf}
+use Rattle.expression_grammar.specs.declared.lexeme.Lexeme.{Lexeme}
+use Rattle.expression_grammar.specs.Words.{Form, Tokens, kind_or, token, ◌▸◌, many, covering, IsSpanOf}
 use Rattle.ar_grammar.specs.Members.{plain_token, unread, unread_piece, ReadsAttribute, kept, kept_piece}
-use Rattle.ar_grammar.specs.Results.{kind_at, anything, is_sign, ends_unread, ends_kept, ends_attribute}
-use Rattle.ar_grammar.proofs.Finding.{then_kind}
+use Rattle.expression_grammar.specs.Results.{kind_at, anything, is_sign}
+use Rattle.ar_grammar.specs.Results.{ends_unread, ends_kept, ends_attribute}
+use Rattle.expression_grammar.proofs.Finding.{then_kind}
 use Rattle.ar_grammar.proofs.UnreadParts.{unread_open}
 use Rattle.parser_laws.proofs.Firsts.{unread_first}
 use Rattle.parser_laws.proofs.Agreeing.{Agree, First, other, first_token, first_front, first_nothing, meet, agree_map, agree_apart, agree_nothing, agree_next, agree_each}

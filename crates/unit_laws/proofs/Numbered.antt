@@ -3,7 +3,7 @@ use Rattle.std.proofs.Common.{ℕ, List, [], ◌∷◌, sym, subst}
 use Rattle.ar_base.specs.Lists.{AreDifferent}
 use Rattle.ar_base.specs.Texts.{Interns, known, added}
 use Rattle.ar_base.proofs.Standing.{stands_none, different_more}
-use Rattle.ar_grammar.specs.Words.{Tokens}
+use Rattle.expression_grammar.specs.Words.{Tokens}
 use Rattle.ar_parser.specs.Models.{IsNumbered, name, other, AreNamesNumbered, ReadsWithin}
 use Rattle.ar_syntax.specs.declared.items.Model.{Model}
 

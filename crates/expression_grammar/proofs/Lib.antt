@@ -1,0 +1,11 @@
+pub mod Ends
+pub mod Finding
+pub mod Standing
+pub mod PathForms
+pub mod ExpressionForms
+pub mod ExpressionParts
+pub mod PrimaryParts
+pub mod TextParts
+pub mod Turning
+pub mod Beginnings
+pub mod Measures

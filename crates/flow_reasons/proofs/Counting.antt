@@ -2,9 +2,9 @@
 use Rattle.std.proofs.Common.{◌≡◌, ◌<◌, ◌≤◌, ℕ, zero, suc, Bool, true, false, List, [], ◌∷◌, length, if◌then◌else◌, refl, sym, ap, subst, arith}
 use Rattle.ar_base.specs.Lists.{Stands}
 use Rattle.ar_base.proofs.Standing.{stands_none}
-use Rattle.flow_reasons.specs.declared.known.Mark.{Mark}
-use Rattle.flow_reasons.specs.Marks.{is_fact, unknown_count}
-use Rattle.flow_reasons.specs.Bringing.{IsOpen}
+use Rattle.fact_marks.specs.declared.Mark.{Mark}
+use Rattle.fact_marks.specs.Marks.{is_fact, IsOpen}
+use Rattle.flow_reasons.specs.Marks.{unknown_count}
 
 abbrev one : Mark → ℕ
 one m = if is_fact m then 0 else 1

@@ -5,21 +5,14 @@ use Rattle.ar_base.specs.declared.faults.Memory.{Memory}
 use Rattle.ar_base.specs.Lists.{Stands, IsOneOf}
 use Rattle.ar_base.specs.Numbers.{VarId}
 use Rattle.ar_base.specs.Sets.{Ascends}
-use Rattle.ar_base.proofs.Standing.{at_most, stands_one, stands_get, one_none}
+use Rattle.ar_base.proofs.Standing.{at_most, stands_one, one_none}
 use Rattle.ar_base.proofs.Sets.{ascends_push}
 use Rattle.domains.specs.declared.Value.{Value}
 use Rattle.gts_core.specs.declared.system.Assign.{Assign}
 use Rattle.gts_core.specs.declared.system.GtsParts.{GtsParts}
-use Rattle.flow_reasons.specs.declared.known.Mark.{Mark}
+use Rattle.fact_marks.specs.declared.Mark.{Mark}
 use Rattle.flow_reasons.specs.Bringing.{Brings, BringsAt, AreBringing, BringAll}
-use Rattle.flow_reasons.proofs.Placing.{take_stands, pushed_cases, pushed_old, pushed_last, ascends_none}
-
--- an item among the first ones of an ascending list is less than the next
-pub before_next : (xs : List ℕ) (i : ℕ) → Ascends xs → i < length xs → (n : ℕ) → IsOneOf (take i xs) n
-    → n < get_or xs i 0
-before_next xs i h l n o =
-    let s = take_stands i xs o.place n o.stands in
-    h.ascends o.place i n (get_or xs i 0) s.0 s.1 (stands_get xs i 0 l)
+use Rattle.fact_marks.proofs.Placing.{pushed_cases, pushed_old, pushed_last, ascends_none, before_next}
 
 module _ (p : GtsParts) (values : List Value) (marks : List Mark) where
   pub bring_none : (xs : List ℕ) → AreBringing p values marks (take 0 xs) []

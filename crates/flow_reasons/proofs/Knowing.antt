@@ -3,7 +3,7 @@ use Rattle.std.proofs.Common.{◌≡◌, ◌<◌, ◌≤◌, ◌+◌, inl, inr, 
 use Rattle.std.proofs.lemmas.List.{at_drop_more, at_drop_all}
 use Rattle.ar_base.specs.Lists.{Stands}
 use Rattle.ar_base.specs.Numbers.{VarId}
-use Rattle.ar_base.proofs.Standing.{stands_some, stands_one}
+use Rattle.ar_base.proofs.Standing.{stands_one}
 use Rattle.domains.proofs.Members.{contains-head, contains-cases, nothing-in}
 use Rattle.domains.specs.declared.Value.{Value}
 use Rattle.domains.specs.declared.Value.TheVariants.{Truth}
@@ -17,9 +17,10 @@ use Rattle.gts_core.specs.View.{numbered, condition_of, assign_of}
 use Rattle.gts_core.specs.declared.system.Assign.{Assign}
 use Rattle.gts_core.proofs.Numbering.{yields_numbered, yields_back}
 use Rattle.gts_core.proofs.Tests.{turned_answer}
-use Rattle.flow_reasons.specs.declared.known.Mark.{Mark}
-use Rattle.flow_reasons.specs.Marks.{is_fact, is_fact_found, known_at, Known}
-use Rattle.flow_reasons.specs.Bringing.{IsOpen, Brings}
+use Rattle.fact_marks.specs.declared.Mark.{Mark}
+use Rattle.fact_marks.specs.Marks.{is_fact, is_fact_found, IsOpen}
+use Rattle.flow_reasons.specs.Marks.{known_at, Known}
+use Rattle.flow_reasons.specs.Bringing.{Brings}
 
 -- what is read is known
 pub known_there : (values : List Value) (marks : List Mark) (n : ℕ) (v : Value) → Contains (known_at values marks n) v
@@ -113,15 +114,6 @@ module _ (values : List Value) (marks : List Mark) where
       let e : drop i cs ≡ [] = at_drop_all (λ (xs : List (Expr VarId × Bool)). xs) cs i h in
       r.on (subst (λ (xs : List (Expr VarId × Bool)). PassesConditions (Known values marks) (map condition_of xs))
       (sym e) none)
-
-  -- the mark that was tested
-  pub open_from : (n : ℕ) → n < length marks → is_fact_found (slice_get marks n) ≡ false → IsOpen marks n
-  open_from n l e =
-      let m = stands_some marks n l in
-      record { mark = m.0; stands = m.1; is = sym (ap is_fact_found m.1) ∙ e }
-
-  pub not_open : (n : ℕ) → is_fact_found (slice_get marks n) ≡ true → IsOpen marks n → ⊥
-  not_open n e o = let i : is_fact o.mark ≡ true = sym (ap is_fact_found o.stands) ∙ e in absurd (cc (i, o.is))
 
   -- the answer for an assignment that is reached
   pub brings_answer : (a : Assign) (set : List Value) (v : Value) (b : Bool) → IsOpen marks a.target.n

@@ -4,8 +4,6 @@ mod Followed
 mod Gathering
 pub mod ImageRounds
 mod Knowing
-mod Marking
-mod Placing
 mod Readers
 mod ReasonList
 mod RestRows

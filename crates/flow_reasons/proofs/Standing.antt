@@ -1,7 +1,7 @@
 -- A valuation that determines itself: its facts are its values.
-use Rattle.std.proofs.Common.{◌≡◌, ◌<◌, ℕ, false, List, length, refl, sym, ◌∙◌, subst, arith}
+use Rattle.std.proofs.Common.{◌≡◌, ℕ, false, List, refl, sym, ◌∙◌, subst, arith}
 use Rattle.ar_base.specs.Lists.{Stands, HasNo}
-use Rattle.ar_base.proofs.Standing.{stands_within, stands_some, stands_one, one_here}
+use Rattle.ar_base.proofs.Standing.{stands_within, stands_some, stands_one}
 use Rattle.domains.specs.declared.Value.{Value}
 use Rattle.domains.proofs.Domains.{listed}
 use Rattle.ar_meaning.specs.Systems as s
@@ -12,19 +12,11 @@ use Rattle.ar_meaning.proofs.Completing.{as_state, as_known, as_reset, stays_at}
 use Rattle.flow_reasons.proofs.RoundStanding.{no_two, one_fact}
 use Rattle.gts_core.specs.Sound.{IsSound}
 use Rattle.gts_core.specs.View.{net_of, variable_of}
-use Rattle.gts_core.specs.declared.system.Assign.{Assign}
 use Rattle.gts_core.specs.declared.system.Variable.{Variable}
 use Rattle.gts_core.specs.declared.system.GtsParts.{GtsParts}
 use Rattle.gts_core.proofs.Viewing.{variable_there, are_numbered}
 use Rattle.gts_core.proofs.Lawfulness.{system_lawful}
 use Rattle.flow_reasons.specs.Marks.{IsStanding}
-
--- the target of an assertion is a variable of the system
-pub target_below : (p : GtsParts) → IsSound p → (n : ℕ) (a : Assign) → Stands p.assigns.items n a
-    → a.target.n < length p.variables.items
-target_below p sound n a st =
-    let t = sound.assertions a (one_here p.assigns.items n a st) in
-    stands_within p.variables.items a.target.n t.variable t.stands
 
 pub completes_itself : {V : Type 0} {net : s.Net V} {t u : List Value} → Flows net t (Total u)
     → Completes (FactOf net t) net.variables t u

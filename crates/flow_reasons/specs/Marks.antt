@@ -1,5 +1,5 @@
 -- What is known of the facts of a standing valuation after some rounds: a mark for each variable.
-use Rattle.std.specs.Prelude.{◌≡◌, ◌+◌, ℕ, suc, Bool, true, false, List, [], ◌∷◌, length, map, Option, Some, None, slice_get, if◌then◌else◌}
+use Rattle.std.specs.Prelude.{◌≡◌, ◌+◌, ℕ, suc, true, false, List, [], ◌∷◌, length, map, slice_get, if◌then◌else◌}
 use Rattle.ar_base.specs.Lists.{Stands, IsFirst}
 use Rattle.domains.specs.declared.Value.{Value}
 use Rattle.ar_meaning.specs.Facts.{FactOf}
@@ -9,19 +9,9 @@ use Rattle.gts_core.specs.View.{net_of}
 use Rattle.gts_core.specs.Readings.{IsTotal, values_at}
 use Rattle.gts_core.specs.declared.system.Variable.{Variable}
 use Rattle.gts_core.specs.declared.system.GtsParts.{GtsParts}
-use Rattle.flow_reasons.specs.declared.known.Mark.{Mark}
-use Rattle.flow_reasons.specs.declared.known.Mark.TheVariants.{Unknown, Given, Added}
-
--- the mark says that the variable has its fact
-abbrev pub is_fact : Mark → Bool
-is_fact Unknown = false
-is_fact Given = true
-is_fact (Added round by) = true
-
--- the same of a mark that was looked up
-abbrev pub is_fact_found : Option Mark → Bool
-is_fact_found None = false
-is_fact_found (Some m) = is_fact m
+use Rattle.fact_marks.specs.Marks.{is_fact, is_fact_found}
+use Rattle.fact_marks.specs.declared.Mark.{Mark}
+use Rattle.fact_marks.specs.declared.Mark.TheVariants.{Unknown, Given, Added}
 
 -- the value of the variable of this number, where it has its fact
 abbrev pub known_at : List Value → List Mark → ℕ → List Value

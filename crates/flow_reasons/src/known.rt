@@ -1,31 +1,21 @@
 //! What is known of the facts of a standing valuation after some rounds.
 
-ghost use Rattle.std.specs.Prelude.{◌≡◌, ◌<◌, [], true, length, map, slice_get, IfOk, Contains};
+ghost use Rattle.std.specs.Prelude.{◌<◌, [], true, length, map, IfOk, Contains};
 ghost use Rattle.domains.specs.declared.Value.{Value};
 ghost use Rattle.typed_expr.specs.Kinds.{kind_of};
 ghost use Rattle.ar_meaning.specs.Facts.{PassesConditions};
 ghost use Rattle.ar_meaning.specs.Found.{IsAnswer};
 ghost use Rattle.gts_core.specs.View.{condition_of};
 ghost use Rattle.gts_core.specs.Readings.{value_at};
-ghost use Rattle.flow_reasons.specs.Marks.{Known as IsKnown, known_at, is_fact_found};
+ghost use Rattle.flow_reasons.specs.Marks.{Known as IsKnown, known_at};
 ghost use Rattle.flow_reasons.specs.Bringing.{Brings};
 
-use ar_base::{AssignId, Memory, VarId};
+use ar_base::{Memory, VarId};
 use domains::Value;
+use fact_marks::{Mark, is_known};
 use gts_core::{Assign, value_at};
 use std::alloc::Global;
 use typed_expr::{Env, Expr, ValueKind, eval_set, kind_of};
-
-/// What is known of the fact of a variable.
-#[derive(Clone, Copy)]
-pub enum Mark {
-    /// It has none so far.
-    Unknown,
-    /// The state gives it.
-    Given,
-    /// It came in this round by this assignment.
-    Added(u32, AssignId),
-}
 
 /// The values of the variables that have their facts.
 #[derive(Drop)]
@@ -61,17 +51,6 @@ impl Env<VarId> for Known<'_> {
 
     fn kind(&self, v: &VarId) -> ValueKind {
         kind_of(self.value(v))
-    }
-}
-
-// Whether the variable of this number has its fact.
-pub(crate) fn is_known(marks: &[Mark], n: u32) -> bool
-    ensures { result ≡ is_fact_found (slice_get marks.now n) }
-{
-    match marks.get(n as usize) {
-        Some(Mark::Given) => true,
-        Some(Mark::Added(_, _)) => true,
-        _ => false,
     }
 }
 

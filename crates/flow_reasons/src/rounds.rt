@@ -1,18 +1,15 @@
 //! The rounds in which the facts of a standing valuation come.
 
-ghost use Rattle.std.specs.Prelude.{◌≡◌, ◌<◌, ◌+◌, ◌^◌, ◌↔◌, ℕ, true, false, length, map, IfOk};
-ghost use Rattle.std.specs.List.Sorted.{IsNonDecreasingBy};
-ghost use Rattle.ar_base.specs.Lists.{IsOneOf};
-ghost use Rattle.ar_base.specs.Sets.{Ascends};
+ghost use Rattle.std.specs.Prelude.{◌≡◌, ℕ, length, IfOk};
 ghost use Rattle.gts_core.specs.Sound.{IsSound};
 ghost use Rattle.flow_propagate.specs.Plan.{AreReaders};
 ghost use Rattle.flow_reasons.specs.Marks.{first_marks_of, IsStanding, AreLastMarks};
-ghost use Rattle.flow_reasons.specs.Bringing.{BringsAt, BringAll, MarksAll, NameOne};
+ghost use Rattle.flow_reasons.specs.Bringing.{BringsAt, BringAll, NameOne};
 
 use crate::bringing::{bringing, numbers_below};
-use crate::known::{Mark, is_known};
-use ar_base::{AssignId, Memory};
+use ar_base::Memory;
 use domains::Value;
+use fact_marks::{Mark, mark_all};
 use gts_core::GtsParts;
 use number_pairs::paired;
 use std::alloc::Global;
@@ -94,31 +91,4 @@ fn next_bringing(
 {
     let readers = paired(alloc, pairs, fresh)?;
     bringing(alloc, parts, values, marks, &readers)
-}
-
-// Marks the targets of these assignments that have no fact yet, each by the first that is one to it, and answers which
-// variables were marked.
-fn mark_all(
-    alloc: Global,
-    parts: &GtsParts,
-    bringing: &[u32],
-    round: u32,
-    marks: &mut [Mark],
-) -> Result<Vec<u32>, Memory>
-    requires sound { IsSound parts.now }
-    requires marks { length marks.old ≡ length parts.now.variables.items }
-    requires ascends { Ascends bringing.now }
-    requires inside { (n : ℕ) → IsOneOf bringing.now n → n < length parts.now.assigns.items }
-    ensures { IfOk result (λ fresh. MarksAll parts.now bringing.now round marks.old marks.new
-        fresh.items) }
-{
-    let mut fresh = Vec::new(alloc);
-    for n in bringing {
-        let target = parts.assigns[*n as usize].target.n;
-        if !is_known(marks, target) {
-            marks[target as usize] = Mark::Added(round, AssignId::new(*n));
-            fresh.push(target)?;
-        }
-    }
-    Ok(fresh)
 }

@@ -9,12 +9,13 @@ use Rattle.ar_meaning.specs.Found.{IsAnswer}
 use Rattle.ar_meaning.proofs.Found.{holds, fails}
 use Rattle.gts_core.specs.View.{condition_of}
 use Rattle.flow_reasons.specs.Marks.{Known}
-use Rattle.flow_reasons.proofs.Knowing.{open_from, not_open, tells, brings_answer}
+use Rattle.fact_marks.proofs.Marking.{open_from, not_open}
+use Rattle.flow_reasons.proofs.Knowing.{tells, brings_answer}
 use Rattle.flow_reasons.proofs.known.brings.Goals as goal
 
 pub returns-then-is_known : goal.returns-then-is_known
 returns-then-is_known c = λ b.
-    not_open c.args.values.now c.args.marks.now c.args.assign.now.target.n (sym c.is_known.ensures ∙ c.if-is_known.true)
+    not_open c.args.marks.now c.args.assign.now.target.n (sym c.is_known.ensures ∙ c.if-is_known.true)
     b.is_open
 
 pub returns-then-not-reaches : goal.returns-then-not-reaches
@@ -31,7 +32,7 @@ returns c =
     let a = c.args.assign.now in
     let v : Value = get_or values a.target.n (Truth false) in
     brings_answer values marks a c.in_ok-set.set v c.has-yields.result
-    (open_from values marks a.target.n c.requires.marks (sym c.is_known.ensures ∙ c.if-is_known.false))
+    (open_from marks a.target.n c.requires.marks (sym c.is_known.ensures ∙ c.if-is_known.false))
     (stands_get values a.target.n (Truth false) c.requires.values)
     (subst (λ (z : List (Expr VarId × Bool)). PassesConditions (Known values marks) (map condition_of z))
     c.deref.ensures.value

@@ -1,8 +1,8 @@
 -- Places in lists that change, and ascending lists that grow.
-use Rattle.std.proofs.Common.{◌≡◌, ◌<◌, ◌+◌, ◌⊎◌, inl, inr, ℕ, zero, suc, List, [], ◌∷◌, ◌++◌, length, set, take, drop, refl, ap, ◌∙◌, arith}
+use Rattle.std.proofs.Common.{◌≡◌, ◌<◌, ◌⊎◌, inl, inr, ℕ, zero, suc, List, [], ◌∷◌, ◌++◌, length, set, get_or, take, drop, refl, ap, ◌∙◌, arith}
 use Rattle.ar_base.specs.Lists.{Stands, IsOneOf}
 use Rattle.ar_base.specs.Sets.{Ascends}
-use Rattle.ar_base.proofs.Standing.{stands_none, one_first, one_split, one_left, one_right, only_item}
+use Rattle.ar_base.proofs.Standing.{stands_get, stands_none, one_first, one_split, one_left, one_right, only_item}
 
 module _ {A : Type 0} where
   pub set_here : (xs : List A) (k : ℕ) (x : A) → k < length xs → Stands (set xs k x) k x
@@ -60,3 +60,10 @@ pub written : {A : Type 0} (xs ys : List A) (n : ℕ) → length xs ≡ length y
 written xs ys n e f =
     let i : n ≡ length xs = omega (arith, e, f) in
     ap (λ z. take z (xs ++ drop (length xs) ys)) i ∙ front_of xs (drop (length xs) ys)
+
+-- an item among the first ones of an ascending list is less than the next
+pub before_next : (xs : List ℕ) (i : ℕ) → Ascends xs → i < length xs → (n : ℕ) → IsOneOf (take i xs) n
+    → n < get_or xs i 0
+before_next xs i h l n o =
+    let s = take_stands i xs o.place n o.stands in
+    h.ascends o.place i n (get_or xs i 0) s.0 s.1 (stands_get xs i 0 l)

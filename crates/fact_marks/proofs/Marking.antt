@@ -1,18 +1,34 @@
 -- Marks that are set one after the other.
-use Rattle.std.proofs.Common.{◌≡◌, ◌<◌, ◌≤◌, ◌+◌, ◌⊎◌, inl, inr, ℕ, true, false, List, [], ◌∷◌, ◌++◌, length, set, get_or, take, refl, sym, ap, ◌∙◌, subst, arith, length-set}
+use Rattle.std.proofs.Common.{◌≡◌, ◌<◌, ◌≤◌, ◌+◌, ◌⊎◌, inl, inr, ℕ, true, false, List, [], ◌∷◌, ◌++◌, length, set, get_or, slice_get, take, refl, sym, ap, ◌∙◌, subst, arith, length-set}
 use Rattle.std.proofs.lemmas.List.{take_more, take_all}
 use Rattle.ar_base.specs.Lists.{Stands, IsOneOf}
 use Rattle.ar_base.specs.Numbers.{AssignId}
 use Rattle.ar_base.specs.Sets.{Ascends}
-use Rattle.ar_base.proofs.Standing.{stands_one, one_none}
+use Rattle.ar_base.proofs.Standing.{stands_one, stands_some, stands_within, one_here, one_none}
+use Rattle.gts_core.specs.Sound.{IsSound}
 use Rattle.gts_core.specs.declared.system.Assign.{Assign}
 use Rattle.gts_core.specs.declared.system.GtsParts.{GtsParts}
-use Rattle.flow_reasons.specs.declared.known.Mark.{Mark}
-use Rattle.flow_reasons.specs.declared.known.Mark.TheVariants.{Added}
-use Rattle.flow_reasons.specs.Marks.{is_fact}
-use Rattle.flow_reasons.specs.Bringing.{IsOpen, IsTo, IsMarkedBy, MarksAll}
-use Rattle.flow_reasons.proofs.Placing.{set_other, set_back, pushed_cases, pushed_old, pushed_last}
-use Rattle.flow_reasons.proofs.Gathering.{before_next}
+use Rattle.fact_marks.specs.declared.Mark.{Mark}
+use Rattle.fact_marks.specs.declared.Mark.TheVariants.{Added}
+use Rattle.fact_marks.specs.Marks.{is_fact, is_fact_found, IsOpen, IsTo, IsMarkedBy, MarksAll}
+use Rattle.fact_marks.proofs.Placing.{set_other, set_back, pushed_cases, pushed_old, pushed_last, before_next}
+
+-- the target of an assertion is a variable of the system
+pub target_below : (p : GtsParts) → IsSound p → (n : ℕ) (a : Assign) → Stands p.assigns.items n a
+    → a.target.n < length p.variables.items
+target_below p sound n a st =
+    let t = sound.assertions a (one_here p.assigns.items n a st) in
+    stands_within p.variables.items a.target.n t.variable t.stands
+
+-- the mark that was tested
+module _ (marks : List Mark) where
+  pub open_from : (n : ℕ) → n < length marks → is_fact_found (slice_get marks n) ≡ false → IsOpen marks n
+  open_from n l e =
+      let m = stands_some marks n l in
+      record { mark = m.0; stands = m.1; is = sym (ap is_fact_found m.1) ∙ e }
+
+  pub not_open : (n : ℕ) → is_fact_found (slice_get marks n) ≡ true → IsOpen marks n → ⊥
+  not_open n e o = let i : is_fact o.mark ≡ true = sym (ap is_fact_found o.stands) ∙ e in absurd (cc (i, o.is))
 
 pub open_not : {marks : List Mark} {n : ℕ} {m : Mark} → IsOpen marks n → Stands marks n m → is_fact m ≡ true → ⊥
 open_not {marks = marks} {n = n} {m = m} o s i =

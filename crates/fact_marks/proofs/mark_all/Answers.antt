@@ -1,13 +1,11 @@
 use Rattle.std.proofs.Common.{◌<◌, ◌+◌, ℕ, List, [], take, set, length, get_or, rules, sym, ap, ◌∙◌, subst, arith}
 use Rattle.ar_base.proofs.Standing.{stands_get, one_here, stands_item}
-use Rattle.flow_reasons.specs.declared.known.Mark.{Mark}
-use Rattle.flow_reasons.specs.declared.known.Mark.TheVariants.{Added}
-use Rattle.flow_reasons.specs.Bringing.{MarksAll}
-use Rattle.flow_reasons.proofs.Standing.{target_below}
-use Rattle.flow_reasons.proofs.Knowing.{open_from, not_open}
-use Rattle.flow_reasons.proofs.Marking.{marks_none, marks_left, marks_taken, marks_done}
-use Rattle.flow_reasons.proofs.rounds.mark_all.Goals as goal
-use Rattle.flow_reasons.proofs.rounds.mark_all.Goals.{then-not-is_known+in_ok-push, else-not-is_known}
+use Rattle.fact_marks.specs.declared.Mark.{Mark}
+use Rattle.fact_marks.specs.declared.Mark.TheVariants.{Added}
+use Rattle.fact_marks.specs.Marks.{MarksAll}
+use Rattle.fact_marks.proofs.Marking.{target_below, open_from, not_open, marks_none, marks_left, marks_taken, marks_done}
+use Rattle.fact_marks.proofs.mark_all.Goals as goal
+use Rattle.fact_marks.proofs.mark_all.Goals.{then-not-is_known+in_ok-push, else-not-is_known}
 
 pub loop-n-init : goal.loop-n-init
 loop-n-init c =
@@ -45,7 +43,7 @@ loop-n-preserved c =
     let P : List Mark → List ℕ → Type 0 = λ y z. MarksAll p (take (i + 1) xs) c.args.round c.args.marks.now y z in
     elim c.if-not-is_known.branch [
       | then-not-is_known+in_ok-push w ↦
-          let o = open_from [] marks a.target.n inside (sym c.is_known.ensures ∙ w.if-not-is_known.true) in
+          let o = open_from marks a.target.n inside (sym c.is_known.ensures ∙ w.if-not-is_known.true) in
           let new : List Mark = set marks a.target.n (Added c.args.round w.new.result) in
           subst (λ (z : List Mark). P z c.if-not-is_known.fresh.items) (sym w.marks-is)
           (subst (λ (z : List ℕ). P new z) (sym (ap (λ z. z.items) w.fresh-is ∙ w.in_ok-push.ensures.items))
@@ -56,7 +54,7 @@ loop-n-preserved c =
           (subst (λ (z : List ℕ). P marks z) (sym (ap (λ z. z.items) w.fresh-is))
           (marks_left p c.args.round c.args.marks.now xs i c.requires.ascends c.loop-n-test.true a st marks fresh
           c.loop-n.invariant
-          (not_open [] marks a.target.n (sym c.is_known.ensures ∙ w.if-not-is_known.false))))
+          (not_open marks a.target.n (sym c.is_known.ensures ∙ w.if-not-is_known.false))))
     ]
 
 pub returns : goal.returns

@@ -18,3 +18,7 @@ musts_by flags parts = list_all (λ (p : Bool × WayId). not p.0 || flag_at flag
 -- whether one part's flag is set
 abbrev pub some_by : List Bool → List (Bool × WayId) → Bool
 some_by flags parts = list_any (λ (p : Bool × WayId). flag_at flags p.1.n) parts
+
+-- whether each part's flag is set
+abbrev pub are_set : List Bool → List (Bool × WayId) → Bool
+are_set flags parts = list_all (λ (p : Bool × WayId). flag_at flags p.1.n) parts

@@ -1,6 +1,5 @@
 -- Ways in order, and which of them can fire.
 use Rattle.std.specs.Prelude.{◌≡◌, ℕ, ◌<◌, Bool, true, if◌then◌else◌, List, [], length}
-use Rattle.std.specs.List.{list_all}
 use Rattle.ar_base.specs.Lists.{Stands, IsOneOf}
 use Rattle.domains.specs.declared.Value.{Value}
 use Rattle.ar_meaning.specs.Systems as s
@@ -14,7 +13,7 @@ use Rattle.gts_core.specs.declared.system.WayBody.{WayBody}
 use Rattle.gts_core.specs.declared.system.WayBody.TheVariants.{Local, Sync}
 use Rattle.gts_core.specs.declared.system.GtsParts.{GtsParts}
 use Rattle.gts_core.specs.Readings.{is_met}
-use Rattle.part_flags.specs.Parts.{flag_at, has_must_in, musts_by, some_by}
+use Rattle.part_flags.specs.Parts.{are_set, flag_at, has_must_in, musts_by, some_by}
 
 -- the parts of a way, with their marks; a local way has none
 abbrev pub parts_of : WayBody → List (Bool × WayId)
@@ -45,10 +44,6 @@ pub record IsPlacing (p : GtsParts) (order : List WayId) (placed : List Bool) : 
       → Stands order j other → other.n ≡ part.1.n → j < k
   pub ready : (k : ℕ) (id : WayId) (part : Bool × WayId) → Stands order k id → HasPart p id.n part
       → flag_at placed part.1.n ≡ true
-
--- whether each part's flag is set
-abbrev pub are_set : List Bool → List (Bool × WayId) → Bool
-are_set flags parts = list_all (λ (p : Bool × WayId). flag_at flags p.1.n) parts
 
 -- whether a way can fire, by the flags of its parts
 abbrev pub can_by : List Value → List Bool → WayBody → Bool

@@ -7,8 +7,8 @@ ghost use Rattle.ar_base.specs.Lists.{Stands};
 ghost use Rattle.gts_core.specs.Sound.{IsSound};
 ghost use Rattle.gts_core.specs.declared.system.Way.{Way as Ways};
 ghost use Rattle.gts_core.specs.View.{IsWayAt, way_bodies, part_of};
-ghost use Rattle.part_flags.specs.Parts.{flag_at};
-ghost use Rattle.way_flags.specs.Ways.{IsOrder, IsPlacing, are_set, are_placed, Keeps};
+ghost use Rattle.part_flags.specs.Parts.{are_set, flag_at};
+ghost use Rattle.way_flags.specs.Ways.{IsOrder, IsPlacing, are_placed, Keeps};
 
 use crate::flags::unset;
 use crate::sequence::parts_first;

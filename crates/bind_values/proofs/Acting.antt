@@ -26,7 +26,7 @@ use Rattle.hierarchy.specs.Models.{RootedModel}
 use Rattle.hierarchy.specs.Units.{UnitPath, Thing, kind_at}
 use Rattle.hierarchy.specs.Walks.{Finds, is_variable}
 use Rattle.hierarchy.specs.Listing.{variables}
-use Rattle.hierarchy.specs.Settings.{is_state, is_state_variable, is_flow_variable}
+use Rattle.hierarchy.specs.Settings.{is_state_variable, is_flow_variable}
 use Rattle.hierarchy.specs.declared.tree.VarNode.{VarNode}
 use Rattle.hierarchy.specs.declared.tree.Tree.{Tree}
 use Rattle.hierarchy.proofs.TargetWords.{no_state}

@@ -18,8 +18,8 @@ use Rattle.eq_core.proofs.Telling.{place_below}
 use Rattle.firable_families.specs.Firable.{IsFirableOf, IsTrueAt, ListsLeast}
 use Rattle.firable_families.proofs.Listing.{Lists, lists_listed, listed_lists, true_lists}
 use Rattle.mode_nodes.specs.Diagrams as modes
-use Rattle.mode_diagrams.specs.declared.trees.NumberedTree.{NumberedTree}
-use Rattle.mode_diagrams.specs.Trees.{edges_of}
+use Rattle.diagram_steps.specs.declared.trees.NumberedTree.{NumberedTree}
+use Rattle.diagram_steps.specs.Trees.{edges_of}
 use Rattle.mode_diagrams.specs.Agreement.{Agrees, AreClosed}
 use Rattle.mode_diagrams.specs.declared.drawing.Undrawn.{Undrawn}
 use Rattle.mode_diagrams.specs.Numbers.{HasFewEdges, IsByModes}

@@ -7,7 +7,7 @@ use Rattle.zdd_nodes.specs.Nodes.{family, IsNumber, IsSoundStore}
 use Rattle.zdd_nodes.specs.declared.NodeFault.TheVariants as NodeFault
 use Rattle.eq_core.specs.Gates.{Operand, Gate, Table}
 use Rattle.firable_families.specs.Firable.{IsFirableOf}
-use Rattle.mode_diagrams.specs.declared.trees.NumberedTree.{NumberedTree}
+use Rattle.diagram_steps.specs.declared.trees.NumberedTree.{NumberedTree}
 use Rattle.mode_diagrams.specs.declared.drawing.Undrawn.{Undrawn}
 use Rattle.mode_diagrams.specs.Numbers.{IsByModes}
 use Rattle.mode_diagrams.specs.declared.listing.Listed.{Listed}

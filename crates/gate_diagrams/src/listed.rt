@@ -13,9 +13,10 @@ ghost use Rattle.mode_diagrams.specs.Numbers.{HasFewEdges};
 ghost use Rattle.gate_diagrams.specs.Needed.{family_at, IsNeeded};
 ghost use Rattle.gate_diagrams.specs.ByModes.{IsListed};
 
+use diagram_steps::NumberedTree;
 use eq_core::{Gate, Operand};
 use gate_cones::cone;
-use mode_diagrams::{Listed, NumberedTree, Undrawn, copied, draw, list_sets};
+use mode_diagrams::{Listed, Undrawn, copied, draw, list_sets};
 use mode_nodes::Diagrams;
 use std::alloc::Global;
 use zdd_nodes::{NodeFault, NodeId};

@@ -1,18 +1,38 @@
 -- Firable sets by the modes of trees in another order.
-use Rattle.std.proofs.Common.{◌≡◌, ℕ, zero, suc, ◌≤◌, List, [], ◌∷◌, length, refl, sym, ap, ◌∙◌, subst, arith}
+use Rattle.std.proofs.Common.{◌≡◌, ◌⊎◌, ⊎_elim, inl, inr, ℕ, zero, suc, ◌≤◌, ◌<◌, List, [], ◌∷◌, length, refl, sym, ap, ◌∙◌, subst, arith}
 use Rattle.std.specs.List.Sorted.{IsPermutation}
+use Rattle.std.proofs.lemmas.Bool.{cases_eq}
 use Rattle.std.proofs.lemmas.List.Sorted.{Contains-permutation, IsPermutation-sym}
 use Rattle.ar_base.specs.Lists.{Stands, IsOneOf}
 use Rattle.ar_base.proofs.Standing.{stands_none, one_first, one_rest, one_here, one_contains, contains_one}
 use Rattle.ar_firing.specs.Forest.{ModeTree}
 use Rattle.mode_nodes.specs.Diagrams.{mode_of}
-use Rattle.mode_diagrams.specs.declared.trees.NumberedTree.{NumberedTree}
-use Rattle.mode_diagrams.specs.Trees.{edges_of, IsOnPath, AreApart, IsSetFrom}
+use Rattle.diagram_steps.specs.declared.trees.NumberedTree.{NumberedTree}
+use Rattle.diagram_steps.specs.Trees.{edges_of}
+use Rattle.diagram_steps.specs.Order.{Ascend}
+use Rattle.mode_diagrams.specs.Trees.{IsOnPath, AreApart, IsSetFrom}
 use Rattle.mode_diagrams.specs.Numbers.{IsByModes, FirableByModes}
-use Rattle.mode_diagrams.specs.Order.{Ascend}
 use Rattle.mode_diagrams.proofs.Firable.{by_modes, mode_end}
 use Rattle.mode_diagrams.proofs.Laws.{path_event}
-use Rattle.mode_diagrams.proofs.TreeOrder.{ascend_apart}
+
+-- ---- trees that ascend are apart
+pub ascend_apart : (trees : List NumberedTree) → Ascend trees → AreApart trees
+ascend_apart trees a = record {
+  one = λ j k s t e sj sk hs ht. ⊎_elim
+      (λ p. p)
+      (λ n. ⊎_elim
+      (λ (l : j < k). let w = (a.each j k s t l sj sk).each e e hs ht in let x : ⊥ = omega (arith, w) in absurd x)
+      (λ (l : k < j). let w = (a.each k j t s l sk sj).each e e ht hs in let x : ⊥ = omega (arith, w) in absurd x)
+      (less_or j k n))
+      (cases_eq j k);
+}
+  where
+    less_or : (j k : ℕ) → (j ≡ k → ⊥) → (j < k) ⊎ (k < j)
+    less_or zero zero n = absurd (n refl)
+    less_or zero (suc k) n = inl (omega arith)
+    less_or (suc j) zero n = inr (omega arith)
+    less_or (suc j) (suc k) n = ⊎_elim (λ l. inl (omega (arith, l))) (λ l. inr (omega (arith, l)))
+        (less_or j k (λ e. n (ap suc e)))
 
 pub one_moved : (xs ys : List NumberedTree) (n : NumberedTree) → IsPermutation xs ys → IsOneOf xs n → IsOneOf ys n
 one_moved xs ys n p o = one_contains ys n (Contains-permutation xs ys n p (contains_one xs n o))

@@ -8,8 +8,9 @@ use Rattle.ar_firing.specs.Forest.{Row, ModeTree}
 use Rattle.ar_firing.specs.Trees.{IsTree, AreTrees}
 use Rattle.firable_families.specs.Firable.{LeadsToMode, root, edge, IsFirableOf}
 use Rattle.mode_nodes.specs.Diagrams.{mode_of}
-use Rattle.mode_diagrams.specs.declared.trees.NumberedTree.{NumberedTree}
-use Rattle.mode_diagrams.specs.Trees.{edges_of, HasEvent, IsSetFrom}
+use Rattle.diagram_steps.specs.declared.trees.NumberedTree.{NumberedTree}
+use Rattle.diagram_steps.specs.Trees.{edges_of, HasEvent}
+use Rattle.mode_diagrams.specs.Trees.{IsSetFrom}
 use Rattle.mode_diagrams.specs.Numbers.{AreNumbersOf, none, passed, one_and, IsNumberOf, IsByModes}
 use Rattle.mode_diagrams.proofs.Ends.{IsPathTo, number_of, path_of, number_within, is_numbered}
 

@@ -10,7 +10,7 @@ use Rattle.zdd_nodes.specs.declared.NodeFault.{NodeFault}
 use Rattle.zdd_nodes.specs.declared.NodeFault.TheVariants.{Memory as OutOfMemory}
 use Rattle.zdd_nodes.proofs.Growing.{kept, still}
 use Rattle.mode_nodes.specs.Diagrams as modes
-use Rattle.mode_diagrams.specs.declared.trees.NumberedTree.{NumberedTree}
+use Rattle.diagram_steps.specs.declared.trees.NumberedTree.{NumberedTree}
 use Rattle.mode_diagrams.specs.declared.held.State.{State}
 use Rattle.mode_diagrams.specs.Sets.{HasSets, IsTrueFrom}
 use Rattle.mode_diagrams.specs.Kept.{state_eq, Remembers, IsFamilyOf, AreHeld}

@@ -1,5 +1,5 @@
 -- The laws of agreement.
-use Rattle.std.proofs.Common.{◌≡◌, ⊎_elim, inl, inr, ℕ, zero, suc, ◌+◌, ◌<◌, Bool, true, false, not, ◌&&◌, ◌||◌, nat_eq, List, [], ◌∷◌, ◌++◌, get_or, length, length-append, map, refl, sym, ap, ap₂, ◌∙◌, subst, arith, eqb-true, eq-eqb}
+use Rattle.std.proofs.Common.{◌≡◌, ⊎_elim, inl, inr, ℕ, zero, suc, ◌+◌, ◌<◌, Bool, true, false, not, ◌||◌, nat_eq, List, [], ◌∷◌, ◌++◌, get_or, length, length-append, map, refl, sym, ap, ◌∙◌, subst, arith, eqb-true, eq-eqb}
 use Rattle.std.proofs.lemmas.Option.{get_or_from_slice_get}
 use Rattle.ar_base.specs.Lists.{Stands, IsOneOf}
 use Rattle.ar_base.proofs.Standing.{stands_one, stands_map, stands_split, stands_none, one_none, one_cases, one_first, one_rest}
@@ -10,22 +10,17 @@ use Rattle.eq_core.proofs.Telling.{gate_value}
 use Rattle.mode_nodes.specs.Diagrams.{DiagramId, Stored, mode_of, value, choice, child, IsNumber, AreChildren, Grows}
 use Rattle.mode_nodes.proofs.Growing.{kept, still, from_small}
 use Rattle.mode_nodes.proofs.Values.{value-false, value-true, small_value}
-use Rattle.mode_diagrams.specs.declared.trees.NumberedEdge.{NumberedEdge}
-use Rattle.mode_diagrams.specs.declared.trees.NumberedTree.{NumberedTree}
-use Rattle.mode_diagrams.specs.Trees.{edges_of, IsOnPath, last, earlier, IsNumbered, HasEvent, AreApart, IsSetFrom}
-use Rattle.mode_diagrams.specs.Agreement.{Agrees, AgreesJoint, IsNeutral, IsSigned, IsJoined, IsReady, AreTabled, IsTold, AreTold, IsToldAt}
+use Rattle.diagram_steps.specs.declared.trees.NumberedEdge.{NumberedEdge}
+use Rattle.diagram_steps.specs.declared.trees.NumberedTree.{NumberedTree}
+use Rattle.diagram_steps.specs.Trees.{edges_of, HasEvent}
+use Rattle.diagram_steps.specs.Joints.{IsSigned, AreTabled}
+use Rattle.mode_diagrams.specs.Trees.{IsOnPath, last, earlier, IsNumbered, AreApart, IsSetFrom}
+use Rattle.mode_diagrams.specs.Agreement.{Agrees, AgreesJoint, IsReady, IsTold, AreTold, IsToldAt}
 
 -- ---- as the store grows
 pub agrees_kept : (trees : List NumberedTree) (gates : List Gate) (o : Operand) (s t : Stored) (n : ℕ) → Grows s t
     → Agrees trees gates o s n → Agrees trees gates o t n
 agrees_kept trees gates o s t n g a = record {
-  number = still s t n g a.number;
-  same = λ modes set is. kept s t modes n g a.number ∙ a.same modes set is;
-}
-
-pub joint_kept : (trees : List NumberedTree) (gates : List Gate) (both : Bool) (os : List Operand) (s t : Stored) (n : ℕ)
-    → Grows s t → AgreesJoint trees gates both os s n → AgreesJoint trees gates both os t n
-joint_kept trees gates both os s t n g a = record {
   number = still s t n g a.number;
   same = λ modes set is. kept s t modes n g a.number ∙ a.same modes set is;
 }
@@ -69,30 +64,6 @@ agrees_gate trees gates g false s t n r a i =
     record { number = i.number; same = λ modes set is. i.same modes ∙ ap not (a.same modes set is) }
 
 -- ---- joints
-pub joint_none : (trees : List NumberedTree) (gates : List Gate) (both : Bool) (s : Stored) (n : ℕ) → IsNeutral both n
-    → AgreesJoint trees gates both [] s n
-joint_none trees gates true s n e = record {
-  number = omega (arith, e);
-  same = λ modes set is. ap (value s modes) e ∙ value-true s.nodes modes;
-}
-joint_none trees gates false s n e = record {
-  number = omega (arith, e);
-  same = λ modes set is. ap (value s modes) e ∙ value-false s.nodes modes;
-}
-
--- one operand more, from the last to the first
-pub joint_more : (trees : List NumberedTree) (gates : List Gate) (both : Bool) (o : Operand) (os : List Operand)
-    (s t : Stored) (m n r : ℕ) → Agrees trees gates o s m → AgreesJoint trees gates both os s n
-    → IsJoined both s m n t r → AgreesJoint trees gates both (o ∷ os) t r
-joint_more trees gates true o os s t m n r a b j = record {
-  number = j.number;
-  same = λ modes set is. j.same modes ∙ ap₂ (λ x y. x && y) (a.same modes set is) (b.same modes set is);
-}
-joint_more trees gates false o os s t m n r a b j = record {
-  number = j.number;
-  same = λ modes set is. j.same modes ∙ ap₂ (λ x y. x || y) (a.same modes set is) (b.same modes set is);
-}
-
 pub gate_agrees : (trees : List NumberedTree) (gates : List Gate) (g : ℕ) (gate : Gate) (s : Stored) (n : ℕ)
     → Stands gates g gate → AreBelow g gate.operands → AgreesJoint trees gates gate.both gate.operands s n
     → Agrees trees gates (GateIs g true) s n

@@ -2,14 +2,11 @@ pub mod Arranging
 pub mod Copying
 pub mod Ends
 pub mod Firable
-pub mod Folding
-pub mod Growing
 pub mod Holding
+pub mod Joining
 pub mod Laws
 pub mod Making
 pub mod Pathing
 pub mod Placing
-pub mod Putting
 pub mod Stepping
 pub mod Tabling
-pub mod TreeOrder

@@ -3,9 +3,9 @@ use Rattle.std.proofs.Common.{◌≡◌, ⊎_elim, ℕ, zero, suc, ◌+◌, ◌�
 use Rattle.ar_base.specs.Lists.{Stands, IsOneOf}
 use Rattle.ar_base.proofs.Standing.{one_none, one_cases, stands_one, stands_none, stands_split}
 use Rattle.ar_firing.specs.Forest.{Row, ModeTree}
-use Rattle.mode_diagrams.specs.declared.trees.NumberedEdge.{NumberedEdge}
-use Rattle.mode_diagrams.specs.declared.trees.NumberedTree.{NumberedTree}
-use Rattle.mode_diagrams.specs.Trees.{edges_of}
+use Rattle.diagram_steps.specs.declared.trees.NumberedEdge.{NumberedEdge}
+use Rattle.diagram_steps.specs.declared.trees.NumberedTree.{NumberedTree}
+use Rattle.diagram_steps.specs.Trees.{edges_of}
 use Rattle.std.specs.List.{All}
 use Rattle.std.proofs.lemmas.List.Elements.{All-head, All-push, All-tail}
 use Rattle.mode_diagrams.specs.Numbers.{AreNumbersOf, none, passed, one_and, HasFewEdges, IsWide, IsModeNumber, IsNumberOf}

@@ -3,9 +3,10 @@ use Rattle.std.proofs.Common.{◌≡◌, ◌⊎◌, ⊎_elim, inl, inr, ℕ, suc
 use Rattle.ar_base.specs.Lists.{Stands, IsOneOf}
 use Rattle.ar_base.proofs.Standing.{stands_one, one_none, one_cases, one_first, one_rest}
 use Rattle.zdd_families.specs.Families.{Family}
-use Rattle.mode_diagrams.specs.declared.trees.NumberedEdge.{NumberedEdge}
+use Rattle.diagram_steps.specs.declared.trees.NumberedEdge.{NumberedEdge}
+use Rattle.diagram_steps.specs.Putting.{put_in, HasWith}
 use Rattle.mode_diagrams.specs.Trees.{IsOnPath, last, earlier}
-use Rattle.mode_diagrams.specs.Sets.{put_in, HasWith, IsWithPath, HasPath}
+use Rattle.mode_diagrams.specs.Sets.{IsWithPath, HasPath}
 
 -- ---- the members of a set with an event
 pub put_members : (e : ℕ) (s : List ℕ) (x : ℕ) → IsOneOf (put_in e s) x → (x ≡ e) ⊎ IsOneOf s x

@@ -7,9 +7,9 @@ use Rattle.ar_base.specs.Numbers.{EventId}
 use Rattle.ar_base.proofs.Standing.{stands_one, stands_within, one_none, one_cases, one_split, one_left, one_right, one_first}
 use Rattle.eq_core.specs.Gates.{Operand, EventIs, Gate}
 use Rattle.zdd_families.proofs.Laws.{eqb-refl}
-use Rattle.mode_diagrams.specs.declared.trees.NumberedEdge.{NumberedEdge}
-use Rattle.mode_diagrams.specs.declared.trees.NumberedTree.{NumberedTree}
-use Rattle.mode_diagrams.specs.Trees.{edges_of}
+use Rattle.diagram_steps.specs.declared.trees.NumberedEdge.{NumberedEdge}
+use Rattle.diagram_steps.specs.declared.trees.NumberedTree.{NumberedTree}
+use Rattle.diagram_steps.specs.Trees.{edges_of}
 use Rattle.mode_diagrams.specs.Lacking.{same_event, place_of, IsPut, ArePlaced, Puts, HasNoTree, Lacks, LacksOne, LacksSome, own, named}
 
 -- ---- one place after the other
@@ -98,26 +98,6 @@ lacks_event trees o e s is n l =
     let both : EventIs l.event l.sign ≡ EventIs e s = sym l.is ∙ is in
     let same : l.event ≡ e = cc in
     n (subst (HasNoTree trees) same l.none)
-
--- ---- operands from a place on
-abbrev pub NoneLacks : List NumberedTree → List Operand → ℕ → Type 0
-NoneLacks trees os k = (j : ℕ) (o : Operand) → k ≤ j → Stands os j o → Lacks trees o → ⊥
-
-pub none_past : (trees : List NumberedTree) (os : List Operand) (k : ℕ) → k ≡ length os → NoneLacks trees os k
-none_past trees os k e j o h st l = let w = stands_within os j o st in let x : ⊥ = omega (arith, w, h, e) in x
-
-pub none_more : (trees : List NumberedTree) (os : List Operand) (k more : ℕ) (o : Operand) → Stands os k o
-    → more ≡ k + 1 → (Lacks trees o → ⊥) → NoneLacks trees os more → NoneLacks trees os k
-none_more trees os k more o st e here rest j p h sj l = ⊎_elim
-    (λ (q : j ≡ k).
-    let same = stands_one os k p o (subst (λ n. Stands os n p) q sj) st in
-    here (subst (Lacks trees) same l))
-    (λ n. rest j p (let x : k < j = grind (arith, h, n) in omega (arith, x, e)) sj l)
-    (cases_eq j k)
-
-pub none_lacks : (trees : List NumberedTree) (os : List Operand) (k : ℕ) → k ≡ 0 → NoneLacks trees os k
-    → LacksOne trees os → ⊥
-none_lacks trees os k e n l = n l.one.place l.operand (omega (arith, e)) l.one.stands l.lacks
 
 -- ---- gate after gate: no operand of the first k gates that are marked is an event without a tree
 abbrev pub GatesKnown : List NumberedTree → List Gate → List Bool → ℕ → Type 0

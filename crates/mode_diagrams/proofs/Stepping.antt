@@ -12,9 +12,10 @@ use Rattle.mode_nodes.specs.Diagrams.{Stored, mode_of, value, IsNumber, IsFrom, 
 use Rattle.mode_nodes.specs.Cuts.{IsTaken}
 use Rattle.mode_nodes.proofs.Values.{value-false}
 use Rattle.mode_nodes.proofs.Asking.{asks}
-use Rattle.mode_diagrams.specs.declared.trees.NumberedEdge.{NumberedEdge}
-use Rattle.mode_diagrams.specs.declared.trees.NumberedTree.{NumberedTree}
-use Rattle.mode_diagrams.specs.Trees.{edges_of, IsOnPath, last, earlier, IsNumbered, AreNumbered, IsSetFrom}
+use Rattle.diagram_steps.specs.declared.trees.NumberedEdge.{NumberedEdge}
+use Rattle.diagram_steps.specs.declared.trees.NumberedTree.{NumberedTree}
+use Rattle.diagram_steps.specs.Trees.{edges_of}
+use Rattle.mode_diagrams.specs.Trees.{IsOnPath, last, earlier, IsNumbered, AreNumbered, IsSetFrom}
 use Rattle.mode_diagrams.specs.Sets.{HasSets, HasPath, IsWithPath, IsTrueFrom, IsTrueAtMode, IsTrueBelow}
 
 -- ---- a list of modes with another mode of one tree

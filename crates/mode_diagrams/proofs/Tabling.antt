@@ -7,8 +7,9 @@ use Rattle.eq_core.specs.Ordered.{AreOrdered}
 use Rattle.eq_core.proofs.Telling.{place_below}
 use Rattle.mode_nodes.specs.Diagrams.{DiagramId, Stored, IsNumber, Grows}
 use Rattle.mode_nodes.proofs.Growing.{still}
-use Rattle.mode_diagrams.specs.declared.trees.NumberedTree.{NumberedTree}
-use Rattle.mode_diagrams.specs.Agreement.{Agrees, AgreesJoint, IsReady, AreReady, AreTabled, AreClosed}
+use Rattle.diagram_steps.specs.declared.trees.NumberedTree.{NumberedTree}
+use Rattle.diagram_steps.specs.Joints.{AreTabled}
+use Rattle.mode_diagrams.specs.Agreement.{Agrees, AgreesJoint, IsReady, AreReady, AreClosed}
 use Rattle.mode_diagrams.proofs.Laws.{agrees_kept, gate_agrees}
 
 -- the first k gates have their places in the table, and each that is marked has its diagram there

@@ -1,12 +1,13 @@
 -- Diagrams against operands over events, at each set of events on paths.
-use Rattle.std.specs.Prelude.{◌≡◌, ◌⊎◌, ℕ, suc, Bool, true, cond, if◌then◌else◌, not, ◌&&◌, ◌||◌, List, length}
+use Rattle.std.specs.Prelude.{◌≡◌, ◌⊎◌, ℕ, suc, Bool, true, List, length}
 use Rattle.ar_base.specs.Lists.{Stands, IsOneOf}
 use Rattle.eq_core.specs.Gates.{Operand, GateIs, Gate}
 use Rattle.eq_core.specs.Values.{joint_at, values_at, value_at}
 use Rattle.mode_nodes.specs.Diagrams.{DiagramId, Stored, value, IsNumber}
-use Rattle.mode_diagrams.specs.declared.trees.NumberedEdge.{NumberedEdge}
-use Rattle.mode_diagrams.specs.declared.trees.NumberedTree.{NumberedTree}
-use Rattle.mode_diagrams.specs.Trees.{edges_of, IsOnPath, IsSetFrom}
+use Rattle.diagram_steps.specs.declared.trees.NumberedEdge.{NumberedEdge}
+use Rattle.diagram_steps.specs.declared.trees.NumberedTree.{NumberedTree}
+use Rattle.diagram_steps.specs.Trees.{edges_of}
+use Rattle.mode_diagrams.specs.Trees.{IsOnPath, IsSetFrom}
 
 -- the diagram agrees with the operand: at the modes of each set of events on paths it has the operand's value at the set
 pub record Agrees (trees : List NumberedTree) (gates : List Gate) (o : Operand) (s : Stored) (n : ℕ) : Type 0 where
@@ -19,25 +20,6 @@ pub record AgreesJoint (trees : List NumberedTree) (gates : List Gate) (both : B
   pub number : IsNumber s n
   pub same : (modes set : List ℕ) → IsSetFrom trees 0 modes set
       → value s modes n ≡ joint_at both set (values_at set gates) os
-
--- the number of what leaves a joint as it is: true where all operands are needed, else false
-abbrev pub IsNeutral : Bool → ℕ → Type 0
-IsNeutral both n = n ≡ (if both then 1 else 0)
-
--- r is n, or its opposite where the sign is false
-pub record IsSigned (s : Stored) (n : ℕ) (sign : Bool) (t : Stored) (r : ℕ) : Type 0 where
-  pub number : IsNumber t r
-  pub same : (modes : List ℕ) → value t modes r ≡ cond sign (value s modes n) (not (value s modes n))
-
--- r has the values of both, or of either
-pub record IsJoined (both : Bool) (s : Stored) (m n : ℕ) (t : Stored) (r : ℕ) : Type 0 where
-  pub number : IsNumber t r
-  pub same : (modes : List ℕ)
-      → value t modes r ≡ cond both (value s modes m && value s modes n) (value s modes m || value s modes n)
-
--- the table has numbers of the store
-pub record AreTabled (table : List DiagramId) (s : Stored) : Type 0 where
-  pub each : (g : ℕ) (n : DiagramId) → Stands table g n → IsNumber s n.n
 
 -- the table has a diagram that agrees with the gate that the operand names
 pub record IsReady (trees : List NumberedTree) (gates : List Gate) (table : List DiagramId) (s : Stored) (o : Operand)

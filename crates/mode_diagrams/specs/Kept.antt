@@ -4,7 +4,7 @@ use Rattle.std.specs.Map.{lookup}
 use Rattle.ar_base.specs.Lists.{Stands}
 use Rattle.zdd_nodes.specs.Nodes.{NodeId, Stored, family, IsNumber}
 use Rattle.mode_nodes.specs.Diagrams as modes
-use Rattle.mode_diagrams.specs.declared.trees.NumberedTree.{NumberedTree}
+use Rattle.diagram_steps.specs.declared.trees.NumberedTree.{NumberedTree}
 use Rattle.mode_diagrams.specs.declared.held.State.{State}
 use Rattle.mode_diagrams.specs.Sets.{HasSets, IsTrueFrom}
 

@@ -7,11 +7,11 @@ use Rattle.eq_core.specs.Gates.{Operand, EventIs, Gate}
 use Rattle.mode_nodes.specs.Diagrams.{Stored}
 use Rattle.mode_nodes.specs.declared.store.DiagramFault.{DiagramFault}
 use Rattle.mode_nodes.specs.declared.store.DiagramFault.TheVariants as fault
+use Rattle.diagram_steps.specs.declared.trees.NumberedEdge.{NumberedEdge}
+use Rattle.diagram_steps.specs.declared.trees.NumberedTree.{NumberedTree}
+use Rattle.diagram_steps.specs.Trees.{HasEvent}
 use Rattle.mode_diagrams.specs.declared.drawing.Undrawn.{Undrawn}
 use Rattle.mode_diagrams.specs.declared.drawing.Undrawn.TheVariants as undrawn
-use Rattle.mode_diagrams.specs.declared.trees.NumberedEdge.{NumberedEdge}
-use Rattle.mode_diagrams.specs.declared.trees.NumberedTree.{NumberedTree}
-use Rattle.mode_diagrams.specs.Trees.{HasEvent}
 
 -- whether two events are one
 abbrev pub same_event : EventId → EventId → Bool

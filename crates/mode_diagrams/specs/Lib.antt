@@ -2,6 +2,5 @@ pub mod Agreement
 pub mod Kept
 pub mod Lacking
 pub mod Numbers
-pub mod Order
 pub mod Sets
 pub mod Trees

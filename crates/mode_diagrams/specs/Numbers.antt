@@ -6,10 +6,11 @@ use Rattle.domains.specs.declared.Value.{Value}
 use Rattle.ar_firing.specs.Forest.{Row, ModeTree}
 use Rattle.ar_firing.specs.Trees.{AreTrees}
 use Rattle.firable_families.specs.Firable.{IsFirableOf}
-use Rattle.mode_diagrams.specs.declared.trees.NumberedEdge.{NumberedEdge}
-use Rattle.mode_diagrams.specs.declared.trees.NumberedTree.{NumberedTree}
-use Rattle.mode_diagrams.specs.Order.{Ascend}
-use Rattle.mode_diagrams.specs.Trees.{edges_of, AreNumbered, AreApart, IsSetFrom}
+use Rattle.diagram_steps.specs.declared.trees.NumberedEdge.{NumberedEdge}
+use Rattle.diagram_steps.specs.declared.trees.NumberedTree.{NumberedTree}
+use Rattle.diagram_steps.specs.Order.{Ascend}
+use Rattle.diagram_steps.specs.Trees.{edges_of}
+use Rattle.mode_diagrams.specs.Trees.{AreNumbered, AreApart, IsSetFrom}
 
 -- a tree's modes by number: its first is 0, and then come those that its edges enter
 abbrev pub modes_in : ModeTree → List Value

@@ -1,36 +1,22 @@
 -- Families by their sets, and sets with more events.
-use Rattle.std.specs.Prelude.{◌≡◌, ◌↔◌, ◌⊎◌, ◌≤◌, ◌<◌, ℕ, true, cond, eqb, nat_lt, List, [], ◌∷◌, length}
+use Rattle.std.specs.Prelude.{◌≡◌, ◌↔◌, ◌⊎◌, ◌≤◌, ◌<◌, ℕ, true, List, length}
 use Rattle.ar_base.specs.Lists.{Stands, IsOneOf}
 use Rattle.ar_base.specs.Sets.{Within}
 use Rattle.zdd_families.specs.Families.{Family, has}
-use Rattle.zdd_nodes.specs.Nodes as nodes
 use Rattle.mode_nodes.specs.Diagrams.{Stored, mode_of, value}
-use Rattle.mode_diagrams.specs.declared.trees.NumberedEdge.{NumberedEdge}
-use Rattle.mode_diagrams.specs.declared.trees.NumberedTree.{NumberedTree}
-use Rattle.mode_diagrams.specs.Trees.{edges_of, IsOnPath, IsSetFrom}
+use Rattle.diagram_steps.specs.declared.trees.NumberedEdge.{NumberedEdge}
+use Rattle.diagram_steps.specs.declared.trees.NumberedTree.{NumberedTree}
+use Rattle.diagram_steps.specs.Trees.{edges_of}
+use Rattle.mode_diagrams.specs.Trees.{IsOnPath, IsSetFrom}
 
 -- no tree has more edges than there are numbers for its modes
 pub record AreSmall (trees : List NumberedTree) : Type 0 where
   pub each : (k : ℕ) (tree : NumberedTree) → Stands trees k tree → length (edges_of tree) ≤ 4294967294
 
--- families were added, whichever they are, and nothing else changed
-abbrev pub Extends : nodes.Stored → nodes.Stored → Type 0
-Extends old new = nodes.Grows (λ h. Unit {0}) old new
-
 -- the family has the sets with P, in order, and no other
 pub record HasSets (P : List ℕ → Type 0) (f : Family) : Type 0 where
   pub sound : (s : List ℕ) → has f s ≡ true → P s
   pub whole : (s : List ℕ) → P s → (t : List ℕ) × (has f t ≡ true) × Within s t × Within t s
-
--- the ascending set with the event put in its place
-abbrev pub put_in : ℕ → List ℕ → List ℕ
-put_in e [] = e ∷ []
-put_in e (x ∷ s) = cond (eqb e x) (x ∷ s) (cond (nat_lt e x) (e ∷ x ∷ s) (x ∷ put_in e s))
-
--- g has the sets of f, each with the event put in its place, and no other
-pub record HasWith (e : ℕ) (f g : Family) : Type 0 where
-  pub sound : (t : List ℕ) → has g t ≡ true → (s : List ℕ) × (has f s ≡ true) × (t ≡ put_in e s)
-  pub whole : (s : List ℕ) → has f s ≡ true → has g (put_in e s) ≡ true
 
 -- the members of t are the events on the path to mode m and the members of s
 pub record IsWithPath (edges : List NumberedEdge) (m : ℕ) (s t : List ℕ) : Type 0 where

@@ -2,12 +2,9 @@
 use Rattle.std.specs.Prelude.{◌≡◌, ℕ, suc, ◌≤◌, List, length}
 use Rattle.ar_base.specs.Lists.{Stands, IsOneOf}
 use Rattle.mode_nodes.specs.Diagrams.{mode_of}
-use Rattle.mode_diagrams.specs.declared.trees.NumberedEdge.{NumberedEdge}
-use Rattle.mode_diagrams.specs.declared.trees.NumberedTree.{NumberedTree}
-
--- the edges of a tree
-abbrev pub edges_of : NumberedTree → List NumberedEdge
-edges_of tree = tree.edges.items
+use Rattle.diagram_steps.specs.declared.trees.NumberedEdge.{NumberedEdge}
+use Rattle.diagram_steps.specs.declared.trees.NumberedTree.{NumberedTree}
+use Rattle.diagram_steps.specs.Trees.{edges_of, HasEvent}
 
 -- the event is on the path to mode n: it is that of the edge that enters the mode, or on the path to the mode that this
 -- edge leaves; no event is on the path to mode 0
@@ -23,12 +20,6 @@ pub record IsNumbered (tree : NumberedTree) : Type 0 where
 -- the same of each tree
 pub record AreNumbered (trees : List NumberedTree) : Type 0 where
   pub each : (k : ℕ) (tree : NumberedTree) → Stands trees k tree → IsNumbered tree
-
--- an edge of the tree is one of the event
-pub record HasEvent (tree : NumberedTree) (e : ℕ) : Type 0 where
-  pub edge : NumberedEdge
-  pub one : IsOneOf (edges_of tree) edge
-  pub is : edge.event.n ≡ e
 
 -- no event has edges in two of the trees
 pub record AreApart (trees : List NumberedTree) : Type 0 where

@@ -11,8 +11,8 @@ ghost use Rattle.mode_diagrams.specs.Sets.{AreSmall};
 
 use crate::events::places;
 use crate::gates::{gate_diagram, operand_diagram};
-use crate::trees::NumberedTree;
 use ar_base::Memory;
+use diagram_steps::NumberedTree;
 use eq_core::{Gate, Operand};
 use mode_nodes::{DiagramFault, DiagramId, Diagrams};
 use std::alloc::{AllocFailed, Global};

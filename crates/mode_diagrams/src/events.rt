@@ -9,8 +9,8 @@ ghost use Rattle.mode_diagrams.specs.Lacking.{ArePlaced, Puts, HasNoTree, IsFull
 ghost use Rattle.mode_diagrams.specs.Sets.{AreSmall};
 
 use crate::drawing::Undrawn;
-use crate::trees::{NumberedEdge, NumberedTree};
 use ar_base::{EventId, Memory};
+use diagram_steps::{NumberedEdge, NumberedTree};
 use mode_nodes::{DiagramId, Diagrams};
 use std::alloc::Global;
 use std::collections::HashMap;

@@ -6,31 +6,18 @@ ghost use Rattle.eq_core.specs.Ordered.{AreBelow};
 ghost use Rattle.eq_core.specs.Values.{IsBelow};
 ghost use Rattle.eq_core.specs.Views.{all_needed, gate_of, operand_of};
 ghost use Rattle.mode_nodes.specs.Diagrams.{IsNumber, Grows};
+ghost use Rattle.diagram_steps.specs.Joints.{AreTabled};
 ghost use Rattle.mode_diagrams.specs.Trees.{AreNumbered, AreApart};
-ghost use Rattle.mode_diagrams.specs.Agreement.{Agrees, AgreesJoint, IsSigned, IsReady, AreReady, AreTabled};
+ghost use Rattle.mode_diagrams.specs.Agreement.{Agrees, AgreesJoint, IsReady, AreReady};
 ghost use Rattle.mode_diagrams.specs.Lacking.{ArePlaced, IsFull, Lacks, LacksOne};
 ghost use Rattle.mode_diagrams.specs.Sets.{AreSmall};
 
 use crate::drawing::Undrawn;
 use crate::events::{TreePlaces, event_diagram};
-use crate::trees::NumberedTree;
+use diagram_steps::{NumberedTree, joined, signed};
 use eq_core::{Gate, Joint, Operand};
 use mode_nodes::{DiagramId, Diagrams};
 use std::alloc::Global;
-
-// The opposite, where the sign asks for it.
-fn signed(store: &mut Diagrams, plain: DiagramId, sign: bool) -> Result<DiagramId, Undrawn>
-    requires { IsNumber store.old plain.n }
-    ensures grows { Grows store.old store.new }
-    ensures signed { IfOk result (λ n. IsSigned store.old plain.n sign store.new n.n) }
-    ensures beyond { result ≡ Err Undrawn.Beyond → IsFull store.new }
-{
-    if sign {
-        return Ok(plain);
-    }
-    let drawn = store.not(plain)?;
-    Ok(drawn)
-}
 
 /// The diagram of an operand, where the table has the diagrams of the gates that it may name.
 pub(crate) fn operand_diagram(
@@ -61,17 +48,16 @@ pub(crate) fn operand_diagram(
         Operand::Never => Ok(DiagramId::new(0)),
         Operand::Event(event, sign) => {
             let plain = event_diagram(alloc, store, trees, places, event)?;
-            signed(store, plain, sign)
+            Ok(signed(store, plain, sign)?)
         }
         Operand::Gate(gate, sign) => {
             let plain = table[gate.n as usize];
-            signed(store, plain, sign)
+            Ok(signed(store, plain, sign)?)
         }
     }
 }
 
-/// The diagram of a gate that is marked, else false: its operands are joined from the last to the first, so that neighbours
-/// meet where the trees of the first are not yet asked for.
+/// The diagram of a gate that is marked, else false.
 pub(crate) fn gate_diagram(
     alloc: Global,
     store: &mut Diagrams,
@@ -101,18 +87,10 @@ pub(crate) fn gate_diagram(
     if !marked {
         return Ok(DiagramId::new(0));
     }
-    let mut so_far = match gate.joint {
-        Joint::And => DiagramId::new(1),
-        Joint::Or => DiagramId::new(0),
-    };
-    let mut left = gate.operands.len();
-    while left > 0 {
-        left -= 1;
-        let next = operand_diagram(alloc, store, trees, places, table, gate.operands[left])?;
-        so_far = match gate.joint {
-            Joint::And => store.and(next, so_far)?,
-            Joint::Or => store.or(next, so_far)?,
-        };
+    let mut parts = Vec::new(alloc);
+    for operand in &gate.operands {
+        let part = operand_diagram(alloc, store, trees, places, table, *operand)?;
+        parts.push(part)?;
     }
-    Ok(so_far)
+    Ok(joined(store, gate.joint == Joint::And, &parts)?)
 }

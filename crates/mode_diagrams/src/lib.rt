@@ -14,14 +14,10 @@ mod gates;
 mod held;
 mod listing;
 mod numbering;
-mod ordering;
 mod paths;
-mod trees;
 
 pub use copies::copied;
 pub use drawing::{Undrawn, draw};
 pub use firable_sets::firable_by_modes;
 pub use listing::{Listed, list_sets};
 pub use numbering::numbered;
-pub use ordering::in_order;
-pub use trees::{NumberedEdge, NumberedTree};

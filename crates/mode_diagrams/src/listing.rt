@@ -3,15 +3,16 @@
 ghost use Rattle.std.specs.Prelude.{◌≤◌, ◌+◌, ◌<◌, IfOk, length};
 ghost use Rattle.zdd_nodes.specs.Nodes.{family, IsNumber, IsSoundStore};
 ghost use Rattle.mode_nodes.specs.Diagrams.{IsNumber as IsDiagramNumber, IsFrom};
+ghost use Rattle.diagram_steps.specs.Putting.{Extends};
 ghost use Rattle.mode_diagrams.specs.Trees.{AreNumbered};
-ghost use Rattle.mode_diagrams.specs.Sets.{AreSmall, Extends, HasSets, IsTrueFrom};
+ghost use Rattle.mode_diagrams.specs.Sets.{AreSmall, HasSets, IsTrueFrom};
 ghost use Rattle.mode_diagrams.specs.Kept.{AreHeld};
 
-use crate::NumberedTree;
 use crate::drawing::Undrawn;
 use crate::held::{Held, State};
 use crate::paths::with_path;
 use ar_base::MOST_NODES;
+use diagram_steps::NumberedTree;
 use mode_nodes::{DiagramId, Diagrams};
 use std::alloc::Global;
 use zdd_nodes::{NodeFault, NodeId, Store};

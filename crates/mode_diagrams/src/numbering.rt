@@ -6,8 +6,8 @@ ghost use Rattle.ar_firing.specs.Trees.{IsTree, AreTrees};
 ghost use Rattle.mode_trees.specs.Views.{tree_of};
 ghost use Rattle.mode_diagrams.specs.Numbers.{AreNumbersOf, HasFewEdges, HasWideTree, IsWide, IsNumberOf, IsModeNumber, IsEnteredBefore};
 
-use crate::{NumberedEdge, NumberedTree};
 use ar_base::Memory;
+use diagram_steps::{NumberedEdge, NumberedTree};
 use domains::Value;
 use mode_trees::ModeTree;
 use std::alloc::Global;

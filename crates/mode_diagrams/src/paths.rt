@@ -1,40 +1,15 @@
 //! The events of a path in front of the sets of a family.
 
-ghost use Rattle.std.specs.Prelude.{◌≡◌, ◌≤◌, IfOk, length};
+ghost use Rattle.std.specs.Prelude.{◌≤◌, IfOk, length};
 ghost use Rattle.zdd_nodes.specs.Nodes.{family, IsNumber};
-ghost use Rattle.mode_diagrams.specs.Trees.{edges_of, IsNumbered};
-ghost use Rattle.mode_diagrams.specs.Sets.{Extends, HasWith, HasPath};
+ghost use Rattle.diagram_steps.specs.Trees.{edges_of};
+ghost use Rattle.diagram_steps.specs.Putting.{Extends};
+ghost use Rattle.mode_diagrams.specs.Trees.{IsNumbered};
+ghost use Rattle.mode_diagrams.specs.Sets.{HasPath};
 
-use crate::NumberedTree;
-use ar_base::EventId;
+use diagram_steps::{NumberedTree, with_event};
 use zdd_nodes::{NodeFault, NodeId};
 use zdd_ops::Ops;
-
-/// The family of the sets, each with the event.
-fn with_event(ops: &mut Ops, sets: NodeId, event: EventId) -> Result<NodeId, NodeFault>
-    requires { IsNumber ops.old sets.n }
-    ensures grows { Extends ops.old ops.new }
-    ensures in_store { IfOk result (λ n. IsNumber ops.new n.n) }
-    ensures sets { IfOk result (λ n. HasWith event.n (family ops.old sets.n) (family ops.new n.n)) }
-{
-    let none = NodeId::new(0);
-    let Some((first, lo, hi)) = ops.store().split(sets) else {
-        if sets.n == 0 {
-            return Ok(sets);
-        }
-        return ops.node(event, none, sets);
-    };
-    if event.n < first.n {
-        return ops.node(event, none, sets);
-    }
-    if event.n == first.n {
-        let both = ops.union(lo, hi)?;
-        return ops.node(event, none, both);
-    }
-    let lower = with_event(ops, lo, event)?;
-    let upper = with_event(ops, hi, event)?;
-    ops.node(first, lower, upper)
-}
 
 /// The family of the sets, each with the events on the path to the mode.
 pub(crate) fn with_path(

@@ -6,7 +6,7 @@ use Rattle.ar_firing.specs.Trees.{AreTrees}
 use Rattle.mode_trees.specs.Views.{tree_of, trees_of}
 use Rattle.mode_diagrams.specs.Trees.{AreNumbered, AreApart}
 use Rattle.mode_diagrams.specs.Numbers.{AreNumbersOf, HasFewEdges, IsByModes}
-use Rattle.mode_diagrams.specs.Order.{Ascend}
+use Rattle.diagram_steps.specs.Order.{Ascend}
 use Rattle.mode_diagrams.proofs.Arranging.{firable_by_modes}
 use Rattle.gate_diagrams.proofs.by_modes.by_modes.Goals as goal
 

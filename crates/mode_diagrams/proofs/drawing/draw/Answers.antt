@@ -9,7 +9,8 @@ use Rattle.eq_core.specs.Ordered.{AreBelow}
 use Rattle.eq_core.specs.Values.{IsBelow}
 use Rattle.eq_core.specs.Views.{gate_of, operand_of}
 use Rattle.eq_core.proofs.Telling.{place_below}
-use Rattle.mode_diagrams.specs.Agreement.{IsReady, AreReady, AreTabled}
+use Rattle.diagram_steps.specs.Joints.{AreTabled}
+use Rattle.mode_diagrams.specs.Agreement.{IsReady, AreReady}
 use Rattle.mode_diagrams.specs.Lacking.LacksSome.{own, named}
 use Rattle.mode_diagrams.proofs.Placing.{gates_none, gates_more, some_lacks}
 use Rattle.mode_diagrams.proofs.Tabling.{IsDrawing, drawing_begins, gate_ready, root_ready, drawing_next}

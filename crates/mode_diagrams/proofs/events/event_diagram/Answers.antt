@@ -3,8 +3,8 @@ use Rattle.std.proofs.lemmas.Option.{slice_get_read}
 use Rattle.ar_base.specs.Lists.{Stands}
 use Rattle.ar_base.proofs.Standing.{stands_one, stands_within}
 use Rattle.mode_nodes.specs.Diagrams.{choice}
-use Rattle.mode_diagrams.specs.declared.trees.NumberedTree.{NumberedTree}
-use Rattle.mode_diagrams.specs.Trees.{HasEvent}
+use Rattle.diagram_steps.specs.declared.trees.NumberedTree.{NumberedTree}
+use Rattle.diagram_steps.specs.Trees.{HasEvent}
 use Rattle.mode_diagrams.specs.Lacking.{place_of}
 use Rattle.mode_diagrams.proofs.Laws.{told_agrees, choice_tells}
 use Rattle.mode_diagrams.proofs.events.event_diagram.Goals as goal

@@ -1,6 +1,6 @@
 use Rattle.std.proofs.Common.{get_or, take, sym, subst}
 use Rattle.std.proofs.lemmas.List.{take_more}
-use Rattle.mode_diagrams.specs.declared.trees.NumberedEdge.{NumberedEdge}
+use Rattle.diagram_steps.specs.declared.trees.NumberedEdge.{NumberedEdge}
 use Rattle.mode_diagrams.specs.Lacking.{Puts}
 use Rattle.mode_diagrams.proofs.Placing.{puts_none, puts_more}
 use Rattle.mode_diagrams.proofs.events.put_all.Goals as goal

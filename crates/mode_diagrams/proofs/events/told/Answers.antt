@@ -3,8 +3,8 @@ use Rattle.std.proofs.lemmas.Option.{slice_get_read}
 use Rattle.ar_base.specs.Lists.{Stands}
 use Rattle.ar_base.proofs.Standing.{stands_get}
 use Rattle.mode_nodes.specs.Diagrams.{DiagramId}
-use Rattle.mode_diagrams.specs.declared.trees.NumberedEdge.{NumberedEdge}
-use Rattle.mode_diagrams.specs.Trees.{edges_of}
+use Rattle.diagram_steps.specs.declared.trees.NumberedEdge.{NumberedEdge}
+use Rattle.diagram_steps.specs.Trees.{edges_of}
 use Rattle.mode_diagrams.specs.Agreement.{IsToldAt}
 use Rattle.mode_diagrams.proofs.Laws.{IsSoFar, so_far_first, so_far_more, so_far_all}
 use Rattle.mode_diagrams.proofs.events.told.Goals as goal

@@ -1,15 +1,11 @@
-use Rattle.std.proofs.Common.{map}
-use Rattle.eq_core.specs.Views.{all_needed, operand_of}
-use Rattle.mode_diagrams.proofs.Folding.{IsFolded}
-use Rattle.mode_diagrams.proofs.Placing.{NoneLacks}
+use Rattle.std.proofs.Common.{◌≡◌, length, map}
+use Rattle.eq_core.specs.Views.{operand_of}
+use Rattle.mode_diagrams.proofs.Joining.{AreDrawn}
 use Rattle.mode_diagrams.proofs.gates.gate_diagram.Given as goal
 
-abbrev pub invariant-loop-left : goal.invariant-loop-left
-invariant-loop-left l = record {
-  folded : IsFolded l.fn.trees l.fn.table l.fn.store (all_needed l.fn.gate.joint) (map operand_of l.fn.gate.operands.items)
-      l.left l.store l.so_far.n;
-  known : NoneLacks l.fn.trees (map operand_of l.fn.gate.operands.items) l.left;
+-- the operands so far have their diagrams
+abbrev pub invariant-loop-operand : goal.invariant-loop-operand
+invariant-loop-operand l = record {
+  long : length l.parts.items ≡ l.operand-index;
+  drawn : AreDrawn l.fn.trees l.fn.table l.fn.store (map operand_of l.fn.gate.operands.items) l.parts.items l.store;
 }
-
-abbrev pub decreases-loop-left : goal.decreases-loop-left
-decreases-loop-left l = l.left

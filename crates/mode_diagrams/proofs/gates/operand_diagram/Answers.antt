@@ -1,6 +1,5 @@
 use Rattle.std.proofs.Common.{◌<◌, ⊎_elim, inl, inr, Err, [], length, get_or, sym, ap, ◌∙◌, subst}
 use Rattle.std.proofs.lemmas.Result.{err_from_is_err_and}
-use Rattle.ar_base.proofs.Results.{ok_map}
 use Rattle.ar_base.proofs.Standing.{stands_get}
 use Rattle.eq_core.specs.Values.{IsBelow}
 use Rattle.eq_core.specs.Views.{operand_of}
@@ -26,17 +25,13 @@ returns-in-Never-clause-agrees c = λ gates ready.
 pub signed-requires : goal.signed-requires
 signed-requires c = (c.in_ok-plain-in-Event.ensures.agrees []).number
 
-pub returns-in_ok-plain-in-Event-clause-agrees : goal.returns-in_ok-plain-in-Event-clause-agrees
-returns-in_ok-plain-in-Event-clause-agrees c =
-    ok_map c.signed.result
-    (λ n i. λ gates ready.
-    subst (λ o. Agrees c.args.trees.now gates (operand_of o) c.signed.new.store n.n) (sym c.in-Event.is)
+pub returns-in_ok-signed-in-Event-clause-agrees : goal.returns-in_ok-signed-in-Event-clause-agrees
+returns-in_ok-signed-in-Event-clause-agrees c = λ gates ready.
+    subst (λ o. Agrees c.args.trees.now gates (operand_of o) c.signed.new.store c.in_ok-signed-in-Event.field-0.n)
+    (sym c.in-Event.is)
     (agrees_event c.args.trees.now gates c.in-Event.event.n c.in-Event.sign c.event_diagram.new.store c.signed.new.store
-    c.in_ok-plain-in-Event.plain.n n.n (c.in_ok-plain-in-Event.ensures.agrees gates) i))
-    c.signed.ensures.signed
-
-pub returns-in_ok-plain-in-Event-clause-number : goal.returns-in_ok-plain-in-Event-clause-number
-returns-in_ok-plain-in-Event-clause-number c = ok_map c.signed.result (λ n i. i.number) c.signed.ensures.signed
+    c.in_ok-plain-in-Event.plain.n c.in_ok-signed-in-Event.field-0.n (c.in_ok-plain-in-Event.ensures.agrees gates)
+    c.in_ok-signed-in-Event.ensures.signed)
 
 pub signed-requires-in-Gate : goal.signed-requires-in-Gate
 signed-requires-in-Gate c =
@@ -45,23 +40,19 @@ signed-requires-in-Gate c =
     subst (λ o. IsBelow (length c.args.table.now) (operand_of o)) c.in-Gate.is c.requires.below in
     c.requires.table.each g (get_or c.args.table.now g false_number) (stands_get c.args.table.now g false_number inside)
 
-pub returns-in-Gate-clause-agrees : goal.returns-in-Gate-clause-agrees
-returns-in-Gate-clause-agrees c =
+pub returns-in_ok-signed-in-Gate-clause-agrees : goal.returns-in_ok-signed-in-Gate-clause-agrees
+returns-in_ok-signed-in-Gate-clause-agrees c = λ gates ready.
     let g = c.in-Gate.gate.n in
     let table = c.args.table.now in
     let inside : g < length table =
     subst (λ o. IsBelow (length table) (operand_of o)) c.in-Gate.is c.requires.below in
     let at = stands_get table g false_number inside in
-    ok_map c.signed-in-Gate.result
-    (λ n i. λ gates ready.
-    subst (λ o. Agrees c.args.trees.now gates (operand_of o) c.signed-in-Gate.new.store n.n) (sym c.in-Gate.is)
+    subst (λ o. Agrees c.args.trees.now gates (operand_of o) c.signed-in-Gate.new.store c.in_ok-signed-in-Gate.field-0.n)
+    (sym c.in-Gate.is)
     (agrees_gate c.args.trees.now gates g c.in-Gate.sign c.args.store.now c.signed-in-Gate.new.store
-    (get_or table g false_number).n n.n
-    (ready.gate g c.in-Gate.sign (get_or table g false_number) (ap operand_of c.in-Gate.is) at) i))
-    c.signed-in-Gate.ensures.signed
-
-pub returns-in-Gate-clause-number : goal.returns-in-Gate-clause-number
-returns-in-Gate-clause-number c = ok_map c.signed-in-Gate.result (λ n i. i.number) c.signed-in-Gate.ensures.signed
+    (get_or table g false_number).n c.in_ok-signed-in-Gate.field-0.n
+    (ready.gate g c.in-Gate.sign (get_or table g false_number) (ap operand_of c.in-Gate.is) at)
+    c.in_ok-signed-in-Gate.ensures.signed)
 
 pub returns-in-Always-clause-known : goal.returns-in-Always-clause-known
 returns-in-Always-clause-known c = λ l. let w = sym (ap operand_of c.in-Always.is) ∙ l.is in let x : ⊥ = cc in x
@@ -82,19 +73,11 @@ returns-in_err-plain-in-Event-clause-beyond c = λ e.
     }))
     (c.in_err-plain-in-Event.ensures.beyond (ap Err (sym p.2) ∙ sym p.1 ∙ e))
 
-pub returns-in_ok-plain-in-Event-clause-beyond : goal.returns-in_ok-plain-in-Event-clause-beyond
-returns-in_ok-plain-in-Event-clause-beyond c = λ e. inl (c.signed.ensures.beyond e)
+pub returns-in_ok-signed-in-Event-clause-known : goal.returns-in_ok-signed-in-Event-clause-known
+returns-in_ok-signed-in-Event-clause-known c =
+    lacks_event c.args.trees.now (operand_of c.args.operand) c.in-Event.event.n c.in-Event.sign
+    (ap operand_of c.in-Event.is) c.in_ok-plain-in-Event.ensures.known
 
-pub returns-in_ok-plain-in-Event-clause-known : goal.returns-in_ok-plain-in-Event-clause-known
-returns-in_ok-plain-in-Event-clause-known c = ok_map c.signed.result
-    (λ n i. lacks_event c.args.trees.now (operand_of c.args.operand) c.in-Event.event.n c.in-Event.sign
-    (ap operand_of c.in-Event.is) c.in_ok-plain-in-Event.ensures.known)
-    c.signed.ensures.signed
-
-pub returns-in-Gate-clause-beyond : goal.returns-in-Gate-clause-beyond
-returns-in-Gate-clause-beyond c = λ e. inl (c.signed-in-Gate.ensures.beyond e)
-
-pub returns-in-Gate-clause-known : goal.returns-in-Gate-clause-known
-returns-in-Gate-clause-known c = ok_map c.signed-in-Gate.result
-    (λ n i. λ l. let w = sym (ap operand_of c.in-Gate.is) ∙ l.is in let x : ⊥ = cc in x)
-    c.signed-in-Gate.ensures.signed
+pub returns-in_ok-signed-in-Gate-clause-known : goal.returns-in_ok-signed-in-Gate-clause-known
+returns-in_ok-signed-in-Gate-clause-known c = λ l.
+    let w = sym (ap operand_of c.in-Gate.is) ∙ l.is in let x : ⊥ = cc in x

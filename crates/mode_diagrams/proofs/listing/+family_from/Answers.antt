@@ -2,10 +2,10 @@ use Rattle.std.proofs.Common.{◌≡◌, ◌≤◌, ◌<◌, ◌+◌, length, re
 use Rattle.std.proofs.lemmas.Option.{slice_get_read}
 use Rattle.ar_base.specs.Lists.{Stands}
 use Rattle.zdd_nodes.specs.Nodes.{family}
-use Rattle.mode_diagrams.specs.Trees.{edges_of}
+use Rattle.diagram_steps.specs.Trees.{edges_of}
+use Rattle.diagram_steps.proofs.Growing.{extends_none, extends_then, extends_by, kept}
 use Rattle.mode_diagrams.specs.Sets.{HasSets, IsTrueFrom, IsTrueBelow}
 use Rattle.mode_diagrams.specs.declared.held.State.{State}
-use Rattle.mode_diagrams.proofs.Growing.{extends_none, extends_then, extends_by, kept}
 use Rattle.mode_diagrams.proofs.Holding.{held_grow, held_more, handed_sets}
 use Rattle.mode_diagrams.proofs.Stepping.{step, below_none, below_more, below_all, no_tree, never, unit_family, from_truth}
 use Rattle.mode_diagrams.proofs.listing.+family_from.Goals as goal

@@ -1,6 +1,7 @@
 use Rattle.std.proofs.Common.{◌-◌, length}
 use Rattle.zdd_nodes.specs.Nodes.{family, IsNumber}
-use Rattle.mode_diagrams.specs.Sets.{Extends, HasSets, IsTrueBelow}
+use Rattle.diagram_steps.specs.Putting.{Extends}
+use Rattle.mode_diagrams.specs.Sets.{HasSets, IsTrueBelow}
 use Rattle.mode_diagrams.specs.Kept.{AreHeld}
 use Rattle.mode_diagrams.proofs.listing.+family_from.Given as goal
 

@@ -3,8 +3,8 @@ use Rattle.std.proofs.lemmas.Option.{slice_get_read}
 use Rattle.ar_base.specs.Lists.{Stands}
 use Rattle.ar_base.proofs.Results.{ok_map}
 use Rattle.zdd_nodes.specs.Nodes.{family}
-use Rattle.mode_diagrams.specs.Trees.{edges_of}
-use Rattle.mode_diagrams.proofs.Growing.{extends_none, extends_then}
+use Rattle.diagram_steps.specs.Trees.{edges_of}
+use Rattle.diagram_steps.proofs.Growing.{extends_none, extends_then}
 use Rattle.mode_diagrams.proofs.Pathing.{path_none, path_more}
 use Rattle.mode_diagrams.proofs.paths.+with_path.Goals as goal
 

@@ -1,0 +1,4 @@
+pub mod Folding
+pub mod Growing
+pub mod PutIn
+pub mod TreeOrder

@@ -1,0 +1,24 @@
+-- Diagrams that are made of others.
+use Rattle.std.specs.Prelude.{◌≡◌, ℕ, Bool, true, false, cond, not, ◌&&◌, ◌||◌, List, [], ◌∷◌}
+use Rattle.ar_base.specs.Lists.{Stands}
+use Rattle.mode_nodes.specs.Diagrams.{DiagramId, Stored, value, IsNumber}
+
+-- r is n, or its opposite where the sign is false
+pub record IsSigned (s : Stored) (n : ℕ) (sign : Bool) (t : Stored) (r : ℕ) : Type 0 where
+  pub number : IsNumber t r
+  pub same : (modes : List ℕ) → value t modes r ≡ cond sign (value s modes n) (not (value s modes n))
+
+-- the table has numbers of the store
+pub record AreTabled (table : List DiagramId) (s : Stored) : Type 0 where
+  pub each : (g : ℕ) (n : DiagramId) → Stands table g n → IsNumber s n.n
+
+-- whether all of these diagrams are true at the modes, or, where not all are needed, whether one is
+abbrev pub joint_value : Bool → Stored → List ℕ → List DiagramId → Bool
+joint_value all s modes [] = all
+joint_value true s modes (n ∷ ns) = value s modes n.n && joint_value true s modes ns
+joint_value false s modes (n ∷ ns) = value s modes n.n || joint_value false s modes ns
+
+-- r has these values of these diagrams
+pub record IsJoint (all : Bool) (s : Stored) (ns : List DiagramId) (t : Stored) (r : ℕ) : Type 0 where
+  pub number : IsNumber t r
+  pub same : (modes : List ℕ) → value t modes r ≡ joint_value all s modes ns

@@ -1,0 +1,4 @@
+pub mod Joints
+pub mod Order
+pub mod Putting
+pub mod Trees

@@ -1,0 +1,106 @@
+-- The operands of a gate with their diagrams, one after the other, and the joint of these.
+use Rattle.std.proofs.Common.{◌≡◌, ◌⊎◌, ⊎_elim, inl, inr, ℕ, zero, suc, ◌+◌, ◌<◌, Bool, true, false, ◌&&◌, ◌||◌, List, [], ◌∷◌, ◌++◌, length, length-append, refl, sym, ap₂, ◌∙◌, subst, arith}
+use Rattle.std.proofs.lemmas.Bool.{cases_eq}
+use Rattle.ar_base.specs.Lists.{Stands}
+use Rattle.ar_base.proofs.Standing.{stands_one, stands_none, stands_split, stands_within}
+use Rattle.eq_core.specs.Gates.{Operand, Gate}
+use Rattle.eq_core.specs.Values.{operand_at, joint_at, values_at}
+use Rattle.mode_nodes.specs.Diagrams.{DiagramId, Stored, value, IsNumber, Grows}
+use Rattle.mode_nodes.proofs.Growing.{Grows-none, Grows-then}
+use Rattle.diagram_steps.specs.declared.trees.NumberedTree.{NumberedTree}
+use Rattle.diagram_steps.specs.Joints.{joint_value, AreTabled, IsJoint}
+use Rattle.mode_diagrams.specs.Agreement.{Agrees, AgreesJoint, IsReady, AreReady}
+use Rattle.mode_diagrams.specs.Lacking.{Lacks, LacksOne}
+use Rattle.mode_diagrams.proofs.Laws.{agrees_kept, ready_kept, tabled_kept}
+
+-- the first operands have these diagrams, and none of them is an event without a tree
+pub record AreDrawn (trees : List NumberedTree) (table : List DiagramId) (old : Stored) (os : List Operand)
+    (ns : List DiagramId) (s : Stored) : Type 0 where
+  pub grows : Grows old s
+  pub numbers : AreTabled ns s
+  pub agrees : (gates : List Gate) (k : ℕ) (o : Operand) (n : DiagramId) → Stands os k o → Stands ns k n
+      → IsReady trees gates table old o → Agrees trees gates o s n.n
+  pub known : (k : ℕ) (o : Operand) → k < length ns → Stands os k o → Lacks trees o → ⊥
+
+pub drawn_none : (trees : List NumberedTree) (table : List DiagramId) (s : Stored) (os : List Operand)
+    → AreDrawn trees table s os [] s
+drawn_none trees table s os = record {
+  grows = Grows-none s;
+  numbers = record { each = λ k n st. absurd (stands_none k n st) };
+  agrees = λ gates k o n so st. absurd (stands_none k n st);
+  known = λ k o h st l. omega (arith, h);
+}
+
+pub drawn_more : (trees : List NumberedTree) (table : List DiagramId) (old : Stored) (os : List Operand)
+    (ns : List DiagramId) (s t : Stored) (o : Operand) (n : DiagramId) → Stands os (length ns) o
+    → AreDrawn trees table old os ns s → Grows s t → IsNumber t n.n
+    → ((gates : List Gate) → IsReady trees gates table s o → Agrees trees gates o t n.n) → (Lacks trees o → ⊥)
+    → AreDrawn trees table old os (ns ++ n ∷ []) t
+drawn_more trees table old os ns s t o n so d g number agrees known = record {
+  grows = Grows-then old s t d.grows g;
+  numbers = record {
+    each = λ k m st. ⊎_elim
+        (λ a. (tabled_kept ns s t g d.numbers).each k m a)
+        (λ b. at_end k m b.0 b.1 b.2)
+        (stands_split ns (n ∷ []) k m st);
+  };
+  agrees = λ gates k p m sp st ready. ⊎_elim
+      (λ a. agrees_kept trees gates p s t m.n g (d.agrees gates k p m sp a ready))
+      (λ b. last gates k p m sp ready b.0 b.1 b.2)
+      (stands_split ns (n ∷ []) k m st);
+  known = λ k p h sp l. none k p h sp l;
+}
+  where
+    at_end : (k : ℕ) (m : DiagramId) (j : ℕ) → k ≡ length ns + j → Stands (n ∷ []) j m → IsNumber t m.n
+    at_end k m zero e st = let same : n ≡ m = cc in subst (λ (x : DiagramId). IsNumber t x.n) same number
+    at_end k m (suc j) e st = absurd (stands_none j m st)
+
+    last : (gates : List Gate) (k : ℕ) (p : Operand) (m : DiagramId) → Stands os k p → IsReady trees gates table old p
+        → (j : ℕ) → k ≡ length ns + j → Stands (n ∷ []) j m → Agrees trees gates p t m.n
+    last gates k p m sp ready zero e st =
+        let here : k ≡ length ns = omega (arith, e) in
+        let same : n ≡ m = cc in
+        let is : o ≡ p = stands_one os k o p (subst (λ i. Stands os i o) (sym here) so) sp in
+        let now = ready_kept trees gates table old s p d.grows ready in
+        subst (λ (x : DiagramId). Agrees trees gates p t x.n) same
+        (subst (λ x. Agrees trees gates x t n.n) is
+        (agrees gates (subst (λ x. IsReady trees gates table s x) (sym is) now)))
+    last gates k p m sp ready (suc j) e st = absurd (stands_none j m st)
+
+    none : (k : ℕ) (p : Operand) → k < length (ns ++ n ∷ []) → Stands os k p → Lacks trees p → ⊥
+    none k p h sp l = by (cases_eq k (length ns))
+      where
+        by : (k ≡ length ns) ⊎ (k ≡ length ns → ⊥) → ⊥
+        by (inl e) =
+            let is : p ≡ o = stands_one os k p o sp (subst (λ i. Stands os i o) (sym e) so) in
+            known (subst (Lacks trees) is l)
+        by (inr e) = d.known k p (let x : k < length ns = grind (arith, h, length-append ns (n ∷ []), e) in x) sp l
+
+-- the joint of the diagrams has the value of that of the operands
+joint_same : (both : Bool) (set : List ℕ) (values : List Bool) (s : Stored) (modes : List ℕ) (ns : List DiagramId)
+    (os : List Operand) → length ns ≡ length os
+    → ((k : ℕ) (o : Operand) (n : DiagramId) → Stands os k o → Stands ns k n → value s modes n.n ≡ operand_at set values o)
+    → joint_value both s modes ns ≡ joint_at both set values os
+joint_same both set values s modes [] [] e f = refl
+joint_same both set values s modes [] (o ∷ os) e f = let wrong : ⊥ = omega (arith, e) in absurd wrong
+joint_same both set values s modes (n ∷ ns) [] e f = let wrong : ⊥ = omega (arith, e) in absurd wrong
+joint_same true set values s modes (n ∷ ns) (o ∷ os) e f = ap₂ (λ x y. x && y) (f 0 o n refl refl)
+    (joint_same true set values s modes ns os (omega (arith, e)) (λ k p m a b. f (suc k) p m a b))
+joint_same false set values s modes (n ∷ ns) (o ∷ os) e f = ap₂ (λ x y. x || y) (f 0 o n refl refl)
+    (joint_same false set values s modes ns os (omega (arith, e)) (λ k p m a b. f (suc k) p m a b))
+
+pub drawn_joint : (trees : List NumberedTree) (table : List DiagramId) (old : Stored) (both : Bool) (os : List Operand)
+    (ns : List DiagramId) (s t : Stored) (r : ℕ) → length ns ≡ length os → AreDrawn trees table old os ns s
+    → IsJoint both s ns t r → (gates : List Gate) → AreReady trees gates table old os
+    → AgreesJoint trees gates both os t r
+drawn_joint trees table old both os ns s t r e d j gates ready = record {
+  number = j.number;
+  same = λ modes set is. j.same modes ∙ joint_same both set (values_at set gates) s modes ns os e
+      (λ k o n so sn. (d.agrees gates k o n so sn (ready.each o (record { place = k; stands = so }))).same modes set is);
+}
+
+pub drawn_known : (trees : List NumberedTree) (table : List DiagramId) (old : Stored) (os : List Operand)
+    (ns : List DiagramId) (s : Stored) → length ns ≡ length os → AreDrawn trees table old os ns s → LacksOne trees os → ⊥
+drawn_known trees table old os ns s e d l =
+    let inside = stands_within os l.one.place l.operand l.one.stands in
+    d.known l.one.place l.operand (omega (arith, inside, e)) l.one.stands l.lacks

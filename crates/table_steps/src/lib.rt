@@ -3,6 +3,10 @@
 //! The definitions stand in `specs/`: `Table` has the steps of the table in their order, `Steps` what each of them makes.
 #![tactic(auto)]
 
+mod rounds;
+
+pub use rounds::needs_round;
+
 ghost use Rattle.table_steps.specs.Laws.{OneTable, SomeTable};
 
 /// For a lawful system, any trees of modes, a typed observer and any wanted value there is a table, and there is one alone:

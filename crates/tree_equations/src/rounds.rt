@@ -16,12 +16,12 @@ ghost use Rattle.tree_equations.specs.Index.{IsIndex, AreNumbersOf, AreUnder};
 use crate::assigning::{given, together};
 use crate::index::Index;
 use crate::rows::{are_rows, put_rows};
-use block_rounds::needs_round;
 use domains::Domain;
 use eq_build::{BuildFault, Entry};
 use eq_core::Gate;
 use gts_core::{Assign, GtsParts};
 use std::alloc::Global;
+use table_steps::needs_round;
 
 // The blocks in order, each with as many rounds as it has flows: the rows are then what the flows are known to be.
 pub(crate) fn all_rounds(

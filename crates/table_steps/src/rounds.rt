@@ -1,5 +1,4 @@
 //! When the rounds of a block of flows are over.
-#![tactic(auto)]
 
 ghost use Rattle.std.specs.Prelude.{◌≡◌, ◌<◌, ◌↔◌, length, true, false};
 

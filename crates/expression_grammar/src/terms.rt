@@ -10,8 +10,8 @@ ghost use Rattle.expression_grammar.specs.declared.lexeme.Refusal.TheVariants.{M
 ghost use Rattle.expression_grammar.specs.Texts.{begins_constant, begins_call};
 
 use crate::cursor::Parser;
-use crate::lexeme::{Lexeme, Refusal};
-use crate::lists::{in_box, list_of};
+use crate::lexeme::Refusal;
+use crate::lists::in_box;
 use ar_lexer::{TokenKind, signs, words};
 use ar_syntax::{RawExpr, RawForm, RawRelation};
 

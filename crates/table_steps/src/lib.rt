@@ -5,9 +5,9 @@
 
 mod rounds;
 
-pub use rounds::needs_round;
-
 ghost use Rattle.table_steps.specs.Laws.{OneTable, SomeTable};
+
+pub use rounds::needs_round;
 
 /// For a lawful system, any trees of modes, a typed observer and any wanted value there is a table, and there is one alone:
 /// whatever list of the uses of flows the blocks are told from, the blocks, and so the gates, are the same.

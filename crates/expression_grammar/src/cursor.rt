@@ -15,8 +15,11 @@ use std::alloc::Global;
 
 /// The tokens that are left to read. None of them is the end of the text, which is where they end.
 pub struct Parser<'a> {
+    /// What lists and boxes are made in.
     pub alloc: Global,
+    /// The tokens that are left.
     pub rest: &'a [Lexeme],
+    /// The place of the end of the text.
     pub end: Place,
 }
 

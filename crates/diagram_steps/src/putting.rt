@@ -8,8 +8,8 @@ use ar_base::EventId;
 use zdd_nodes::{NodeFault, NodeId};
 use zdd_ops::Ops;
 
-/// The family of the sets, each with the event. Full comes where the store has its limit of nodes; older numbers keep their
-/// families, also where the answer is a fault.
+/// The family of the sets, each with the event. Full comes where the store has its limit of nodes. No clause tells when, since
+/// who calls this has another way to the answer then. Older numbers keep their families, also where the answer is a fault.
 pub fn with_event(ops: &mut Ops, sets: NodeId, event: EventId) -> Result<NodeId, NodeFault>
     requires { IsNumber ops.old sets.n }
     ensures grows { Extends ops.old ops.new }

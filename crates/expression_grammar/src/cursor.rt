@@ -77,6 +77,7 @@ impl<'a> Parser<'a> {
         ensures taken { OnTrue result (Eats kind self.old.rest.now self.new.rest.now) }
         ensures left { OnFalse result (self.new.rest.now ≡ self.old.rest.now) }
         ensures other { OnFalse result (kind_at self.old.rest.now ≢ kind) }
+        ensures end { self.new.end ≡ self.old.end }
     {
         if let Some((next, rest)) = self.rest.split_first() {
             if next.kind == kind {
@@ -96,6 +97,7 @@ impl<'a> Parser<'a> {
             self.new.rest.now }
         ensures stuck { (left : ℕ) → Halts (λ _. token kind) left result self.old.rest.now
             self.new.rest.now }
+        ensures end { self.new.end ≡ self.old.end }
     {
         match self.rest.split_first() {
             Some((next, rest)) => {
@@ -117,6 +119,7 @@ impl<'a> Parser<'a> {
             self.new.rest.now }
         ensures stuck { (left : ℕ) → Halts (λ _. token Name) left result self.old.rest.now
             self.new.rest.now }
+        ensures end { self.new.end ≡ self.old.end }
     {
         self.expect(TokenKind::Name)
     }

@@ -28,6 +28,7 @@ impl<'a> Parser<'a> {
         ensures only { Finds (expr_tokens deep) ends_expr left result self.old.rest.now
             self.new.rest.now }
         ensures stuck { Halts (expr_tokens deep) left result self.old.rest.now self.new.rest.now }
+        ensures end { self.new.end ≡ self.old.end }
     {
         if left == 0 {
             return Err(no_room(begins_expr(self.kind())));
@@ -55,6 +56,7 @@ impl<'a> Parser<'a> {
             self.old.rest.now self.new.rest.now }
         ensures stuck { Halts (λ n. between opens closes (expr_tokens deep n)) left result
             self.old.rest.now self.new.rest.now }
+        ensures end { self.new.end ≡ self.old.end }
     {
         self.expect(opens)?;
         let inner = self.expr(left)?;
@@ -79,6 +81,7 @@ impl<'a> Parser<'a> {
             ends_expr left result self.old.rest.now self.new.rest.now }
         ensures stuck { Halts (λ n. between opens closes (expr_tokens deep n) ▸ expr_tokens deep n) left
             result self.old.rest.now self.new.rest.now }
+        ensures end { self.new.end ≡ self.old.end }
     {
         let test = self.enclosed(opens, closes, left)?;
         let value = self.expr(left)?;
@@ -94,6 +97,7 @@ impl<'a> Parser<'a> {
             self.old.rest.now self.new.rest.now }
         ensures stuck { Halts (λ n. if_tokens (expr_tokens deep n)) left result self.old.rest.now
             self.new.rest.now }
+        ensures end { self.new.end ≡ self.old.end }
     {
         let start = self.rest;
         let case = self.case(
@@ -116,6 +120,7 @@ impl<'a> Parser<'a> {
         ensures only { Finds (chain_tokens chain) (ends_chain chain) left result self.old.rest.now
             self.new.rest.now }
         ensures stuck { Halts (chain_tokens chain) left result self.old.rest.now self.new.rest.now }
+        ensures end { self.new.end ≡ self.old.end }
     {
         let start = self.rest;
         let first = self.operand(chain, left)?;
@@ -144,6 +149,7 @@ impl<'a> Parser<'a> {
             (ends_chain chain) left result self.old.rest.now self.new.rest.now }
         ensures stuck { Halts (λ n. many (token (separator_of chain) ▸ operand_tokens chain n)) left
             result self.old.rest.now self.new.rest.now }
+        ensures end { self.new.end ≡ self.old.end }
     {
         let separator = separator_of(chain);
         while self.eat(separator) {
@@ -161,6 +167,7 @@ impl<'a> Parser<'a> {
         ensures only { Finds (operand_tokens chain) (ends_operand chain) left result self.old.rest.now
             self.new.rest.now }
         ensures stuck { Halts (operand_tokens chain) left result self.old.rest.now self.new.rest.now }
+        ensures end { self.new.end ≡ self.old.end }
     {
         match chain {
             Chain::Any => self.chain(Chain::All, left),
@@ -176,6 +183,7 @@ impl<'a> Parser<'a> {
         ensures only { Finds (not_tokens deep) ends_not left result self.old.rest.now
             self.new.rest.now }
         ensures stuck { Halts (not_tokens deep) left result self.old.rest.now self.new.rest.now }
+        ensures end { self.new.end ≡ self.old.end }
     {
         if left == 0 {
             return Err(no_room(begins_not(self.kind())));
@@ -198,6 +206,7 @@ impl<'a> Parser<'a> {
             ends_not left result self.old.rest.now self.new.rest.now }
         ensures stuck { Halts (λ n. compare_tokens (sum_tokens (product_tokens (minus_tokens deep n)))) left
             result self.old.rest.now self.new.rest.now }
+        ensures end { self.new.end ≡ self.old.end }
     {
         let start = self.rest;
         let first = self.sum(left)?;
@@ -220,6 +229,7 @@ impl<'a> Parser<'a> {
             self.old.rest.now self.new.rest.now }
         ensures stuck { Halts (λ n. sum_tokens (product_tokens (minus_tokens deep n))) left result
             self.old.rest.now self.new.rest.now }
+        ensures end { self.new.end ≡ self.old.end }
     {
         let start = self.rest;
         let first = self.chain(Chain::Product, left)?;
@@ -242,6 +252,7 @@ impl<'a> Parser<'a> {
             self.new.rest.now }
         ensures stuck { Halts (λ n. many (term_tokens n)) left result self.old.rest.now
             self.new.rest.now }
+        ensures end { self.new.end ≡ self.old.end }
     {
         while let Some(plus) = self.eat_plus() {
             let term = self.chain(Chain::Product, left)?;
@@ -257,6 +268,7 @@ impl<'a> Parser<'a> {
         ensures only { Finds (minus_tokens deep) ends_path left result self.old.rest.now
             self.new.rest.now }
         ensures stuck { Halts (minus_tokens deep) left result self.old.rest.now self.new.rest.now }
+        ensures end { self.new.end ≡ self.old.end }
     {
         if left == 0 {
             return Err(no_room(begins_minus(self.kind())));
@@ -279,6 +291,7 @@ impl<'a> Parser<'a> {
             self.old.rest.now self.new.rest.now }
         ensures stuck { Halts (λ n. primary_tokens (expr_tokens deep n)) left result self.old.rest.now
             self.new.rest.now }
+        ensures end { self.new.end ≡ self.old.end }
     {
         let start = self.rest;
         if let Some(form) = constant_of(self.kind()) {
@@ -314,6 +327,7 @@ impl<'a> Parser<'a> {
             self.old.rest.now self.new.rest.now }
         ensures stuck { Halts (λ n. operands_tokens (expr_tokens deep n)) left result self.old.rest.now
             self.new.rest.now }
+        ensures end { self.new.end ≡ self.old.end }
     {
         self.expect(TokenKind::Sign(signs::OPEN_PARENTHESIS))?;
         let first = self.expr(left)?;
@@ -334,6 +348,7 @@ impl<'a> Parser<'a> {
             result self.old.rest.now self.new.rest.now }
         ensures stuck { Halts (λ n. many (token (Sign COMMA) ▸ expr_tokens deep n)) left result
             self.old.rest.now self.new.rest.now }
+        ensures end { self.new.end ≡ self.old.end }
     {
         while self.eat(TokenKind::Sign(signs::COMMA)) {
             let operand = self.expr(left)?;
@@ -351,6 +366,7 @@ impl<'a> Parser<'a> {
             self.old.rest.now self.new.rest.now }
         ensures stuck { Halts (λ n. switch_tokens (expr_tokens deep n)) left result self.old.rest.now
             self.new.rest.now }
+        ensures end { self.new.end ≡ self.old.end }
     {
         let start = self.rest;
         self.expect(TokenKind::Reserved(words::SWITCH))?;
@@ -379,6 +395,7 @@ impl<'a> Parser<'a> {
             self.new.rest.now }
         ensures stuck { Halts (λ n. case_tokens n ▸ many (case_tokens n)) left result self.old.rest.now
             self.new.rest.now }
+        ensures end { self.new.end ≡ self.old.end }
     {
         let mut cases = Vec::new(self.alloc);
         while self.is_at(TokenKind::Reserved(words::CASE)) {

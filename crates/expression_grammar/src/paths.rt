@@ -23,6 +23,7 @@ impl<'a> Parser<'a> {
             self.new.rest.now }
         ensures stuck { (left : ℕ) → Halts (λ _. ReadsSome ReadsStart) left result self.old.rest.now
             self.new.rest.now }
+        ensures end { self.new.end ≡ self.old.end }
     {
         if self.eat(TokenKind::Reserved(words::OWNER)) {
             self.expect(TokenKind::Sign(signs::DOT))?;
@@ -44,6 +45,7 @@ impl<'a> Parser<'a> {
             result self.old.rest.now self.new.rest.now }
         ensures stuck { (left : ℕ) → Halts (λ _. many (token (Sign DOT) ▸ token Name)) left result
             self.old.rest.now self.new.rest.now }
+        ensures end { self.new.end ≡ self.old.end }
     {
         while self.eat(TokenKind::Sign(signs::DOT)) {
             let name = self.name()?;
@@ -60,6 +62,7 @@ impl<'a> Parser<'a> {
             self.new.rest.now }
         ensures stuck { (left : ℕ) → Halts (λ _. path_tokens) left result self.old.rest.now
             self.new.rest.now }
+        ensures end { self.new.end ≡ self.old.end }
     {
         let at = self.place();
         let start = self.path_start()?;

@@ -145,7 +145,8 @@ impl<'a> Parser<'a> {
     /// Takes the next token.
     pub fn skip(&mut self)
         requires { kind_at self.old.rest.now ≢ End }
-        ensures { Eats (kind_at self.old.rest.now) self.old.rest.now self.new.rest.now }
+        ensures taken { Eats (kind_at self.old.rest.now) self.old.rest.now self.new.rest.now }
+        ensures end { self.new.end ≡ self.old.end }
     {
         if let Some((_, rest)) = self.rest.split_first() {
             self.rest = rest;
@@ -158,6 +159,7 @@ impl<'a> Parser<'a> {
             Eats (Sign (sign_of r)) self.old.rest.now self.new.rest.now) }
         ensures left { IfNone result (self.new.rest.now ≡ self.old.rest.now) }
         ensures other { IfNone result (is_relation (kind_at self.old.rest.now) ≡ false) }
+        ensures end { self.new.end ≡ self.old.end }
     {
         let relation = relation_of(self.kind())?;
         self.skip();
@@ -171,6 +173,7 @@ impl<'a> Parser<'a> {
             → Eats (Sign MINUS) self.old.rest.now self.new.rest.now }
         ensures left { IfNone result (self.new.rest.now ≡ self.old.rest.now) }
         ensures other { IfNone result (begins_term (kind_at self.old.rest.now) ≡ false) }
+        ensures end { self.new.end ≡ self.old.end }
     {
         if self.eat(TokenKind::Sign(signs::PLUS)) {
             return Some(true);

@@ -6,7 +6,7 @@ use Rattle.ar_base.proofs.Standing.{stands_one, stands_none, stands_split, stand
 use Rattle.eq_core.specs.Gates.{Operand, Gate}
 use Rattle.eq_core.specs.Values.{operand_at, joint_at, values_at}
 use Rattle.mode_nodes.specs.Diagrams.{DiagramId, Stored, value, IsNumber, Grows}
-use Rattle.mode_nodes.proofs.Growing.{Grows-none, Grows-then}
+use Rattle.mode_nodes.proofs.Growing.{Grows-then}
 use Rattle.diagram_steps.specs.declared.trees.NumberedTree.{NumberedTree}
 use Rattle.diagram_steps.specs.Joints.{joint_value, AreTabled, IsJoint}
 use Rattle.mode_diagrams.specs.Agreement.{Agrees, AgreesJoint, IsReady, AreReady}
@@ -21,15 +21,6 @@ pub record AreDrawn (trees : List NumberedTree) (table : List DiagramId) (old : 
   pub agrees : (gates : List Gate) (k : ℕ) (o : Operand) (n : DiagramId) → Stands os k o → Stands ns k n
       → IsReady trees gates table old o → Agrees trees gates o s n.n
   pub known : (k : ℕ) (o : Operand) → k < length ns → Stands os k o → Lacks trees o → ⊥
-
-pub drawn_none : (trees : List NumberedTree) (table : List DiagramId) (s : Stored) (os : List Operand)
-    → AreDrawn trees table s os [] s
-drawn_none trees table s os = record {
-  grows = Grows-none s;
-  numbers = record { each = λ k n st. absurd (stands_none k n st) };
-  agrees = λ gates k o n so st. absurd (stands_none k n st);
-  known = λ k o h st l. omega (arith, h);
-}
 
 pub drawn_more : (trees : List NumberedTree) (table : List DiagramId) (old : Stored) (os : List Operand)
     (ns : List DiagramId) (s t : Stored) (o : Operand) (n : DiagramId) → Stands os (length ns) o

@@ -10,7 +10,7 @@ use Rattle.ar_syntax.specs.declared.members.Member.{Member}
 use Rattle.expression_grammar.specs.Words.{Form, Tokens, kind_or, ReadsSome}
 use Rattle.expression_grammar.specs.Expressions.{ReadsExpr}
 use Rattle.ar_grammar.specs.Instructions.{ReadsSimpleOf, assign, tie, skip, simple, group, conditional, ReadsInstr}
-use Rattle.ar_grammar.specs.Members.{plain_token, unread_piece, ReadsSingle, extends, boolean, clones, embeds, kept_value, parameter, observer, ReadsSection, ReadsKeyed, single, block, event, hide, ReadsMember, keyed, named, ReadsLater}
+use Rattle.ar_grammar.specs.Members.{unread_piece, ReadsSingle, extends, boolean, clones, embeds, kept_value, parameter, observer, ReadsSection, ReadsKeyed, single, block, event, hide, ReadsMember, keyed, named, ReadsLater}
 use Rattle.std.specs.Prelude.{◌==◌}
 use Rattle.std.proofs.lemmas.Bool.{eqb-true, or_right, or_left}
 use Rattle.expression_grammar.specs.Results.{is_name}

@@ -8,7 +8,7 @@ use Rattle.ar_base.specs.declared.places.Place.{Place}
 use Rattle.ar_base.specs.declared.places.Span.{Span}
 use Rattle.ar_lexer.specs.declared.token.TokenKind.{TokenKind}
 use Rattle.ar_lexer.specs.declared.token.TokenKind.TheVariants.{Sign, Reserved}
-use Rattle.ar_lexer.specs.declared.signs.TheConstants.{OPEN_PARENTHESIS, CLOSE_PARENTHESIS, COMMA, SEMICOLON, COLON, DOT, ARROW, EXCLAMATION, QUESTION, AMPERSAND}
+use Rattle.ar_lexer.specs.declared.signs.TheConstants.{OPEN_PARENTHESIS, COMMA, SEMICOLON, COLON, DOT, ARROW, EXCLAMATION, QUESTION, AMPERSAND}
 use Rattle.ar_lexer.specs.declared.words.TheConstants.{BOOLEAN, INIT, INTEGER, RESET}
 use Rattle.ar_syntax.specs.declared.expressions.RawExpr.{RawExpr}
 use Rattle.ar_syntax.specs.declared.instructions.Instr.{Instr}

@@ -2,7 +2,6 @@
 use Rattle.std.proofs.Common.{◌≡◌, ℕ, inl, inr, Bool, true, List, [], ◌∷◌, ◌++◌, refl, sym, ap, ◌∙◌, subst}
 use Rattle.std.specs.Prelude.{ℤ, neg_ℤ}
 use Rattle.ar_base.specs.Lists.{Along, one_and}
-use Rattle.ar_base.specs.Texts.{Interns, known, added}
 use Rattle.ar_base.specs.declared.places.Place.{Place}
 use Rattle.ar_lexer.specs.declared.token.TokenKind.{TokenKind}
 use Rattle.ar_lexer.specs.declared.token.TokenKind.TheVariants.{Name, Whole, Real, Sign, Reserved, End}
@@ -15,7 +14,6 @@ use Rattle.ar_syntax.specs.declared.items.DomainDecl.{DomainDecl}
 use Rattle.ar_syntax.specs.declared.items.Item.{Item}
 use Rattle.ar_syntax.specs.declared.items.Item.TheVariants as item
 use Rattle.ar_base.specs.Numbers.{NameId}
-use Rattle.ar_base.proofs.Truths.{not_true}
 use Rattle.expression_grammar.specs.Words.{Form, Tokens, kind_or, token, nothing, ◌▸◌, ◌∣◌}
 use Rattle.ar_parser.specs.Models.{text_of, IsNumbered, name, other, AreNamesNumbered}
 use Rattle.ar_grammar.specs.Items.{ReadsWhole, ReadsBound, whole, negated, ReadsDomainBody, ReadsDomain, ReadsItem, ReadsItems}

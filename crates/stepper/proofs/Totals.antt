@@ -4,7 +4,7 @@ use Rattle.ar_base.specs.Lists.{Stands}
 use Rattle.domains.specs.Domains.{Holds}
 use Rattle.domains.specs.declared.Value.{Value}
 use Rattle.ar_meaning.specs.Runs.{first_values}
-use Rattle.gts_core.specs.View.{net_of, variable_of, variables_from}
+use Rattle.gts_core.specs.View.{net_of, variables_from}
 use Rattle.gts_core.specs.Sound.{IsSound}
 use Rattle.gts_core.specs.declared.system.Variable.{Variable}
 use Rattle.gts_core.specs.declared.system.GtsParts.{GtsParts}

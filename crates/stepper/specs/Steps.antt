@@ -1,11 +1,10 @@
 -- What callers see of a stepper, and what its calls answer.
-use Rattle.std.specs.Prelude.{ℕ, List, Result, Ok, Err, ⊤}
+use Rattle.std.specs.Prelude.{ℕ, List, ⊤}
 use Rattle.domains.specs.declared.Value.{Value}
 use Rattle.ar_meaning.specs.Systems as s
 use Rattle.ar_meaning.specs.Runs.{StartFails}
 use Rattle.ar_meaning.specs.Steps as steps
 use Rattle.ar_base.specs.Numbers.{VarId}
-use Rattle.gts_core.specs.declared.system.Valuation.{Valuation}
 use Rattle.gts_core.specs.declared.system.GtsParts.{GtsParts}
 use Rattle.flow_propagate.specs.Answers.{fault_of}
 use Rattle.flow_propagate.specs.declared.propagation.PropagateFault.{PropagateFault}

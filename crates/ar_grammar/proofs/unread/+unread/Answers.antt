@@ -41,11 +41,11 @@ unread_piece-returns-then-is_at-clause-only t c =
     (λ n next ts h s k. (unread_bracketed n next ts h (k ∙ c.if-is_at.ensures.yes), s))
 
 pub unread_piece-returns-clause-found : goal.unread_piece-returns-clause-found
-unread_piece-returns-clause-found t c = unread_plain c.args.left c.skip.ensures c.requires c.if-is_at.ensures.no
+unread_piece-returns-clause-found t c = unread_plain c.args.left c.skip.ensures.taken c.requires c.if-is_at.ensures.no
 
 pub unread_piece-returns-clause-only : goal.unread_piece-returns-clause-only
 unread_piece-returns-clause-only t c =
-    finds_given (finds_ok _ (finds_token c.skip.ensures))
+    finds_given (finds_ok _ (finds_token c.skip.ensures.taken))
     (λ n next ts h s k. (unread_token n next ts h k c.if-is_at.ensures.no, refl))
 
 pub unread_group-returns-then-left-eq0-clause-only : goal.unread_group-returns-then-left-eq0-clause-only

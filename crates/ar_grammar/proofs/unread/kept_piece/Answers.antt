@@ -13,10 +13,10 @@ returns-then-is_at-clause-only c = finds_given c.unread_group.ensures.only
     (λ n next ts h s k. (kept_bracketed n next ts h (k ∙ c.if-is_at.ensures.yes), s))
 
 pub returns-clause-found : goal.returns-clause-found
-returns-clause-found c = kept_plain c.args.left c.skip.ensures c.requires c.if-is_at.ensures.no
+returns-clause-found c = kept_plain c.args.left c.skip.ensures.taken c.requires c.if-is_at.ensures.no
 
 pub returns-clause-only : goal.returns-clause-only
-returns-clause-only c = finds_given (finds_ok _ (finds_token c.skip.ensures))
+returns-clause-only c = finds_given (finds_ok _ (finds_token c.skip.ensures.taken))
     (λ n next ts h s k. (kept_token_given n next ts h k c.if-is_at.ensures.no, refl))
 
 pub returns-then-is_at-clause-stuck : goal.returns-then-is_at-clause-stuck

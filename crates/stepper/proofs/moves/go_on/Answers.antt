@@ -1,12 +1,11 @@
-use Rattle.std.proofs.Common.{◌≡◌, ℕ, List, Bool, sym, ap, ◌∙◌, subst, length, arith}
-use Rattle.ar_base.specs.Lists.{IsOneOf}
+use Rattle.std.proofs.Common.{◌≡◌, List, Bool, sym, ◌∙◌, subst, length}
 use Rattle.ar_base.specs.Numbers.{VarId}
 use Rattle.ar_base.proofs.Standing.{stands_map_back}
 use Rattle.domains.specs.declared.Value.{Value}
 use Rattle.gts_core.specs.declared.system.GtsParts.{GtsParts}
 use Rattle.gts_core.specs.Readings.{IsTotal}
 use Rattle.way_flags.specs.Ways.{AreFlags}
-use Rattle.value_changes.specs.Changes.{AreChanges, numbers}
+use Rattle.value_changes.specs.Changes.{AreChanges}
 use Rattle.way_flags.specs.Renewing.{WereFlags}
 use Rattle.stepper.proofs.Kept.{kept_value}
 use Rattle.stepper.proofs.moves.go_on.Goals as goal

@@ -31,18 +31,21 @@ use Rattle.expression_grammar.specs.declared.lexeme.Refusal.TheVariants.{Syntax}
 
 pub cases-returns-in_err-case-clause-only : goal.cases-returns-in_err-case-clause-only
 cases-returns-in_err-case-clause-only t c =
-    loops_fail c.loop-self.invariant.loops (ap ends_cases c.loop-self-test.ensures.yes) c.in_err-case.ensures.only
+    loops_fail c.loop-self.invariant.0.loops (ap ends_cases c.loop-self-test.ensures.yes) c.in_err-case.ensures.only
     c.from_residual.ensures.1 cases_follow
 
 pub cases-loop-self-preserved : goal.cases-loop-self-preserved
-cases-loop-self-preserved t c = gathers_push c.loop-self.invariant (ap ends_cases c.loop-self-test.ensures.yes)
-    c.in_ok-case.ensures.found c.in_ok-case.ensures.only cases_follow c.in_ok-put.ensures.items
+cases-loop-self-preserved t c = (
+  gathers_push c.loop-self.invariant.0 (ap ends_cases c.loop-self-test.ensures.yes)
+      c.in_ok-case.ensures.found c.in_ok-case.ensures.only cases_follow c.in_ok-put.ensures.items,
+  c.in_ok-case.ensures.end ∙ c.loop-self.invariant.1,
+)
 
 pub cases-returns-in_err-put-clause-only : goal.cases-returns-in_err-put-clause-only
-cases-returns-in_err-put-clause-only t c = let l = loops_next c.loop-self.invariant.loops (ap ends_cases c.loop-self-test.ensures.yes) c.in_ok-case.ensures.only cases_follow in finds_memory l.front l.passed (err_memory _ _ c.from_residual-in_err-put.ensures.1 c.in_err-put.ensures.err)
+cases-returns-in_err-put-clause-only t c = let l = loops_next c.loop-self.invariant.0.loops (ap ends_cases c.loop-self-test.ensures.yes) c.in_ok-case.ensures.only cases_follow in finds_memory l.front l.passed (err_memory _ _ c.from_residual-in_err-put.ensures.1 c.in_err-put.ensures.err)
 
 pub cases-returns-clause-only : goal.cases-returns-clause-only
-cases-returns-clause-only t c = loops_stop c.loop-self.invariant.loops
+cases-returns-clause-only t c = loops_stop c.loop-self.invariant.0.loops
     (λ n next ts h k. c.loop-self-test.ensures.no (sym k ∙ case_kind n next ts h))
 
 pub chain-returns-in_err-first-clause-only : goal.chain-returns-in_err-first-clause-only
@@ -252,41 +255,50 @@ minus-returns-clause-only t c = finds_from
     ))) c.if-eat.ensures.left
 
 pub more_arguments-returns-in_err-operand-clause-only : goal.more_arguments-returns-in_err-operand-clause-only
-more_arguments-returns-in_err-operand-clause-only t c = let e = c.loop-self-test.ensures.taken in loops_fail c.loop-self.invariant.loops (ap ends_list (eats_kind e)) (finds_then (finds_token e) c.in_err-operand.ensures.only follows_any) c.from_residual.ensures.1 arguments_follow
+more_arguments-returns-in_err-operand-clause-only t c = let e = c.loop-self-test.ensures.taken in loops_fail c.loop-self.invariant.0.loops (ap ends_list (eats_kind e)) (finds_then (finds_token e) c.in_err-operand.ensures.only follows_any) c.from_residual.ensures.1 arguments_follow
 
 pub more_arguments-loop-self-preserved : goal.more_arguments-loop-self-preserved
-more_arguments-loop-self-preserved t c = let e = c.loop-self-test.ensures.taken in gathers_push c.loop-self.invariant (ap ends_list (eats_kind e)) (spans_then (spans_token e) c.in_ok-operand.ensures.found) (finds_then (finds_token e) c.in_ok-operand.ensures.only follows_any) arguments_follow c.in_ok-put.ensures.items
+more_arguments-loop-self-preserved t c = let e = c.loop-self-test.ensures.taken in (
+  gathers_push c.loop-self.invariant.0 (ap ends_list (eats_kind e)) (spans_then (spans_token e) c.in_ok-operand.ensures.found) (finds_then (finds_token e) c.in_ok-operand.ensures.only follows_any) arguments_follow c.in_ok-put.ensures.items,
+  c.in_ok-operand.ensures.end ∙ c.loop-self-test.ensures.end ∙ c.loop-self.invariant.1,
+)
 
 pub more_arguments-returns-in_err-put-clause-only : goal.more_arguments-returns-in_err-put-clause-only
-more_arguments-returns-in_err-put-clause-only t c = let e = c.loop-self-test.ensures.taken in let l = loops_next c.loop-self.invariant.loops (ap ends_list (eats_kind e)) (finds_then (finds_token e) c.in_ok-operand.ensures.only follows_any) arguments_follow in finds_memory l.front l.passed (err_memory _ _ c.from_residual-in_err-put.ensures.1 c.in_err-put.ensures.err)
+more_arguments-returns-in_err-put-clause-only t c = let e = c.loop-self-test.ensures.taken in let l = loops_next c.loop-self.invariant.0.loops (ap ends_list (eats_kind e)) (finds_then (finds_token e) c.in_ok-operand.ensures.only follows_any) arguments_follow in finds_memory l.front l.passed (err_memory _ _ c.from_residual-in_err-put.ensures.1 c.in_err-put.ensures.err)
 
 pub more_arguments-returns-clause-only : goal.more_arguments-returns-clause-only
-more_arguments-returns-clause-only t c = let a = c.loop-self-test.ensures in finds_at (loops_stop c.loop-self.invariant.loops (λ n next ts h k. a.other (sym k ∙ then_kind h))) a.left
+more_arguments-returns-clause-only t c = let a = c.loop-self-test.ensures in finds_at (loops_stop c.loop-self.invariant.0.loops (λ n next ts h k. a.other (sym k ∙ then_kind h))) a.left
 
 pub more_operands-returns-in_err-operand-clause-only : goal.more_operands-returns-in_err-operand-clause-only
-more_operands-returns-in_err-operand-clause-only t c = let e = eats_as c.loop-chain-test.ensures.taken c.separator_of-separator.ensures.value in loops_fail c.loop-chain.invariant.loops (ap (ends_chain c.args.chain) (eats_kind e) ∙ sep_open c.args.chain) (finds_then (finds_token e) c.in_err-operand.ensures.only follows_any) c.from_residual.ensures.1 (chain_follows c.args.chain)
+more_operands-returns-in_err-operand-clause-only t c = let e = eats_as c.loop-chain-test.ensures.taken c.separator_of-separator.ensures.value in loops_fail c.loop-chain.invariant.0.loops (ap (ends_chain c.args.chain) (eats_kind e) ∙ sep_open c.args.chain) (finds_then (finds_token e) c.in_err-operand.ensures.only follows_any) c.from_residual.ensures.1 (chain_follows c.args.chain)
 
 pub more_operands-loop-chain-preserved : goal.more_operands-loop-chain-preserved
-more_operands-loop-chain-preserved t c = let e = eats_as c.loop-chain-test.ensures.taken c.separator_of-separator.ensures.value in gathers_push c.loop-chain.invariant (ap (ends_chain c.args.chain) (eats_kind e) ∙ sep_open c.args.chain) (spans_then (spans_token e) c.in_ok-operand.ensures.found) (finds_then (finds_token e) c.in_ok-operand.ensures.only follows_any) (chain_follows c.args.chain) c.in_ok-put.ensures.items
+more_operands-loop-chain-preserved t c = let e = eats_as c.loop-chain-test.ensures.taken c.separator_of-separator.ensures.value in (
+  gathers_push c.loop-chain.invariant.0 (ap (ends_chain c.args.chain) (eats_kind e) ∙ sep_open c.args.chain) (spans_then (spans_token e) c.in_ok-operand.ensures.found) (finds_then (finds_token e) c.in_ok-operand.ensures.only follows_any) (chain_follows c.args.chain) c.in_ok-put.ensures.items,
+  c.in_ok-operand.ensures.end ∙ c.loop-chain-test.ensures.end ∙ c.loop-chain.invariant.1,
+)
 
 pub more_operands-returns-in_err-put-clause-only : goal.more_operands-returns-in_err-put-clause-only
-more_operands-returns-in_err-put-clause-only t c = let e = eats_as c.loop-chain-test.ensures.taken c.separator_of-separator.ensures.value in let l = loops_next c.loop-chain.invariant.loops (ap (ends_chain c.args.chain) (eats_kind e) ∙ sep_open c.args.chain) (finds_then (finds_token e) c.in_ok-operand.ensures.only follows_any) (chain_follows c.args.chain) in finds_memory l.front l.passed (err_memory _ _ c.from_residual-in_err-put.ensures.1 c.in_err-put.ensures.err)
+more_operands-returns-in_err-put-clause-only t c = let e = eats_as c.loop-chain-test.ensures.taken c.separator_of-separator.ensures.value in let l = loops_next c.loop-chain.invariant.0.loops (ap (ends_chain c.args.chain) (eats_kind e) ∙ sep_open c.args.chain) (finds_then (finds_token e) c.in_ok-operand.ensures.only follows_any) (chain_follows c.args.chain) in finds_memory l.front l.passed (err_memory _ _ c.from_residual-in_err-put.ensures.1 c.in_err-put.ensures.err)
 
 pub more_operands-returns-clause-only : goal.more_operands-returns-clause-only
-more_operands-returns-clause-only t c = let a = c.loop-chain-test.ensures in finds_at (loops_stop c.loop-chain.invariant.loops (λ n next ts h k. a.other (sym k ∙ then_kind h ∙ sym c.separator_of-separator.ensures.value))) a.left
+more_operands-returns-clause-only t c = let a = c.loop-chain-test.ensures in finds_at (loops_stop c.loop-chain.invariant.0.loops (λ n next ts h k. a.other (sym k ∙ then_kind h ∙ sym c.separator_of-separator.ensures.value))) a.left
 
 pub more_terms-returns-in_err-term-clause-only : goal.more_terms-returns-in_err-term-clause-only
-more_terms-returns-in_err-term-clause-only t c = let e = term_eats c.in-Some.plus c.in-Some.ensures.plus c.in-Some.ensures.minus in let o = term_open (kind_at c.loop-plus.self.rest.now) (ap begins_term (eats_kind e) ∙ term_sign c.in-Some.plus) in loops_fail c.loop-plus.invariant.loops o (finds_given (finds_then (finds_token e) c.in_err-term.ensures.only follows_any) (λ n next ts h s k. (term_given n c.in-Some.plus next ts h (k ∙ eats_kind e), s))) c.from_residual.ensures.1 sum_follows
+more_terms-returns-in_err-term-clause-only t c = let e = term_eats c.in-Some.plus c.in-Some.ensures.plus c.in-Some.ensures.minus in let o = term_open (kind_at c.loop-plus.self.rest.now) (ap begins_term (eats_kind e) ∙ term_sign c.in-Some.plus) in loops_fail c.loop-plus.invariant.0.loops o (finds_given (finds_then (finds_token e) c.in_err-term.ensures.only follows_any) (λ n next ts h s k. (term_given n c.in-Some.plus next ts h (k ∙ eats_kind e), s))) c.from_residual.ensures.1 sum_follows
 
 pub more_terms-loop-plus-preserved : goal.more_terms-loop-plus-preserved
-more_terms-loop-plus-preserved t c = let e = term_eats c.in-Some.plus c.in-Some.ensures.plus c.in-Some.ensures.minus in let o = term_open (kind_at c.loop-plus.self.rest.now) (ap begins_term (eats_kind e) ∙ term_sign c.in-Some.plus) in gathers_push c.loop-plus.invariant o (spans_then (spans_token e) c.in_ok-term.ensures.found) (finds_given (finds_then (finds_token e) c.in_ok-term.ensures.only follows_any) (λ n next ts h s k. (term_given n c.in-Some.plus next ts h (k ∙ eats_kind e), s))) sum_follows c.in_ok-put.ensures.items
+more_terms-loop-plus-preserved t c = let e = term_eats c.in-Some.plus c.in-Some.ensures.plus c.in-Some.ensures.minus in let o = term_open (kind_at c.loop-plus.self.rest.now) (ap begins_term (eats_kind e) ∙ term_sign c.in-Some.plus) in (
+  gathers_push c.loop-plus.invariant.0 o (spans_then (spans_token e) c.in_ok-term.ensures.found) (finds_given (finds_then (finds_token e) c.in_ok-term.ensures.only follows_any) (λ n next ts h s k. (term_given n c.in-Some.plus next ts h (k ∙ eats_kind e), s))) sum_follows c.in_ok-put.ensures.items,
+  c.in_ok-term.ensures.end ∙ c.in-Some.ensures.end ∙ c.loop-plus.invariant.1,
+)
 
 pub more_terms-returns-in_err-put-clause-only : goal.more_terms-returns-in_err-put-clause-only
-more_terms-returns-in_err-put-clause-only t c = let e = term_eats c.in-Some.plus c.in-Some.ensures.plus c.in-Some.ensures.minus in let o = term_open (kind_at c.loop-plus.self.rest.now) (ap begins_term (eats_kind e) ∙ term_sign c.in-Some.plus) in let l = loops_next c.loop-plus.invariant.loops o (finds_given (finds_then (finds_token e) c.in_ok-term.ensures.only follows_any) (λ n next ts h s k. (term_given n c.in-Some.plus next ts h (k ∙ eats_kind e), s))) sum_follows in finds_memory l.front l.passed (err_memory _ _ c.from_residual-in_err-put.ensures.1 c.in_err-put.ensures.err)
+more_terms-returns-in_err-put-clause-only t c = let e = term_eats c.in-Some.plus c.in-Some.ensures.plus c.in-Some.ensures.minus in let o = term_open (kind_at c.loop-plus.self.rest.now) (ap begins_term (eats_kind e) ∙ term_sign c.in-Some.plus) in let l = loops_next c.loop-plus.invariant.0.loops o (finds_given (finds_then (finds_token e) c.in_ok-term.ensures.only follows_any) (λ n next ts h s k. (term_given n c.in-Some.plus next ts h (k ∙ eats_kind e), s))) sum_follows in finds_memory l.front l.passed (err_memory _ _ c.from_residual-in_err-put.ensures.1 c.in_err-put.ensures.err)
 
 pub more_terms-returns-clause-only : goal.more_terms-returns-clause-only
 more_terms-returns-clause-only t c =
-    finds_at (loops_stop c.loop-plus.invariant.loops
+    finds_at (loops_stop c.loop-plus.invariant.0.loops
     (λ n next ts h k. term_begins n next ts _ h k c.in_default.ensures.other)) c.in_default.ensures.left
 
 pub not-returns-then-left-eq0-clause-only : goal.not-returns-then-left-eq0-clause-only
@@ -378,10 +390,10 @@ operands-returns-clause-only t c = finds_given
 pub primary-returns-in-Some-clause-found : goal.primary-returns-in-Some-clause-found
 primary-returns-in-Some-clause-found t c = constant_made _ _ _ _ (subst (IsConstant c.in-Some.form) c.kind.ensures c.in-Some.ensures.found)
     (record { form = c.node.ensures.form; there = c.node.ensures.there; span = c.node.ensures.span })
-    (spans_token c.skip.ensures)
+    (spans_token c.skip.ensures.taken)
 
 pub primary-returns-in-Some-clause-only : goal.primary-returns-in-Some-clause-only
-primary-returns-in-Some-clause-only t c = finds_given (finds_ok _ (finds_token c.skip.ensures))
+primary-returns-in-Some-clause-only t c = finds_given (finds_ok _ (finds_token c.skip.ensures.taken))
     (λ n next ts h s q. (primary_constant n _ next ts h q (constant_begins _ _ (subst (IsConstant c.in-Some.form) c.kind.ensures c.in-Some.ensures.found)), refl))
 
 pub primary-returns-in_err-inner-clause-only : goal.primary-returns-in_err-inner-clause-only
@@ -412,14 +424,14 @@ primary-returns-then-is_at-2-clause-only t c =
 
 pub primary-returns-in_err-operands-clause-only : goal.primary-returns-in_err-operands-clause-only
 primary-returns-in_err-operands-clause-only t c =
-    let taken = eats_as c.skip-in-Some-call_at.ensures (sym c.kind-2.ensures ∙ c.in-Some-call_at.ensures.found) in
+    let taken = eats_as c.skip-in-Some-call_at.ensures.taken (sym c.kind-2.ensures ∙ c.in-Some-call_at.ensures.found) in
     finds_given (finds_then (finds_token taken)
     (finds_err c.in_err-operands.ensures.only c.from_residual-in_err-operands.ensures.1) follows_any)
     (λ n next ts h s k. (primary_call n c.in-Some-call_at.call next ts h (k ∙ eats_kind taken), refl))
 
 pub primary-returns-in-Some-call_at-clause-found : goal.primary-returns-in-Some-call_at-clause-found
 primary-returns-in-Some-call_at-clause-found t c =
-    let taken = eats_as c.skip-in-Some-call_at.ensures (sym c.kind-2.ensures ∙ c.in-Some-call_at.ensures.found) in
+    let taken = eats_as c.skip-in-Some-call_at.ensures.taken (sym c.kind-2.ensures ∙ c.in-Some-call_at.ensures.found) in
     call_made _ c.in-Some-call_at.call c.in_ok-operands.operands _
     (record {
       form = c.node-in-Some-call_at.ensures.form ∙ c.call_of.ensures;
@@ -430,7 +442,7 @@ primary-returns-in-Some-call_at-clause-found t c =
 
 pub primary-returns-in-Some-call_at-clause-only : goal.primary-returns-in-Some-call_at-clause-only
 primary-returns-in-Some-call_at-clause-only t c =
-    let taken = eats_as c.skip-in-Some-call_at.ensures (sym c.kind-2.ensures ∙ c.in-Some-call_at.ensures.found) in
+    let taken = eats_as c.skip-in-Some-call_at.ensures.taken (sym c.kind-2.ensures ∙ c.in-Some-call_at.ensures.found) in
     finds_given (finds_then (finds_token taken) (finds_ok _ c.in_ok-operands.ensures.only) follows_any)
     (λ n next ts h s k. (primary_call n c.in-Some-call_at.call next ts h (k ∙ eats_kind taken), refl))
 
@@ -542,7 +554,7 @@ switch-returns-clause-only t c = finds_given
     (follows_then refl)) follows_any) follows_any) (λ n next ts h s k. (switch_parts n next ts h, refl))
 
 pub cases-returns-in_err-case-clause-stuck : goal.cases-returns-in_err-case-clause-stuck
-cases-returns-in_err-case-clause-stuck t c = halts_err _ _ c.from_residual.ensures.1 (refuses_some (let g = c.loop-self.invariant in passes g.taken (λ m l. turns_each (turns_a_case _ m l) g.more)) c.in_err-case.ensures.stuck)
+cases-returns-in_err-case-clause-stuck t c = halts_err _ _ c.from_residual.ensures.1 (refuses_some (let g = c.loop-self.invariant.0 in passes g.taken (λ m l. turns_each (turns_a_case _ m l) g.more)) c.in_err-case.ensures.stuck)
 
 pub chain-returns-in_err-first-clause-stuck : goal.chain-returns-in_err-first-clause-stuck
 chain-returns-in_err-first-clause-stuck t c =
@@ -649,13 +661,13 @@ minus-returns-clause-stuck t c = halts_over _ c.primary.ensures.stuck
     (λ e r. refuses_from (refuses_inside c.if-left-eq0.false r (λ m next ts h. inr h)) (sym c.if-eat.ensures.left))
 
 pub more_arguments-returns-in_err-operand-clause-stuck : goal.more_arguments-returns-in_err-operand-clause-stuck
-more_arguments-returns-in_err-operand-clause-stuck t c = halts_err _ _ c.from_residual.ensures.1 (let g = c.loop-self.invariant in refuses_turn (passes g.taken (λ m l. turns_each (λ x. turns_then turns_token (turns_tree _ m l x)) g.more)) (refuses_then (passes_token c.loop-self-test.ensures.taken) c.in_err-operand.ensures.stuck))
+more_arguments-returns-in_err-operand-clause-stuck t c = halts_err _ _ c.from_residual.ensures.1 (let g = c.loop-self.invariant.0 in refuses_turn (passes g.taken (λ m l. turns_each (λ x. turns_then turns_token (turns_tree _ m l x)) g.more)) (refuses_then (passes_token c.loop-self-test.ensures.taken) c.in_err-operand.ensures.stuck))
 
 pub more_operands-returns-in_err-operand-clause-stuck : goal.more_operands-returns-in_err-operand-clause-stuck
-more_operands-returns-in_err-operand-clause-stuck t c = halts_err _ _ c.from_residual.ensures.1 (let g = c.loop-chain.invariant in refuses_turn (passes g.taken (λ m l. turns_each (λ x. turns_then turns_token (turns_operand c.args.chain _ m l x)) g.more)) (refuses_then (passes_token (eats_as c.loop-chain-test.ensures.taken c.separator_of-separator.ensures.value)) c.in_err-operand.ensures.stuck))
+more_operands-returns-in_err-operand-clause-stuck t c = halts_err _ _ c.from_residual.ensures.1 (let g = c.loop-chain.invariant.0 in refuses_turn (passes g.taken (λ m l. turns_each (λ x. turns_then turns_token (turns_operand c.args.chain _ m l x)) g.more)) (refuses_then (passes_token (eats_as c.loop-chain-test.ensures.taken c.separator_of-separator.ensures.value)) c.in_err-operand.ensures.stuck))
 
 pub more_terms-returns-in_err-term-clause-stuck : goal.more_terms-returns-in_err-term-clause-stuck
-more_terms-returns-in_err-term-clause-stuck t c = halts_err _ _ c.from_residual.ensures.1 (let g = c.loop-plus.invariant in refuses_turn (passes g.taken (λ m l. turns_each (turns_a_term _ m l) g.more)) (refuses_then {P = λ m. plus_tokens} (passes (spans_token (term_eats c.in-Some.plus c.in-Some.ensures.plus c.in-Some.ensures.minus)) (λ m l next next' ts h. (c.in-Some.plus, turns_token next next' ts h))) c.in_err-term.ensures.stuck))
+more_terms-returns-in_err-term-clause-stuck t c = halts_err _ _ c.from_residual.ensures.1 (let g = c.loop-plus.invariant.0 in refuses_turn (passes g.taken (λ m l. turns_each (turns_a_term _ m l) g.more)) (refuses_then {P = λ m. plus_tokens} (passes (spans_token (term_eats c.in-Some.plus c.in-Some.ensures.plus c.in-Some.ensures.minus)) (λ m l next next' ts h. (c.in-Some.plus, turns_token next next' ts h))) c.in_err-term.ensures.stuck))
 
 pub operand-returns-in-Any-clause-stuck : goal.operand-returns-in-Any-clause-stuck
 operand-returns-in-Any-clause-stuck t c =
@@ -705,7 +717,7 @@ primary-returns-then-is_at-2-clause-stuck t c =
 pub primary-returns-in_err-operands-clause-stuck : goal.primary-returns-in_err-operands-clause-stuck
 primary-returns-in_err-operands-clause-stuck t c =
     halts_err _ _ c.from_residual-in_err-operands.ensures.1
-    (refuses_map (refuses_then {P = λ m. one_of begins_call} (passes_one (eats_as c.skip-in-Some-call_at.ensures (sym c.kind-2.ensures ∙ c.in-Some-call_at.ensures.found))
+    (refuses_map (refuses_then {P = λ m. one_of begins_call} (passes_one (eats_as c.skip-in-Some-call_at.ensures.taken (sym c.kind-2.ensures ∙ c.in-Some-call_at.ensures.found))
     (call_one c.in-Some-call_at.call)) c.in_err-operands.ensures.stuck) (λ m next ts h. text.call h))
 
 pub primary-returns-in_err-path-clause-stuck : goal.primary-returns-in_err-path-clause-stuck

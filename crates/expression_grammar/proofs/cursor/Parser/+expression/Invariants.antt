@@ -1,4 +1,4 @@
-use Rattle.std.proofs.Common.{ℕ, length, ◌+◌, ◌*◌}
+use Rattle.std.proofs.Common.{◌≡◌, ℕ, length, ◌+◌, ◌*◌}
 use Rattle.ar_lexer.specs.declared.token.TokenKind.TheVariants.{Sign}
 use Rattle.ar_lexer.specs.declared.signs.TheConstants.{COMMA}
 use Rattle.expression_grammar.specs.declared.terms.Chain.{Chain}
@@ -74,6 +74,7 @@ invariant-more_operands-loop-chain l =
     Gathers (λ e. token (separator_of l.chain) ▸ Node (operand_form l.chain l.left) e)
     (λ n. token (separator_of l.chain) ▸ operand_tokens l.chain n) (ends_chain l.chain)
     l.fn.operands.items l.operands.items l.fn.self.rest.now l.self.rest.now
+    × (l.self.end ≡ l.fn.self.end)
 
 abbrev pub decreases-more_operands-loop-chain : goal.decreases-more_operands-loop-chain
 decreases-more_operands-loop-chain l = length l.self.rest.now
@@ -83,6 +84,7 @@ invariant-more_terms-loop-plus l =
     Gathers (ReadsTerm (ReadsProduct (ReadsMinus l.left))) term_tokens ends_sum l.fn.terms.items l.terms.items
     l.fn.self.rest.now
     l.self.rest.now
+    × (l.self.end ≡ l.fn.self.end)
 
 abbrev pub decreases-more_terms-loop-plus : goal.decreases-more_terms-loop-plus
 decreases-more_terms-loop-plus l = length l.self.rest.now
@@ -92,6 +94,7 @@ invariant-more_arguments-loop-self l =
     Gathers (λ e. token (Sign COMMA) ▸ Node (ReadsExpr l.left) e) (λ n. token (Sign COMMA) ▸ expr_tokens deep n)
     ends_list
     l.fn.operands.items l.operands.items l.fn.self.rest.now l.self.rest.now
+    × (l.self.end ≡ l.fn.self.end)
 
 abbrev pub decreases-more_arguments-loop-self : goal.decreases-more_arguments-loop-self
 decreases-more_arguments-loop-self l = length l.self.rest.now
@@ -100,6 +103,7 @@ abbrev pub invariant-cases-loop-self : goal.invariant-cases-loop-self
 invariant-cases-loop-self l =
     Gathers (ReadsCase (ReadsExpr l.left)) case_tokens ends_cases l.initial.cases.items l.cases.items l.fn.self.rest.now
     l.self.rest.now
+    × (l.self.end ≡ l.fn.self.end)
 
 abbrev pub decreases-cases-loop-self : goal.decreases-cases-loop-self
 decreases-cases-loop-self l = length l.self.rest.now

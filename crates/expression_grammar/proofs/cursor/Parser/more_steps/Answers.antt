@@ -26,6 +26,7 @@ loop-self-preserved c =
           (spans_then (spans_token e) (spans_name c.in_ok-name.ensures.found)),
       loops_next i.3 (ap ends_path (eats_kind e)) (finds_then (finds_token e) (c.in_ok-name.ensures.only 0) follows_any)
           follows_any,
+      c.in_ok-name.ensures.end ∙ c.loop-self-test.ensures.end ∙ i.4,
     )
 
 pub returns-in_err-put-clause-only : goal.returns-in_err-put-clause-only

@@ -12,6 +12,7 @@ invariant-loop-self l =
     (more : _) × (l.names.items ≡ l.fn.names.items ++ more)
     × Spans (each (λ x. token (Sign DOT) ▸ ReadsName x) more) l.fn.self.rest.now l.self.rest.now
     × Loops (λ _. token (Sign DOT) ▸ token Name) ends_path l.fn.self.rest.now l.self.rest.now
+    × (l.self.end ≡ l.fn.self.end)
 
 abbrev pub decreases-loop-self : goal.decreases-loop-self
 decreases-loop-self l = length l.self.rest.now

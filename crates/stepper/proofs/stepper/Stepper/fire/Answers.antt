@@ -1,7 +1,7 @@
 use Rattle.std.proofs.Common.{◌≡◌, ℕ, List, sym, ap, ◌∙◌, subst}
 use Rattle.ar_base.specs.Numbers.{VarId}
 use Rattle.domains.specs.declared.Value.{Value}
-use Rattle.ar_meaning.specs.Flows.{Flows, Total, Fails}
+use Rattle.ar_meaning.specs.Flows.{Flows, Total}
 use Rattle.ar_meaning.specs.Steps.{Step, Next, Refused, Flow, moves, flow}
 use Rattle.ar_meaning.specs.Systems.{Net, Way}
 use Rattle.gts_core.specs.View.{net_of, IsWayAt}

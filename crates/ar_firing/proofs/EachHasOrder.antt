@@ -106,7 +106,8 @@ module _ {V : Type 0} (sys : System V) (dropped : List ℕ) (keyed : AreKeyed sy
 
 module _ {V : Type 0} (sys : System V) (dropped : List ℕ) (keyed : AreKeyed sys.net) (static : IsStatic sys dropped)
     (limit : List ℕ) (total : (part : List ℕ) (t : List Value) → IsFirable sys dropped part t → Within part limit
-    → ((f : FlowFault) → Flows sys.net t (Fails f) → (set : List ℕ) × MeetsConflict sys dropped set)
+    → ((f : FlowFault) → Flows sys.net t (Fails f)
+    → (set : List ℕ) × Within set limit × MeetsConflict sys dropped set)
     → HasFlows sys.net t) where
   -- these labels, the last first, fire, and each variable's labels are as wanted
   record Built (want : ℕ → List Label) : Type 0 where
@@ -124,6 +125,7 @@ module _ {V : Type 0} (sys : System V) (dropped : List ℕ) (keyed : AreKeyed sy
       let f = total [] (first_values sys.net.variables) (none_firable sys dropped keyed) nothing
       (λ f k. (
         [],
+        nothing,
         record {
           labels = [];
           fault = f;
@@ -206,6 +208,7 @@ module _ {V : Type 0} (sys : System V) (dropped : List ℕ) (keyed : AreKeyed sy
         let f = total (l.event ∷ map (λ l. l.event) b.labels) r.values m within_more
         (λ f k. (
           map (λ l. l.event) (l ∷ b.labels),
+          within_more,
           record {
             labels = l ∷ b.labels;
             fault = f;

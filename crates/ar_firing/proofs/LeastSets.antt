@@ -1,10 +1,9 @@
 -- Least sets, said by what is within them and by what is lesser.
-use Rattle.std.proofs.Common.{◌≡◌, ◌<◌, ◌≤◌, ◌⊎◌, inl, inr, ⊎_elim, ℕ, zero, suc, List, [], ◌∷◌, Some, refl, sym, ap, subst, arith}
+use Rattle.std.proofs.Common.{◌≡◌, ◌<◌, ◌≤◌, ◌⊎◌, inl, inr, ⊎_elim, ℕ, zero, suc, List, [], ◌∷◌, refl, sym, subst, arith}
 use Rattle.ar_base.specs.Lists.{Stands, IsOneOf}
 use Rattle.ar_firing.specs.Cuts.{IsLeast, HasNoLesser}
 use Rattle.ar_base.specs.Sets.{Within}
 use Rattle.ar_base.proofs.Sets.{member_told, within_self}
-use Rattle.std.proofs.lemmas.Bool.{cases_eq}
 
 pub within_then : {xs ys zs : List ℕ} → Within xs ys → Within ys zs → Within xs zs
 within_then h k = record { each = λ e o. k.each e (h.each e o) }

@@ -3,6 +3,7 @@ pub mod Ends
 pub mod EachHasOrder
 pub mod InOrder
 pub mod SameSets
+pub mod LeastSets
 pub mod Cutting
 pub mod OrderedSets
 pub mod Without
@@ -13,7 +14,6 @@ pub mod Lines
 pub mod ConflictLines
 pub mod Replays
 pub mod RulesHold
-pub mod LeastSets
 pub mod ImageCuts
 pub mod ImageModes
 pub mod ImageRules
@@ -27,3 +27,4 @@ pub mod Neither
 pub mod Shapes
 pub mod RunsTold
 pub mod LeastThere
+pub mod SmallSets

@@ -6,6 +6,7 @@ use Rattle.typed_expr.specs.declared.expr.Expr.{Expr, out-Expr}
 use Rattle.ar_meaning.specs.Systems.{System}
 use Rattle.ar_meaning.specs.Facts.{AreKeyed, HasValue}
 use Rattle.ar_meaning.specs.Runs.{Label}
+use Rattle.ar_base.specs.Sets.{Within}
 use Rattle.ar_firing.specs.Static.{IsStatic}
 use Rattle.ar_firing.specs.Cuts.{Reaches, IsFirable, Makes}
 use Rattle.ar_firing.specs.Forest.{firing_line, IsLine}
@@ -25,15 +26,26 @@ has_line sys dropped {t = t} f =
 module _ {V : Type 0} (sys : System V) (dropped : List ℕ) (keyed : AreKeyed sys.net) (static : IsStatic sys dropped)
     (observer : Expr V) (wanted : Value)
     (conflict top : List ℕ → Bool) (agrees : Agrees sys dropped observer wanted conflict top)
-    (calm : (set : List ℕ) (t : List Value) → IsFirable sys dropped set t → conflict set ≡ false) where
-  pub line_makes : {set : List ℕ} {ls : List Label} → Makes sys dropped observer wanted set → IsLine sys dropped set ls
+    {set : List ℕ}
+    (calm : (part : List ℕ) (t : List Value) → Within part set → IsFirable sys dropped part t
+    → conflict part ≡ false) where
+  pub line_within : {ls : List Label} → Makes sys dropped observer wanted set → IsLine sys dropped set ls
       → (t : List Value) × Reaches sys dropped (reverse ls) t × Yields (HasValue sys.net t) (out-Expr V observer) wanted
-  line_makes {set = set} {ls = ls} m h =
+  line_within {ls = ls} m h =
       let o = line_is_legal sys dropped keyed static h in
       let r =
       order_fires sys dropped keyed static (reverse ls) o
-      (λ part t f w. let s = agrees.total part t f (calm part t f) in record { values = s.values; flows = s.flows }) in
+      (λ part t f w. let s = agrees.total part t f (calm part t w f) in record { values = s.values; flows = s.flows }) in
       let e = one_end sys dropped keyed static m.order.reaches r.1
       (within_then (events_within m.order.labels set m.order.events) (set_within (reverse ls) set o.events))
       (within_then (events_within (reverse ls) set o.events) (set_within m.order.labels set m.order.events)) in
       (r.0, r.1, subst (λ z. Yields (HasValue sys.net z) (out-Expr V observer) wanted) e m.shows)
+
+module _ {V : Type 0} (sys : System V) (dropped : List ℕ) (keyed : AreKeyed sys.net) (static : IsStatic sys dropped)
+    (observer : Expr V) (wanted : Value)
+    (conflict top : List ℕ → Bool) (agrees : Agrees sys dropped observer wanted conflict top)
+    (calm : (set : List ℕ) (t : List Value) → IsFirable sys dropped set t → conflict set ≡ false) where
+  pub line_makes : {set : List ℕ} {ls : List Label} → Makes sys dropped observer wanted set → IsLine sys dropped set ls
+      → (t : List Value) × Reaches sys dropped (reverse ls) t × Yields (HasValue sys.net t) (out-Expr V observer) wanted
+  line_makes m h =
+      line_within sys dropped keyed static observer wanted conflict top agrees (λ part t w f. calm part t f) m h

@@ -161,9 +161,8 @@ module _ {V : Type 0} (sys : System V) (dropped : List ℕ) (keyed : AreKeyed sy
         let in_set : IsOneOf set l.event = f.sound n x st state zero l (subst (λ z. Stands z zero l) (sym is) refl) in
         let fine =
         λ (a : List ℕ) (u : List Value) (h : IsFirable sys dropped a u) (w : Within a part)
-        (m : (f : FlowFault) → Flows sys.net u (Fails f) → (set : List ℕ) × MeetsConflict sys dropped set). flows_of a u
-        h w in_set
-        (conflict a) refl in
+        (m : (f : FlowFault) → Flows sys.net u (Fails f) → (set : List ℕ) × Within set part × MeetsConflict sys dropped set).
+        flows_of a u h w in_set (conflict a) refl in
         let r = has_order sys dropped keyed static part fine g (record { each = λ e o. o }) in
         let h = all_firable sys dropped keyed static r.1.reaches in
         let same =

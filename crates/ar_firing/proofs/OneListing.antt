@@ -1,9 +1,9 @@
 -- The sets with a property are listed in one way.
-use Rattle.std.proofs.Common.{◌≡◌, ◌<◌, ◌⊎◌, inl, inr, ⊎_elim, ℕ, zero, suc, List, [], ◌∷◌, refl, sym, subst, arith}
+use Rattle.std.proofs.Common.{◌≡◌, ◌⊎◌, inl, inr, ⊎_elim, ℕ, zero, suc, List, [], ◌∷◌, refl, sym, subst, arith}
 use Rattle.std.proofs.lemmas.Bool.{cases_order}
 use Rattle.ar_base.specs.Lists.{Stands, IsOneOf}
 use Rattle.ar_base.specs.Sets.{Within, Ascends, IsBefore}
-use Rattle.ar_base.proofs.Sets.{ascends_rest, same_ascending}
+use Rattle.ar_base.proofs.Sets.{same_ascending}
 use Rattle.ar_firing.specs.Listed.{AreListed}
 
 -- of two sets at most one is before the other

@@ -8,7 +8,8 @@ use Rattle.ar_meaning.specs.Flows.{Flows, Outcome, Fails, Total}
 use Rattle.ar_meaning.specs.Found.{AreTold}
 use Rattle.ar_meaning.proofs.Outcomes.{has_outcome}
 use Rattle.ar_firing.specs.Static.{IsStatic}
-use Rattle.ar_firing.specs.Cuts.{Reaches, start, fire, HasOrder, IsFirable, IsConflictFree}
+use Rattle.ar_base.specs.Sets.{Within}
+use Rattle.ar_firing.specs.Cuts.{Reaches, start, fire, HasOrder, IsFirable, MeetsConflict, IsConflictFree}
 use Rattle.ar_firing.specs.Operands.{HasFlows, HasFault}
 use Rattle.ar_firing.proofs.Firing.{all_firable}
 use Rattle.ar_firing.proofs.EachHasOrder.{has_order}
@@ -29,16 +30,23 @@ module _ {V : Type 0} (sys : System V) (dropped : List ℕ) (keyed : AreKeyed sy
       firable_as sys dropped (events_within o.labels set o.events) (set_within o.labels set o.events)
       (all_firable sys dropped keyed static o.reaches)
 
+  -- where no set within this one meets a conflict
+  pub has_order_within : {set : List ℕ} {t : List Value}
+      → ((part : List ℕ) → Within part set → MeetsConflict sys dropped part → ⊥)
+      → ((set : List ℕ) (t : List Value) → IsFirable sys dropped set t → HasFlows sys.net t ⊎ HasFault sys.net t)
+      → IsFirable sys dropped set t → (u : List Value) × HasOrder sys dropped set u
+  has_order_within {set = set} free known f =
+      has_order sys dropped keyed static set
+      (λ part u h w met. ⊎_elim (λ k. k) (λ k. let m = met k.fault k.flows in absurd (free m.0 m.1 m.2)) (known part u h))
+      f (record { each = λ e o. o })
+
   pub firable_has_order : IsConflictFree sys dropped
       → ((set : List ℕ) (t : List Value) → IsFirable sys dropped set t → HasFlows sys.net t ⊎ HasFault sys.net t)
       → {set : List ℕ} {t : List Value} → IsFirable sys dropped set t → (u : List Value) × HasOrder sys dropped set u
-  firable_has_order free known {set = set} f =
-      has_order sys dropped keyed static set
-      (λ part u h w met. ⊎_elim (λ k. k) (λ k. let m = met k.fault k.flows in absurd (free m.0 m.1)) (known part u h)) f
-      (record { each = λ e o. o })
+  firable_has_order free known f = has_order_within (λ part w m. free part m) known f
 
   -- the flows of a firable set are there, or a fault
-  flows_told : AreTold V → (set : List ℕ) (t : List Value) → IsFirable sys dropped set t
+  pub flows_told : AreTold V → (set : List ℕ) (t : List Value) → IsFirable sys dropped set t
       → HasFlows sys.net t ⊎ HasFault sys.net t
   flows_told told set t f = go (has_outcome told sys.net t f.long)
     where

@@ -1,6 +1,6 @@
 -- A renamed expression has as many possible values.
 use Rattle.std.proofs.Common.{◌≡◌, ◌⊎◌, inl, inr, ⊎_elim, ℕ, zero, suc, Bool, List, [], ◌∷◌, take, Contains, ap, subst, arith}
-use Rattle.std.proofs.lemmas.List.Elements.{Contains-append_left, Contains-append_right, Contains-append_cases, Contains-push, Contains-push_cases}
+use Rattle.std.proofs.lemmas.List.Elements.{Contains-append_right, Contains-append_cases, Contains-push_cases}
 use Rattle.domains.specs.declared.Value.{Value}
 use Rattle.domains.proofs.Members.{contains-head}
 use Rattle.typed_expr.specs.Yields.{Level}

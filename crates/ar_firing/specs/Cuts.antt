@@ -1,5 +1,5 @@
 -- Firable sets, firing orders, cuts and conflicts. A set of events is a list of their numbers.
-use Rattle.std.specs.Prelude.{◌<◌, ◌≡◌, ℕ, true, List, [], ◌∷◌, length}
+use Rattle.std.specs.Prelude.{◌<◌, ◌≤◌, ◌≡◌, ℕ, true, List, [], ◌∷◌, length, Option, Some, None}
 use Rattle.ar_base.specs.Lists.{Stands, IsOneOf}
 use Rattle.ar_base.specs.Sets.{Within}
 use Rattle.domains.specs.declared.Value.{Value}
@@ -75,6 +75,22 @@ ConflictSet sys dropped = IsLeast (MeetsConflict sys dropped)
 -- no set meets a conflict
 abbrev pub IsConflictFree : {V : Type 0} → System V → List ℕ → Type 0
 IsConflictFree sys dropped = (set : List ℕ) → MeetsConflict sys dropped set → ⊥
+
+-- the set has at most k events: they are among the members of a list of at most k
+pub record HasAtMost (k : ℕ) (set : List ℕ) : Type 0 where
+  pub list : List ℕ
+  pub within : Within set list
+  pub few : length list ≤ k
+
+-- the set has at most as many events as are asked for; where no number is given, every set has
+abbrev pub UpTo : Option ℕ → List ℕ → Type 0
+UpTo None set = Unit {0}
+UpTo (Some k) set = HasAtMost k set
+
+-- no set of at most so many events meets a conflict; where no number is given, none does
+abbrev pub IsConflictFreeUpTo : {V : Type 0} → Option ℕ → System V → List ℕ → Type 0
+IsConflictFreeUpTo None sys dropped = IsConflictFree sys dropped
+IsConflictFreeUpTo (Some k) sys dropped = (set : List ℕ) → HasAtMost k set → MeetsConflict sys dropped set → ⊥
 
 -- the set is firable, and t is its state: its events are exactly those along one path of each state variable, and each
 -- state variable has the value where its path ends

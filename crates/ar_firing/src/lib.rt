@@ -5,6 +5,7 @@
 //! empty body and states a law of them.
 #![tactic(auto)]
 
+pub mod bounded;
 pub mod images;
 pub mod least;
 pub mod listing;

@@ -10,6 +10,7 @@ pub mod OneMember
 pub mod OneModel
 pub mod OnePath
 pub mod OneUnread
+pub mod SomeCut
 pub mod OpenedForms
 pub mod OpenedMembers
 pub mod SameNumbers

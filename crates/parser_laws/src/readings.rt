@@ -1,6 +1,6 @@
 //! The laws of readings.
 
-ghost use Rattle.std.specs.Prelude.{◌≡◌, ℕ, ℤ, List};
+ghost use Rattle.std.specs.Prelude.{◌≡◌, ◌⊎◌, ℕ, ℤ, List};
 ghost use Rattle.ar_lexer.specs.Tokens.{AreTokens, IsFirstFault};
 ghost use Rattle.ar_lexer.specs.declared.token.LexFault.{LexFault};
 ghost use Rattle.ar_lexer.specs.declared.token.Token.{Token};
@@ -21,11 +21,14 @@ ghost use Rattle.parser_laws.specs.Opened.{SameItemForm, SameModelForm};
 /// However often a text is read, it has one list of tokens and one tree.
 ///
 /// - `one_tree`: Each text has at most one tree: two readings have the same items, names, places and spans.
-/// - `tokens`, `fault`, `apart`: Each text has at most one list of tokens or one first fault, and never both.
+/// - `cut`, `tokens`, `fault`, `apart`: Each text has a list of tokens or a first fault, just one of the two and
+///   never both.
 /// - `trees_keep`: Each name of a text's tree has a number in the tree's table, and no list of the tree has
 ///   more items than the text has bytes.
 pub fn one_reading()
     ensures one_tree { (bytes : List ℕ) → HasOneTree bytes }
+    ensures cut { (text : List ℕ) → ((ts : List Token) × AreTokens text ts)
+        ⊎ ((f : LexFault) × IsFirstFault text f) }
     ensures tokens { (text : List ℕ) (ts us : List Token)
         → AreTokens text ts → AreTokens text us → ts ≡ us }
     ensures fault { (text : List ℕ) (f g : LexFault)

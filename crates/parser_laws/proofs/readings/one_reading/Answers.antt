@@ -1,10 +1,14 @@
 use Rattle.parser_laws.proofs.OneModel.{one_tree}
 use Rattle.ar_lexer.proofs.Laws.{tokens_one, fault_one, tokens_no_fault}
 use Rattle.parser_laws.proofs.Keeping.{trees_keep}
+use Rattle.parser_laws.proofs.SomeCut.{tokens_or_fault}
 use Rattle.parser_laws.proofs.readings.one_reading.Goals as goal
 
 pub returns-clause-one_tree : goal.returns-clause-one_tree
 returns-clause-one_tree c = one_tree
+
+pub returns-clause-cut : goal.returns-clause-cut
+returns-clause-cut c = tokens_or_fault
 
 pub returns-clause-tokens : goal.returns-clause-tokens
 returns-clause-tokens c = tokens_one

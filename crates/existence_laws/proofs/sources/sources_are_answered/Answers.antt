@@ -1,0 +1,5 @@
+use Rattle.existence_laws.proofs.Chain.{answered}
+use Rattle.existence_laws.proofs.sources.sources_are_answered.Goals as goal
+
+pub returns : goal.returns
+returns c = λ main text p t u d s. answered main text p t u d s

@@ -2,6 +2,7 @@ pub mod GivenLemmas
 pub mod GatherLemmas
 pub mod CommandLemmas
 pub mod EndLemmas
+pub mod ReadingLemmas
 pub mod FollowLemmas
 pub mod LawLemmas
 mod ListingLemmas

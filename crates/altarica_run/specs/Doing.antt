@@ -2,6 +2,7 @@
 use Rattle.std.specs.Prelude.{◌≡◌, ◌≤◌, ℕ, true, false, List, Some, None, Result, Ok, Err, length}
 use Rattle.ar_base.specs.Counts.{limit_of}
 use Rattle.ar_base.specs.declared.counts.Count.TheVariants.{ModelBytes}
+use Rattle.ar_io.specs.Loads.{Load}
 use Rattle.ar_io.specs.Outside.{Told}
 use Rattle.ar_io.specs.Writing.{SinkState}
 use Rattle.run_words.specs.Commands.{shape_of, is_second}
@@ -11,6 +12,8 @@ use Rattle.job_stages.specs.Files.{files_of, Loads}
 use Rattle.job_stages.specs.Jobs.{IsNoJob}
 use Rattle.job_stages.specs.Loading.{texts_of}
 use Rattle.job_stages.specs.Passing.{IsThere}
+use Rattle.job_stages.specs.Refusals.{line_of, status_of}
+use Rattle.altarica_run.specs.Reading.{SaysBy, AreLoadsOf, EndsBy}
 use Rattle.altarica_run.specs.Says.{EndsSo}
 use Rattle.job_stages.specs.Stages.{Ready, Passes, Stages, has_table, observer_asked}
 use Rattle.job_stages.specs.Telling.{IsWrittenFor}
@@ -60,3 +63,10 @@ abbrev pub AnswersWords : (List ℕ → Told) → (List ℕ → Type 0) → List
 AnswersWords files rose words old new (Ok status) = EndsSo files rose words old new status
 AnswersWords files rose words old new (Err (Refused r)) = RefusesWords files rose words r × (new ≡ old)
 AnswersWords files rose words old new (Err Memory) = new ≡ old
+
+-- the same by the loads that were made: the words were answered by what they gave; or they are refused, or memory is
+-- refused, and the sink is as it was
+abbrev pub AnswersReading : List (List ℕ) → SinkState → SinkState → Result Status Stop → List Load → Type 0
+AnswersReading words old new (Ok status) loads = EndsBy loads words old new status
+AnswersReading words old new (Err (Refused r)) loads = SaysBy loads words (line_of r) (status_of r) × (new ≡ old)
+AnswersReading words old new (Err Memory) loads = AreLoadsOf words loads × (new ≡ old)

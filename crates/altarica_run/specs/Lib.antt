@@ -1,4 +1,5 @@
 pub mod Says
+pub mod Reading
 pub mod Answers
 pub mod Statuses
 pub mod Follows

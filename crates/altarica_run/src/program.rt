@@ -1,12 +1,17 @@
 //! The one call of the program, and how a job is done in it.
 
-ghost use Rattle.std.specs.Prelude.{◌≡◌, map};
+ghost use Rattle.std.specs.Prelude.{◌≡◌, drop, map};
+ghost use Rattle.std.specs.Process.{exit_status};
 ghost use Rattle.std.specs.String.{string_bytes};
 ghost use Rattle.ar_base.specs.Texts.{bytes_of_all};
 ghost use Rattle.ar_io.specs.Outside.{Rose};
 ghost use Rattle.altarica_run.specs.Answers.{Answers};
-ghost use Rattle.altarica_run.specs.Doing.{AreGiven, AnswersFor, AnswersWords};
+ghost use Rattle.altarica_run.specs.Doing.{AreGiven, AnswersFor, AnswersReading, AnswersWords};
+ghost use Rattle.altarica_run.specs.Reading.{AnswersBy};
 ghost use Rattle.job_stages.specs.Jobs.{LoadsNothing};
+ghost use Rattle.job_stages.specs.Logs.{Grew};
+ghost use Rattle.job_stages.specs.Numbers.{number_of};
+ghost use Rattle.job_stages.specs.declared.status.Status.{Status};
 
 use crate::commands::run;
 use ar_io::{Beginning, Gathered, Shelf, Sink, room};
@@ -14,19 +19,58 @@ use job_stages::{Status, Stop, Texts, job_of, job_texts, refuse, written};
 use run_words::Job;
 use std::alloc::Global;
 use std::marker::Brand;
+use std::process::ExitCode;
+
+/// Does the job of the words behind the first, which is the program's name, and ends the process with
+/// the number of its status.
+pub fn exit<H: Shelf, K: Sink>(
+    alloc: Global,
+    args: &[String],
+    shelf: &mut H,
+    out: &mut K,
+) -> ExitCode
+    ensures { (status : Status) × (exit_status result ≡ number_of status)
+        × Answers (map string_bytes (drop 1 args.now))
+        (H.holds shelf.old) (H.holds shelf.new) (H.faults shelf.old) (H.faults shelf.new)
+        (K.state out.old).bytes (K.state out.new).bytes
+        (K.state out.old).faults (K.state out.new).faults status
+        × AnswersBy (map string_bytes (drop 1 args.now)) (H.loads shelf.old) (H.loads shelf.new)
+        (K.state out.old) (K.state out.new) status }
+{
+    let status = altarica(alloc, behind_first(args), shelf, out);
+    ExitCode::from(status.number())
+}
+
+// The words behind the first.
+fn behind_first(args: &[String]) -> &[String]
+    ensures { result.now ≡ drop 1 args.now }
+{
+    if args.is_empty() {
+        return args;
+    }
+    &args[1..]
+}
 
 /// Does the job of the words, which stand behind the program's name: loads its files from the shelf,
 /// and writes its text, or the line that says why there is none, to the sink.
+///
+/// - `told`: What the call answers over files of which the shelf tells something.
+/// - `loads`: What it answers by the loads that the shelf logs: it loads the job's files in their order and no
+///   others, up to the first that did not come, and its text and status are those of what came.
+/// - `untouched`: Where the words ask for no file the shelf is as it was.
 pub fn altarica<H: Shelf, K: Sink>(
     alloc: Global,
     words: &[String],
     shelf: &mut H,
     out: &mut K,
 ) -> Status
-    ensures { Answers (map string_bytes words.now)
+    ensures told { Answers (map string_bytes words.now)
         (H.holds shelf.old) (H.holds shelf.new) (H.faults shelf.old) (H.faults shelf.new)
         (K.state out.old).bytes (K.state out.new).bytes
         (K.state out.old).faults (K.state out.new).faults result }
+    ensures loads { AnswersBy (map string_bytes words.now) (H.loads shelf.old) (H.loads shelf.new)
+        (K.state out.old) (K.state out.new) result }
+    ensures untouched { LoadsNothing (map string_bytes words.now) → shelf.new ≡ shelf.old }
 {
     match do_job(alloc, words, shelf, out) {
         Ok(status) => status,
@@ -48,6 +92,8 @@ fn do_job<H: Shelf, K: Sink>(
     ensures words { AnswersWords (H.holds shelf.old)
         (λ name. Rose (H.faults shelf.old name) (H.faults shelf.new name))
         (bytes_of_all words.now) (K.state out.old) (K.state out.new) result }
+    ensures loads { Grew (H.loads shelf.old) (H.loads shelf.new)
+        (AnswersReading (bytes_of_all words.now) (K.state out.old) (K.state out.new) result) }
 {
     let job = job_of(alloc, words)?;
     let texts = job_texts(alloc, shelf, &job)?;

@@ -14,12 +14,15 @@ pub mod Findings
 pub mod Flats
 pub mod Labels
 pub mod Lines
+mod LogsApart
+mod LogsTold
 pub mod ManyCuts
 pub mod Modules
 pub mod Observers
 pub mod OneSource
 pub mod Plans
 pub mod Readings
+mod RunsAsCalls
 pub mod Scripts
 pub mod Sources
 pub mod Stages

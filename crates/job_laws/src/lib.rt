@@ -9,5 +9,6 @@ pub mod answer_laws;
 pub mod causes;
 pub mod flat_laws;
 pub mod one_answer;
+pub mod real_runs;
 pub mod told;
 pub mod word_laws;

@@ -1,5 +1,6 @@
 pub mod LineLemmas
 pub mod FileLemmas
+mod LogLemmas
 pub mod JobLemmas
 pub mod ElaborateLemmas
 pub mod PassLemmas

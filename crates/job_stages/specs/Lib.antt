@@ -3,6 +3,7 @@ pub mod Refusals
 pub mod Files
 pub mod Elaborates
 pub mod Stages
+pub mod Logs
 pub mod Tells
 pub mod Numbers
 pub mod Loading

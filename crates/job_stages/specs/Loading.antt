@@ -3,10 +3,12 @@ use Rattle.std.specs.Prelude.{◌≡◌, ◌⊎◌, ◌≤◌, ℕ, Bool, true, 
 use Rattle.std.specs.Global.{Global}
 use Rattle.ar_base.specs.Counts.{limit_of}
 use Rattle.ar_base.specs.declared.counts.Count.TheVariants.{ModelBytes}
+use Rattle.ar_io.specs.Loads.{Load}
 use Rattle.ar_io.specs.Outside.{Told, MayBeLonger, IsFile}
 use Rattle.run_words.specs.declared.jobs.Job.{Job}
 use Rattle.job_stages.specs.Files.{File, files_of, Loaded, Loads, IsText}
 use Rattle.job_stages.specs.Jobs.{makes_model}
+use Rattle.job_stages.specs.Logs.{Came, AreLoads}
 use Rattle.job_stages.specs.declared.loading.Texts.{Texts}
 use Rattle.job_stages.specs.declared.refusals.FileKind.{FileKind}
 use Rattle.job_stages.specs.declared.refusals.Refusal.{Refusal}
@@ -58,3 +60,21 @@ abbrev pub AnswersTexts : (List ℕ → Told) → (List ℕ → Type 0) → Job 
 AnswersTexts told rose job (Ok t) = AreTexts told job t
 AnswersTexts told rose job (Err (Refused r)) = RefusesFiles told rose (files_of job) r
 AnswersTexts told rose job (Err Memory) = Unit {0}
+
+-- What the log of the shelf says of an answer
+
+-- an answer, with the list that its success is seen as
+abbrev pub seen : {X : Type 0} → (X → List (List ℕ)) → Result X Stop → Result (List (List ℕ)) Stop
+seen texts (Ok x) = Ok (texts x)
+seen texts (Err s) = Err s
+
+-- the only text
+abbrev pub one_text : Vec ℕ Global → List (List ℕ)
+one_text bytes = bytes.items ∷ []
+
+-- the texts that these loads of the files gave, or what stopped them; where memory was refused, a model that was to be
+-- made may have been what wanted it
+abbrev pub AnswersLoads : {X : Type 0} → (X → List (List ℕ)) → List File → Result X Stop → List Load → Type 0
+AnswersLoads texts files (Ok x) loads = Came files loads (Ok (texts x))
+AnswersLoads texts files (Err (Refused r)) loads = Came files loads (Err (Refused r))
+AnswersLoads texts files (Err Memory) loads = AreLoads files loads

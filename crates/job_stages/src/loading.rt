@@ -1,11 +1,13 @@
 //! The texts of a job: those of its files, or the model that its command makes.
 
-ghost use Rattle.std.specs.Prelude.{◌≡◌, ◌≤◌, ℕ, true, false, List, Option};
+ghost use Rattle.std.specs.Prelude.{◌≡◌, ◌≤◌, ℕ, true, false, List, [], ◌∷◌, Option};
 ghost use Rattle.ar_io.specs.Outside.{Rose};
 ghost use Rattle.run_words.specs.Jobs.{IsJob};
-ghost use Rattle.job_stages.specs.Files.{files_where, script_files};
+ghost use Rattle.job_stages.specs.Files.{File, files_of, files_where, script_files};
 ghost use Rattle.job_stages.specs.Jobs.{makes_model};
-ghost use Rattle.job_stages.specs.Loading.{AnswersFile, AnswersFiles, AnswersTexts, texts_where, script_texts};
+ghost use Rattle.job_stages.specs.Loading.{AnswersFile, AnswersFiles, AnswersTexts, texts_of, texts_where, script_texts};
+ghost use Rattle.job_stages.specs.Loading.{AnswersLoads, seen, one_text};
+ghost use Rattle.job_stages.specs.Logs.{Came, Grew};
 
 use crate::jobs::makes_model;
 use crate::refusals::{FileKind, Refusal};
@@ -33,6 +35,8 @@ pub fn job_texts<H: Shelf>(alloc: Global, shelf: &mut H, job: &Job) -> Result<Te
     ensures texts { AnswersTexts (H.holds shelf.old)
         (λ name. Rose (H.faults shelf.old name) (H.faults shelf.new name))
         job.now result }
+    ensures came { Grew (H.loads shelf.old) (H.loads shelf.new)
+        (AnswersLoads (texts_of job.now) (files_of job.now) result) }
 {
     // A made model is short.
     one_job();
@@ -48,9 +52,11 @@ pub fn job_texts<H: Shelf>(alloc: Global, shelf: &mut H, job: &Job) -> Result<Te
 
 // Loads the files of a job, the model first.
 fn load_all<H: Shelf>(alloc: Global, shelf: &mut H, job: &Job) -> Result<Texts, Stop>
-    ensures { AnswersFiles (texts_where false) (H.holds shelf.old)
+    ensures loaded { AnswersFiles (texts_where false) (H.holds shelf.old)
         (λ name. Rose (H.faults shelf.old name) (H.faults shelf.new name))
         (files_where false job.now) result }
+    ensures came { Grew (H.loads shelf.old) (H.loads shelf.new)
+        (λ loads. Came (files_where false job.now) loads (seen (texts_where false) result)) }
 {
     let name = job.model.as_str();
     let model = load(alloc, shelf, name, FileKind::Model, Count::ModelBytes)?;
@@ -64,9 +70,11 @@ fn load_script<H: Shelf>(
     shelf: &mut H,
     name: &Option<Text>,
 ) -> Result<Option<Vec<u8>>, Stop>
-    ensures { AnswersFiles script_texts (H.holds shelf.old)
+    ensures loaded { AnswersFiles script_texts (H.holds shelf.old)
         (λ name. Rose (H.faults shelf.old name) (H.faults shelf.new name))
         (script_files name.now) result }
+    ensures came { Grew (H.loads shelf.old) (H.loads shelf.new)
+        (λ loads. Came (script_files name.now) loads (seen script_texts result)) }
 {
     match name {
         Some(name) => {
@@ -89,6 +97,8 @@ fn load<H: Shelf>(
     ensures loaded { AnswersFile (H.holds shelf.old)
         (λ name. Rose (H.faults shelf.old name) (H.faults shelf.new name))
         (record { kind = kind; name = name.now; count = count }) result }
+    ensures came { Grew (H.loads shelf.old) (H.loads shelf.new) (λ loads. Came
+        (record { kind = kind; name = name.now; count = count } ∷ []) loads (seen one_text result)) }
     ensures keeps { (other : List ℕ) → H.holds shelf.new other ≡ H.holds shelf.old other }
     ensures rises { (other : List ℕ) → H.faults shelf.old other ≤ H.faults shelf.new other }
 {

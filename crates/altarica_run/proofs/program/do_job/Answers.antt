@@ -1,10 +1,11 @@
-use Rattle.std.proofs.Common.{ℕ, List}
+use Rattle.std.proofs.Common.{ℕ, List, refl}
 use Rattle.std.proofs.lemmas.Result.{err_from_is_err_and}
 use Rattle.ar_base.specs.Texts.{bytes_of_all}
 use Rattle.ar_io.specs.Outside.{Rose}
 use Rattle.altarica_run.proofs.EndLemmas.{words_stop, files_stop, job_done}
 use Rattle.job_stages.proofs.FileLemmas.{loaded_script, script_loaded}
 use Rattle.altarica_run.proofs.GivenLemmas.{gives}
+use Rattle.altarica_run.proofs.ReadingLemmas as reading
 use Rattle.altarica_run.proofs.program.do_job.Goals as goal
 
 pub returns-in_err-job-clause-words : goal.returns-in_err-job-clause-words
@@ -49,3 +50,19 @@ returns-in_err-texts-clause-untouched g c = λ none.
 
 pub returns-clause-untouched : goal.returns-clause-untouched
 returns-clause-untouched g c = λ none. c.in_ok-texts.ensures.made (none c.in_ok-job.job c.in_ok-job.ensures)
+
+pub returns-in_err-job-clause-loads : goal.returns-in_err-job-clause-loads
+returns-in_err-job-clause-loads g c =
+    let r = err_from_is_err_and c.from_residual.result c.from_residual.ensures.1 in
+    reading.words_stop (bytes_of_all c.args.words.now) _ _ _ refl _ _ _ r.1 r.2 c.in_err-job.ensures
+
+pub returns-in_err-texts-clause-loads : goal.returns-in_err-texts-clause-loads
+returns-in_err-texts-clause-loads g c =
+    let r = err_from_is_err_and c.from_residual-in_err-texts.result c.from_residual-in_err-texts.ensures.1 in
+    reading.files_stop (bytes_of_all c.args.words.now) _ _ _ c.in_ok-job.job c.in_ok-job.ensures _ _ _ r.1 r.2
+    c.in_err-texts.ensures.came
+
+pub returns-clause-loads : goal.returns-clause-loads
+returns-clause-loads g c =
+    reading.job_done (bytes_of_all c.args.words.now) _ _ _ c.in_ok-job.job c.in_ok-job.ensures _ c.in_ok-texts.texts
+    c.in_ok-texts.ensures.came c.in_ok-texts.ensures.texts.is_text _ c.run_gathered.ensures

@@ -1,9 +1,11 @@
 use Rattle.std.proofs.Common.{◌≤◌, ◌∙◌, ℕ, List, length, None, refl, sym, subst}
+use Rattle.std.proofs.lemmas.Result.{err_from_is_err_and}
 use Rattle.ar_base.specs.Counts.{limit_of}
 use Rattle.ar_base.specs.declared.counts.Count.TheVariants.{ModelBytes}
 use Rattle.ar_io.specs.Outside.{Rose}
 use Rattle.job_stages.proofs.FileLemmas.{made_told, files_told}
 use Rattle.job_stages.proofs.JobLemmas.{made_job}
+use Rattle.job_stages.proofs.LogLemmas.{files_came, made_came, made_stopped}
 use Rattle.job_stages.proofs.loading.job_texts.Goals as goal
 
 pub returns-then-makes_model-clause-texts : goal.returns-then-makes_model-clause-texts
@@ -26,4 +28,25 @@ returns-clause-texts g c =
     (g.H.Shelf.faults c.load_all.new.shelf name) in
     let job = c.args.job.now in
     let e = sym c.makes_model.ensures ∙ c.if-makes_model.false in
-    files_told told rose job e c.load_all.result c.load_all.ensures
+    files_told told rose job e c.load_all.result c.load_all.ensures.loaded
+
+pub returns-in_err-model-then-makes_model-clause-came : goal.returns-in_err-model-then-makes_model-clause-came
+returns-in_err-model-then-makes_model-clause-came g c =
+    let r = err_from_is_err_and c.from_residual.result c.from_residual.ensures.1 in
+    let job = c.args.job.now in
+    let e = sym c.makes_model.ensures ∙ c.if-makes_model.true in
+    let made = made_job c.requires.0 job c.requires.1 e in
+    made_stopped job _ _ e made.script refl _ _ r.1 r.2
+
+pub returns-then-makes_model-clause-came : goal.returns-then-makes_model-clause-came
+returns-then-makes_model-clause-came g c =
+    let job = c.args.job.now in
+    let e = sym c.makes_model.ensures ∙ c.if-makes_model.true in
+    let made = made_job c.requires.0 job c.requires.1 e in
+    made_came job _ _ e made.script refl (record { model = c.in_ok-model.model; script = None }) refl
+
+pub returns-clause-came : goal.returns-clause-came
+returns-clause-came g c =
+    let job = c.args.job.now in
+    let e = sym c.makes_model.ensures ∙ c.if-makes_model.false in
+    files_came job _ _ e c.load_all.result c.load_all.ensures.came

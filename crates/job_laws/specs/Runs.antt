@@ -1,0 +1,55 @@
+-- The loads of a real run, and calls over files of which something is told that answer as the run does.
+use Rattle.std.specs.Prelude.{◌≡◌, ◌<◌, ℕ, List, ◌∷◌, Result, Ok, Err, length, map}
+use Rattle.std.specs.List.{AllByRecursion, IsDistinct}
+use Rattle.std.specs.Str.{bytes_eq}
+use Rattle.ar_io.specs.Loads.{Load}
+use Rattle.ar_io.specs.Outside.{Told, Bytes, Absent}
+use Rattle.ar_io.specs.Writing.{SinkState}
+use Rattle.ar_io.specs.declared.outside.LoadFault.{LoadFault}
+use Rattle.ar_io.specs.declared.outside.LoadFault.TheVariants as fault
+use Rattle.run_words.specs.declared.jobs.Job.{Job}
+use Rattle.job_stages.specs.Files.{files_of, Loads}
+use Rattle.job_stages.specs.Stages.{Ready, Passes}
+use Rattle.job_stages.specs.declared.refusals.FileKind.{FileKind}
+use Rattle.job_stages.specs.declared.refusals.Refusal.{Refusal}
+use Rattle.job_stages.specs.declared.refusals.Refusal.TheVariants.{NotRead}
+use Rattle.altarica_run.specs.Follows.{Call, RoseAt, sink_before, sink_after}
+
+-- what is told of a name is what came of its load: the bytes, or more bytes than were asked for, or that there are none;
+-- of a load for which memory was refused nothing need be told
+abbrev pub Agrees : Told → ℕ → Result (List ℕ) LoadFault → Type 0
+Agrees told most (Ok bytes) = told ≡ Bytes bytes
+Agrees told most (Err fault.TooLong) = (bytes : List ℕ) × (told ≡ Bytes bytes) × (most < length bytes)
+Agrees told most (Err fault.Failed) = told ≡ Absent
+Agrees told most (Err fault.Memory) = Unit {0}
+
+-- the same of each of these loads
+abbrev pub AgreesWith : (List ℕ → Told) → List Load → Type 0
+AgreesWith told = AllByRecursion (λ (l : Load). Agrees (told l.name) l.most l.got)
+
+-- a load of this name failed
+pub data Failed (name : List ℕ) : List Load → Type 0 where
+  here : {l : Load} {loads : List Load} → l.name ≡ name → l.got ≡ Err fault.Failed → Failed name (l ∷ loads)
+  behind : {l : Load} {loads : List Load} → Failed name loads → Failed name (l ∷ loads)
+
+-- the stages of the job come to this over files of which this is told; or a file of it was not read, a load of which
+-- failed
+pub data PassesOver (told : List ℕ → Told) (loads : List Load) (job : Job) : Result Ready Refusal → Type 0 where
+  passes : {x : Result Ready Refusal} → Passes told job x → PassesOver told loads job x
+  not_read : {kind : FileKind} {name : List ℕ} → Loads told (files_of job) kind name → Failed name loads
+      → PassesOver told loads job (Err (NotRead kind))
+
+-- no name is loaded twice
+abbrev pub AreApart : List Load → Type 0
+AreApart loads = IsDistinct bytes_eq (map (λ (l : Load). l.name) loads)
+
+-- the call is of these words, over files of which this is told and with the sink before and after; counts of faults rose
+-- for just those names of which a load failed
+pub record IsCallOf (words : List (List ℕ)) (told : List ℕ → Told) (loads : List Load) (old new : SinkState) (c : Call)
+    : Type 0 where
+  pub words : c.words ≡ words
+  pub files : c.files ≡ told
+  pub before : sink_before c ≡ old
+  pub after : sink_after c ≡ new
+  pub rose : (name : List ℕ) → Failed name loads → RoseAt c name
+  pub failed : (name : List ℕ) → RoseAt c name → Failed name loads

@@ -114,7 +114,7 @@ module _ (words : List (List ℕ)) (old : SinkState) (a b : List Load) where
         go : (r : Result Status Stop) → AnswersFor job t old new r → AnswersReading words old new r g.0
         go (Ok s) h = job_told g.0 words old new job h.0 is (come (texts_of job t) g.2 text h.1) s h.2
         go (Err (Refused r)) h = (refuses job r is (come (texts_of job t) g.2 text h.0), h.1)
-        go (Err Memory) h = (inr (job, is, Ok (texts_of job t), g.2), h)
+        go (Err Memory) h = (inr (job, is, (Ok (texts_of job t), g.2)), h)
 
 -- How the call ends
 

@@ -87,15 +87,15 @@ one_where : (b : Bool) (n : ℕ) → b ≡ true → (if b then 1 else n) ≡ 1
 one_where true n e = refl
 one_where false n e = let k : false ≡ true = e in absurd cc
 
-one_fault : (loads : List Load) (name : List ℕ) → Failed name loads → faults_by loads name ≡ 1
-one_fault loads name (here {l = l} {loads = more} e f) =
+one_fault : (name : List ℕ) (loads : List Load) → Failed name loads → faults_by loads name ≡ 1
+one_fault name loads (here {l = l} {loads = more} e f) =
     one_where (is_failed l.got && bytes_eq l.name name) (faults_by more name)
     (both (is_failed l.got) (bytes_eq l.name name) (ap is_failed f) ((bytes_eq-Decides l.name name).1 e))
-one_fault loads name (behind {l = l} {loads = more} h) =
-    one_or (is_failed l.got && bytes_eq l.name name) (faults_by more name) (one_fault more name h)
+one_fault name loads (behind {l = l} {loads = more} h) =
+    one_or (is_failed l.got && bytes_eq l.name name) (faults_by more name) (one_fault name more h)
 
 rose_failed : (loads : List Load) (name : List ℕ) → Failed name loads → Rose 0 (faults_by loads name)
-rose_failed loads name h = let e = one_fault loads name h in inl (omega arith)
+rose_failed loads name h = let e = one_fault name loads h in inl (omega arith)
 
 not_risen : Rose 0 0 → ⊥
 not_risen (inl h) = omega arith
@@ -187,8 +187,8 @@ module _ (loads : List Load) (words : List (List ℕ)) (old new : SinkState) (s 
 
   is_call : (told : List ℕ → Told) → IsCallOf words told loads old new (call_over told)
   is_call told = record {
-    words = refl;
-    files = refl;
+    same_words = refl;
+    same_files = refl;
     before = refl;
     after = refl;
     rose = rose_failed loads;

@@ -47,8 +47,8 @@ AreApart loads = IsDistinct bytes_eq (map (λ (l : Load). l.name) loads)
 -- for just those names of which a load failed
 pub record IsCallOf (words : List (List ℕ)) (told : List ℕ → Told) (loads : List Load) (old new : SinkState) (c : Call)
     : Type 0 where
-  pub words : c.words ≡ words
-  pub files : c.files ≡ told
+  pub same_words : c.words ≡ words
+  pub same_files : c.files ≡ told
   pub before : sink_before c ≡ old
   pub after : sink_after c ≡ new
   pub rose : (name : List ℕ) → Failed name loads → RoseAt c name

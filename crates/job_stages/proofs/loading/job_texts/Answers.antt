@@ -30,8 +30,8 @@ returns-clause-texts g c =
     let e = sym c.makes_model.ensures ∙ c.if-makes_model.false in
     files_told told rose job e c.load_all.result c.load_all.ensures.loaded
 
-pub returns-in_err-model-then-makes_model-clause-came : goal.returns-in_err-model-then-makes_model-clause-came
-returns-in_err-model-then-makes_model-clause-came g c =
+pub returns-in_err-model-clause-came : goal.returns-in_err-model-clause-came
+returns-in_err-model-clause-came g c =
     let r = err_from_is_err_and c.from_residual.result c.from_residual.ensures.1 in
     let job = c.args.job.now in
     let e = sym c.makes_model.ensures ∙ c.if-makes_model.true in

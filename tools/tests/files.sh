@@ -1,6 +1,6 @@
 #!/usr/bin/env bash
-# The program over real files: none, folders, texts of as many bytes as are allowed, names that look like options; and
-# standard output that takes nothing.
+# The program over real files: none, folders, pipes, texts around the bytes of one read and as many as are allowed, names
+# that look like options; and standard output that takes nothing, or is closed.
 . "$(dirname "$0")/points.bash"
 
 block='block B Boolean s (init = true); event e; transition e: s -> s := false; observer Boolean o = not s; end'
@@ -55,6 +55,46 @@ equal "a model past its limit before no script" "10 size: model bytes 4194304" "
 equal "a model of no bytes" "2 syntax: 1:1" "$(answer check empty)"
 equal "a script of no bytes" "0 start|  s = true|  observer o = false|end 0" "$(answer replay model empty)"
 
+# Files of so many bytes: blanks, and at the very end what the answer rests on. One read asks for 8192 bytes at most.
+# blanks_before FILE BYTES: the file behind blanks, so that it has so many bytes.
+blanks_before() {
+  head -c $(($2 - $(size_of "$1"))) /dev/zero | tr '\0' ' '
+  cat "$1"
+}
+printf ' ' >one
+equal "a model of 1 byte" "2 syntax: 1:2" "$(answer check one)"
+equal "a script of 1 byte" "0 start|  s = true|  observer o = false|end 0" "$(answer replay model one)"
+head -c $(($(size_of model) - 1)) model >lacking
+for size in 8191 8192 8193 4194304; do
+  blanks_before model $size >of_size
+  equal "a model of $size bytes, the last of which is needed" "$size 0 $ok" "$(size_of of_size) $(answer check of_size)"
+  blanks_before lacking $((size - 1)) >of_size
+  equal "a model of $((size - 1)) bytes that lacks its last" "2 syntax: 1:$((size - 2))" "$(answer check of_size)"
+done
+blanks_before model 4194305 >of_size
+equal "a model of 4194305 bytes with its last" "10 size: model bytes 4194304" "$(answer check of_size)"
+for size in 8191 8192 8193 1048576; do
+  { head -c $((size - 7)) /dev/zero | tr '\0' '\n'; printf 'fire e\n'; } >of_size
+  equal "a script of $size bytes, the last line of which counts" "$size 0 $trace" "$(size_of of_size) $(answer replay model of_size)"
+done
+
+# Pipes, and files that may not be read.
+equal "a model from a pipe" "0 $ok" "$(answer check <(cat model))"
+equal "a model of 4194305 bytes from a pipe" "10 size: model bytes 4194304" "$(answer check <(cat past))"
+mkfifo pipe
+cat model >pipe &
+equal "a model from a named pipe" "0 $ok" "$(answer check pipe)"
+wait
+cp model secret
+chmod a= secret
+if [ -r secret ]; then
+  passed "a file without read permission is read all the same by this user"
+else
+  equal "a model that may not be read" "7 read: model" "$(answer check secret)"
+  equal "a script that may not be read" "7 read: script" "$(answer replay model secret)"
+fi
+equal "a file that is the model and the script" "11 script: line 1 is no command" "$(answer replay model model)"
+
 # Names that look like options, and others: the file of that very name is read.
 mkdir names
 i=1
@@ -89,3 +129,9 @@ if [ -c /dev/full ]; then
     equal "standard output that takes nothing: $words" 8 "$status"
   done
 fi
+for words in "check model" "check none" "check" "replay model script" "make 3"; do
+  # shellcheck disable=SC2086
+  "$ALTARICA" $words >&- 2>err
+  status=$?
+  equal "standard output that is closed: $words" 8 "$status"
+done

@@ -3,100 +3,9 @@
 The sets are never too small: what is in none of them follows at no values of the states. They may be too large, since each
 expression is looked at by itself, and a state may have each value of its domain. Not proved.
 """
+import expressions
 import texts
-import values
-
-MOST = 64
-ANY = None
-"""Any value."""
-
-
-class Sets(values.Reader):
-    """Reads an expression of the flat text, and gives for each part of it the set of values that may follow, or ANY."""
-
-    def value(self):
-        piece = self.next()
-        if piece == "(":
-            return self.bracket()
-        if piece in ("min", "max", "count") and self.now == "(":
-            return self.call(piece)
-        if piece == "switch" and self.now == "{":
-            return self.switch()
-        if piece in self.variables:
-            return self.known[piece]
-        return {values.value_of(piece)}
-
-    def call(self, word):
-        self.next()
-        parts = []
-        while True:
-            parts.append(self.value())
-            if self.next() == ")":
-                return set() if any(p == set() for p in parts) else ANY
-
-    def switch(self):
-        self.next()
-        found, goes_on = set(), True
-        while self.next() == "case":
-            test = self.value()
-            self.next()
-            value = self.value()
-            if goes_on and may(test, True):
-                found = union(found, value)
-            goes_on = goes_on and may(test, False)
-        self.next()
-        value = self.value()
-        self.next()
-        return union(found, value) if goes_on else found
-
-    def bracket(self):
-        if self.now == "not":
-            self.next()
-            inner = self.value()
-            value = {v for v in (True, False) if may(inner, not v)}
-        elif self.now == "if":
-            self.next()
-            test = self.value()
-            self.next()
-            first = self.value()
-            self.next()
-            second = self.value()
-            value = union(first if may(test, True) else set(), second if may(test, False) else set())
-        elif self.now == "-":
-            self.next()
-            inner = self.value()
-            value = self.chain(set() if inner == set() else ANY)
-        else:
-            value = self.chain(self.value())
-        self.next()
-        return value
-
-    def joined(self, left):
-        sign = self.next()
-        if sign not in SIGNS:
-            return set() if left == set() else ANY
-        right = self.value()
-        if sign in ("and", "or"):
-            last = sign == "or"
-            found = {last} if may(left, last) or may(right, last) else set()
-            return found | ({not last} if may(left, not last) and may(right, not last) else set())
-        if left == set() or right == set():
-            return set()
-        if sign in ("==", "!=") and left is not ANY and right is not ANY:
-            found = {sign == "=="} if left & right else set()
-            return found | ({sign == "!="} if len(left | right) > 1 else set())
-        return {True, False} if sign in ("==", "!=", "<", "<=", ">", ">=") else ANY
-
-
-SIGNS = ("and", "or", "==", "!=", "<", "<=", ">", ">=", "+", "-", "*")
-
-
-def may(found, value):
-    return found is ANY or value in found
-
-
-def union(first, second):
-    return ANY if first is ANY or second is ANY else first | second
+from expressions import ANY, MOST, may, union
 
 
 def of(flat):
@@ -105,7 +14,7 @@ def of(flat):
     known = {}
     for path, variable in flat.variables.items():
         domain = texts.values_of(variable.domain) if path in changed else [variable.value]
-        known[path] = {values.value_of(v) for v in domain} if variable.state else set()
+        known[path] = {expressions.value_of(v) for v in domain} if variable.state else set()
     readers, todo = {}, list(flat.asserts)
     for one in flat.asserts:
         for name in names_of(one.set):
@@ -160,6 +69,6 @@ def loops(flat):
 
 def given(one, flat, known):
     """What an assignment may give."""
-    if not all(may(Sets(c, flat.variables, known).value(), wanted) for c, wanted in one.conditions):
-        return set()
-    return Sets(one.value, flat.variables, known).value()
+    if not all(may(expressions.values(c, flat.variables, known), wanted) for c, wanted in one.conditions):
+        return expressions.NONE
+    return expressions.values(one.value, flat.variables, known)

@@ -4,11 +4,10 @@ import subprocess
 from html import escape
 
 import gates
-import grammar
-import hierarchy
+import model
 import program
 import texts
-import tokens
+from command import CouldNot, escaped, files_of, options_of, readable
 
 FONT = "Helvetica,Arial,sans-serif"
 COLUMNS = 4
@@ -19,7 +18,7 @@ HEAD = """digraph "%s" {
 """
 
 
-class TooMany(Exception):
+class TooMany(CouldNot):
     """The picture has more nodes than were allowed."""
 
 
@@ -28,7 +27,7 @@ def quoted(text):
 
 
 def head(name, title, more="", apart="0.5"):
-    return HEAD % (name, FONT, apart, quoted(title + "\\n ").replace("\\\\n", "\\n"), more, FONT, FONT)
+    return HEAD % (name, FONT, apart, '%s\\n "' % quoted(title)[:-1], more, FONT, FONT)
 
 
 def table(rows, color):
@@ -46,11 +45,11 @@ def enough(count, most):
 
 def units(file, words, most):
     """The tree of units: each with its class, its states and its events; aliases with broken lines."""
-    program.ask(["check", file, *words.some("--main")])
-    items = grammar.parse(tokens.read(file))
-    tree = hierarchy.Tree(hierarchy.Bodies(items, words.options.get("--main")))
+    source = model.Source(file, words.main)
+    source.ask("check")
+    tree = source.tree
     enough(len(tree.nodes) + len(tree.aliases), most)
-    lines = [head("units", "The units of %s" % file, ", splines=polyline", "0.7")]
+    lines = [head("units", "The units of %s" % readable(file), ", splines=polyline", "0.7")]
     for node in tree.nodes:
         name = node.path.rpartition(".")[2] or node.of
         kind = {"main": "the system", "block": "block", "part": node.of, "clone": "clone of %s" % node.of}[node.kind]
@@ -92,10 +91,10 @@ def wrapped(word, names):
 
 def modes(file, words, most):
     """The trees of modes: each state's modes from the initial one on, with the events that enter them."""
-    trees = texts.fragment(program.ask(["fragment", file, *words.some("--drop", "--main")]))
+    trees = texts.fragment(program.ask("fragment", [file], options_of(words, "--drop", "--main")))
     enough(sum(len(t.edges) + 1 for t in trees), most)
     deep = max(1, -(-len(trees) // COLUMNS))
-    lines = [head("modes", "The modes of %s%s" % (file, without(words)), ', pack=14, packmode="array_tu%d"' % deep, "0.35")]
+    lines = [head("modes", "The modes of %s%s" % (readable(file), without(words)), ', pack=14, packmode="array_tu%d"' % deep, "0.35")]
     for number, tree in sorted(enumerate(trees), key=lambda t: upward(t[0], deep, len(trees))):
         lines.append('  subgraph cluster_%d {\n    graph [label=%s, fontsize=12, color="#c4ccd6", margin=6]\n' % (
             number, quoted(tree.variable)))
@@ -122,31 +121,31 @@ def shorter(label, variable):
 
 
 def without(words):
-    dropped = words.options.get("--drop", "")
+    dropped = words.drop or ""
     return "" if not dropped else " without %s" % (dropped.replace(",", ", ") if len(dropped) < 80 else
                                                     "%d events" % (dropped.count(",") + 1))
 
 
 def observed(words):
-    value = words.options.get("--value", "true")
-    name = words.options["--observer"]
+    value = "true" if words.value is None else words.value
+    name = words.observer
     return name if value == "true" else "not %s" % name if value == "false" else "%s = %s" % (name, value)
 
 
 def observer_gates(file, words, most):
     """The gates of an observer, each once, equal ones as one, with its events in it; those of a conflict apart."""
-    asked = ["equations", file, *words.some("--observer", "--value", "--drop", "--main")]
-    trees = texts.fragment(program.ask(["fragment", file, *words.some("--drop", "--main")]))
-    equations = texts.equations(program.ask(asked))
+    asked = options_of(words, "--observer", "--value", "--drop", "--main")
+    trees = texts.fragment(program.ask("fragment", [file], options_of(words, "--drop", "--main")))
+    equations = texts.equations(program.ask("equations", [file], asked))
     enough(len(equations.gates) // 200, most)
     smaller = gates.Smaller(equations, trees)
     roots = [("top", observed(words), smaller.top)]
-    conflict = [("conflict", "conflict", smaller.conflict)] if meets_conflict(asked[1:], smaller, words) else []
+    conflict = [("conflict", "conflict", smaller.conflict)] if meets_conflict(file, smaller, words) else []
     tops = smaller.order(smaller.top)
     apart = [n for n in smaller.order(smaller.conflict) if n not in set(tops)] if conflict else []
     enough(len(tops) + len(apart) + 2, most)
     names = {number: "gate %d" % (place + 1) for place, number in enumerate(tops + apart)}
-    lines = [head("gates", "The gates of %s in %s%s" % (observed(words), file, without(words)), ", ordering=out", "0.6")]
+    lines = [head("gates", "The gates of %s in %s%s" % (observed(words), readable(file), without(words)), ", ordering=out", "0.6")]
     lines += [root(smaller, names, *r) for r in roots] + [gate(smaller, names, n) for n in tops]
     if conflict:
         lines.append('  subgraph cluster_conflict {\n    graph [label="where flows contradict each other", color="#c08080"]\n')
@@ -156,11 +155,12 @@ def observer_gates(file, words, most):
     return "".join(lines) + "}\n"
 
 
-def meets_conflict(asked, smaller, words):
+def meets_conflict(file, smaller, words):
     """Whether some set of events that can be fired meets a conflict, or that is not known."""
     if smaller.conflict == (False, False):
         return False
-    return program.run(["cuts", *asked, *words.some("--nodes")])[0] != 0
+    options = options_of(words, "--observer", "--value", "--nodes", "--drop", "--main")
+    return program.run(["cuts", *options, *files_of(file)])[0] != 0
 
 
 def root(smaller, names, node, label, operand):
@@ -199,5 +199,7 @@ def svg(text):
     """The picture of a text for dot, or None where there is no dot."""
     if not shutil.which("dot"):
         return None
-    done = subprocess.run(["dot", "-Tsvg"], input=text.encode("latin-1"), stdout=subprocess.PIPE, check=True)
+    done = subprocess.run(["dot", "-Tsvg"], input=text.encode("latin-1"), stdout=subprocess.PIPE, stderr=subprocess.PIPE, check=False)
+    if done.returncode:
+        raise CouldNot("dot: %s" % escaped(done.stderr.decode("latin-1").strip()[:200]))
     return done.stdout.decode("utf-8")

@@ -1,46 +1,117 @@
-"""The program that the helpers ask, and the words that they share. Not proved."""
+"""The program that the helpers ask. Not proved."""
+import functools
+import hashlib
 import os
-import signal
+import shutil
 import subprocess
-import sys
+from collections import namedtuple
 
-signal.signal(signal.SIGPIPE, signal.SIG_DFL)
+from command import TOP, CouldNot, Refused, files_of, say, shown
 
-HERE = os.path.dirname(os.path.realpath(__file__))
-TOP = os.path.dirname(os.path.dirname(HERE))
+Program = namedtuple("Program", "words is_unproved told")
+"""words call it; told is whether the environment named it."""
 
-STATUSES = {1: "usage", 2: "syntax", 3: "rule", 4: "outside", 5: "fault", 6: "nodes", 7: "read", 8: "write", 9: "memory",
-            10: "size", 11: "script", 12: "words"}
-NAME = os.path.basename(sys.argv[0])
-VALUED = ("--main", "--observer", "--value", "--nodes", "--drop")
+KEPT = os.path.join(TOP, "out", "altarica")
+BUILT = os.path.join(TOP, "crates", "altarica_main", "out", "altarica_main")
+UNPROVED = os.path.join(TOP, "out", "unproved")
+HOW = ("there is no program: ./altarica --unproved check examples/ring.alt compiles one in minutes, without proofs; or set "
+       "ALTARICA")
 
 
-def found():
-    """The program as words that call it, and whether it is one of this checkout without its proofs: the one that ALTARICA
-    names, else the proved one of this checkout, else the one that `./altarica --unproved` has compiled here, else that of the path."""
-    for path in (os.environ.get("ALTARICA"), os.path.join(TOP, "out", "altarica"),
-                 os.path.join(TOP, "crates", "altarica_main", "out", "altarica_main")):
-        if path and is_program(path):
-            return [path], False
-    path = os.path.join(TOP, "out", "unproved")
-    if is_program(path):
-        try:
-            with open(path + ".loader", "rb") as it:
-                loader = [os.fsdecode(word) for word in it.read().split(b"\0") if word]
-        except OSError:
-            loader = []
-        if all(map(is_program, loader[:1])):
-            return [*loader, path], True
-    return ["altarica"], False
+def is_utf8(word):
+    try:
+        os.fsencode(word).decode("utf-8")
+    except UnicodeDecodeError:
+        return False
+    return True
 
 
 def is_program(path):
     return os.access(path, os.X_OK) and not os.path.isdir(path)
 
 
+def loader_of(path):
+    """The words before a program that `./altarica --unproved` has compiled: the loader of the kit."""
+    try:
+        with open(path + ".loader", "rb") as file:
+            words = [os.fsdecode(word) for word in file.read().split(b"\0") if word]
+    except OSError:
+        return []
+    return words
+
+
+def unproved(path, told):
+    """A program without its proofs, or None where its loader is gone."""
+    words = loader_of(path)
+    return Program([*words, path], True, told) if all(map(is_program, words[:1])) else None
+
+
+def named(name):
+    """The program that ALTARICA names: a path, or a name without `/` on the path."""
+    path = name if "/" in name else shutil.which(name)
+    if path is None or not is_program(path):
+        raise CouldNot("ALTARICA names %s, which is no program" % shown(name))
+    return os.path.exists(path + ".loader") and unproved(path, True) or Program([path], False, True)
+
+
+@functools.lru_cache(None)
+def sum_of(path):
+    """The SHA-256 sum of a file."""
+    total = hashlib.sha256()
+    with open(path, "rb") as file:
+        while block := file.read(1 << 20):
+            total.update(block)
+    return total.hexdigest()
+
+
+@functools.lru_cache(None)
+def is_kept_whole(path):
+    """Whether a program is what was kept: its note has its sum."""
+    try:
+        with open(path + ".made_of", encoding="latin-1") as note:
+            return note.read().split("\n")[1:2] == [sum_of(path) + "  -"]
+    except OSError:
+        return False
+
+
+def here():
+    """The programs of this checkout, the best one first: the proved one, then the one without its proofs."""
+    if is_program(KEPT) and is_kept_whole(KEPT):
+        yield Program([KEPT], False, False)
+    if is_program(BUILT):
+        yield Program([BUILT], False, False)
+    if is_program(UNPROVED):
+        it = unproved(UNPROVED, False)
+        if it:
+            yield it
+
+
+@functools.lru_cache(None)
+def found():
+    """The program: the one that ALTARICA names, else the proved one of this checkout, else the one that `./altarica
+    --unproved` has compiled here, else that of the path."""
+    if os.environ.get("ALTARICA"):
+        return named(os.environ["ALTARICA"])
+    path = shutil.which("altarica")
+    it = next(here(), None) or path and Program([path], False, True)
+    if not it:
+        raise CouldNot(HOW)
+    return it
+
+
 def program():
     """The file of the program."""
-    return found()[0][-1]
+    return found().words[-1]
+
+
+def proved_words():
+    """Whether the program is proved, in words, as far as this checkout knows it."""
+    it = found()
+    if it.is_unproved or is_program(UNPROVED) and sum_of(it.words[-1]) == sum_of(UNPROVED):
+        return "not proved: it was compiled without its proofs"
+    if any(not one.is_unproved and sum_of(it.words[-1]) == sum_of(one.words[-1]) for one in here()):
+        return "the proved one of this checkout"
+    return "none that this checkout has proved: whether it is proved is not known here"
 
 
 asked = []
@@ -49,68 +120,29 @@ asked = []
 
 def run(words):
     """The status and the text that the program writes for these words."""
-    called, is_unproved = found()
-    if is_unproved and not asked:
-        sys.stderr.write("%s: no proved program is built here, so this takes out/unproved: nothing of this run is proved\n" % NAME)
+    it = found()
+    strange = next((word for word in words if not is_utf8(word)), None)
+    if strange is not None:
+        raise CouldNot("the program takes no words that are no UTF-8, as %s" % shown(strange))
+    if it.is_unproved and not it.told and not asked:
+        say("no proved program is built here, so this takes out/unproved: nothing of this run is proved")
     asked.append(words)
     try:
-        done = subprocess.run([*called, *words], stdout=subprocess.PIPE, stdin=subprocess.DEVNULL, check=False,
-                              env={} if is_unproved else None)
+        done = subprocess.run([*it.words, *words], stdout=subprocess.PIPE, stdin=subprocess.DEVNULL, check=False,
+                              env={} if it.is_unproved else None)
     except OSError as error:
-        sys.exit("%s: %s: there is no program: ./altarica --unproved check examples/ring.alt compiles one in minutes, without "
-                 "proofs; or set ALTARICA" % (NAME, error.filename or called[0]))
+        raise CouldNot("%s: %s" % (shown(error.filename or it.words[0]), error.strerror)) from error
+    except ValueError as error:
+        raise CouldNot("these words cannot be given to the program: %s" % error) from error
     return done.returncode, done.stdout.decode("latin-1")
 
 
-class Refused(Exception):
-    """The program refused these words with this text."""
-
-    def __init__(self, words, status, text):
-        super().__init__(text)
-        self.words, self.status, self.text = words, status, text
-
-
-def ask(words):
-    """The text that the program writes for these words; Refused where it refuses."""
+def ask(command, files, options=()):
+    """The text that the program writes for a command; Refused where it refuses."""
+    words = [command, *options, *files_of(*files)]
     status, text = run(words)
+    if status in (8, 9, 12) or status < 0:
+        raise CouldNot("the program ends with status %d, without an answer, on %s" % (status, " ".join(map(shown, words))))
     if status:
         raise Refused(words, status, text)
     return text
-
-
-class Words:
-    """The words of a command: its options, and the others in order."""
-
-    def __init__(self, words, flags=(), valued=VALUED):
-        self.options, self.others, rest = {}, [], list(words)
-        while rest:
-            word = rest.pop(0)
-            name, joined, value = word.partition("=")
-            if word == "--":
-                self.others += rest
-                break
-            if name in flags and not joined:
-                self.options[name] = True
-            elif name in valued and joined:
-                self.options[name] = value
-            elif name in valued and rest:
-                self.options[name] = rest.pop(0)
-            elif word.startswith("-") and word != "-":
-                raise ValueError(word)
-            else:
-                self.others.append(word)
-
-    def some(self, *names):
-        """These options as words for the program."""
-        return [word for name in names if name in self.options for word in (name + "=" + self.options[name],)]
-
-
-def usage(text):
-    """Ends with the use of a helper."""
-    sys.stderr.write(text.strip() + "\n")
-    sys.exit(2)
-
-
-def write(text):
-    sys.stdout.buffer.write(text.encode("latin-1"))
-    sys.stdout.buffer.flush()

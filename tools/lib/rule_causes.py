@@ -1,37 +1,10 @@
 """The cause of a broken rule L1 to L14, found in the text at its place. Not proved: where the text does not show the
 cause, the rule's own words are all that is said.
 """
-import difflib
-
+from asked import near
 from grammar import COMPARISONS, Domain, Expr, Instr, Member, Path, Unit
 from hierarchy import Missing, Scope, Tree, Unknown, written
-
-RULES = {
-    "L1": "two items have one name, or a domain is not one: a symbol twice, a low end above the high end, more than 256 "
-          "values",
-    "L2": "no class or domain of the kind that is needed here has this name",
-    "L3": "a class or a block contains itself",
-    "L4": "two members of a unit have this name, inherited ones included",
-    "L5": "there is no main block",
-    "L6": "this path names no unit",
-    "L7": "this path leads in a circle, or a clone would contain itself",
-    "L8": "a variable has exactly one setting, `init` or `reset`",
-    "L9": "this setting has no target, or sets it twice",
-    "L10": "this path or name is nothing of the kind that is needed here",
-    "L11": "this expression has the wrong type",
-    "L12": "this value is outside its domain",
-    "L13": "a transition sets states alone, and an assertion flows alone",
-    "L14": "this event is a part of itself",
-}
-WORDS = {"variable": "a variable", "unit": "a unit", "parameter": "a parameter", "event": "an event",
-         "observer": "an observer", "kept": "a `parameter Real`"}
-NEAR = 0.75
-KINDS = {"Boolean": "a truth value", "number": "a whole number", "symbol": "a symbol", "real": "a real number"}
-
-
-def near(name, names):
-    close = difflib.get_close_matches(name, sorted(set(names)), 1, NEAR)
-    return "; the nearest is `%s`" % close[0] if close else ""
+from refusals import ADVICE, IN_COUNT, KINDS, WORDS
 
 
 def unit_named(scope):
@@ -524,27 +497,14 @@ def wrong_type(text):
     return text.first(cause)
 
 
-IN_COUNT = " in a `count`"
-
-
 def advice(kind, found, what, expr):
-    if (kind, found) == ("number", "Boolean") and what.endswith(IN_COUNT):
-        return ": does the bracket of `count` end too late? Two of three is `count(a, b, c) >= 2`"
-    if (kind, found) == ("Boolean", "number") and expr.form in ("max", "min"):
-        return ": of truth values the greatest is written with `or`, the least with `and`"
-    if (kind, found) == ("Boolean", "number") and expr.form == "count":
-        last = expr.parts[-1].form in COMPARISONS
-        return ": a vote compares it with a number, as `count(a, b, c) >= 2`" + (
-            ", with the bracket before the comparison" if last else "")
-    if (kind, found) == ("number", "Boolean") and what in ("an operand of `max`", "an operand of `min`"):
-        return ": of truth values the greatest is written with `or`, the least with `and`"
-    if (kind, found) == ("number", "Boolean") and what == "an operand of `+`":
-        return ": how many truth values are true is `count(a, b)`"
-    if (kind, found) == ("Boolean", "number") and what.startswith("the value of"):
-        return ": a comparison makes one of it, as `n > 0`"
-    if found == "real":
-        return ": real numbers are kept in `parameter Real` and not read"
-    return ""
+    """What to write in place of an expression of another type."""
+    form = expr.form
+    if form == "count" and expr.parts[-1].form in COMPARISONS:
+        form = "count of a comparison"
+    return next((words for wanted, got, place, of_form, words in ADVICE
+                 if got == found and wanted in (None, kind) and of_form in (None, form)
+                 and (what.startswith(place) or what.endswith(place))), "")
 
 
 def outside_domain(text):

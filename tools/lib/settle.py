@@ -1,79 +1,9 @@
 """The values that flows get in one state of a model: the facts, as they follow from the states, and the state after some
 events. Read from the flat system, and used to say causes. Not proved.
 """
-import re
-
+import expressions
 import texts
-import values
-
-
-class Facts(values.Reader):
-    """Reads an expression where some variables have no value yet; None is the value of what does not follow yet."""
-
-    def value(self):
-        try:
-            return super().value()
-        except values.NotKnown:
-            return None
-
-    def call(self, word):
-        parts = []
-        while self.next() != ")":
-            parts.append(self.value())
-        if any(p is None for p in parts):
-            return None
-        return sum(parts) if word == "count" else {"min": min, "max": max}[word](parts)
-
-    def switch(self):
-        self.next()
-        found, waits = None, False
-        while self.next() == "case":
-            test = self.value()
-            self.next()
-            value = self.value()
-            waits = waits or found is None and test is None
-            if found is None and not waits and test:
-                found = (value,)
-        self.next()
-        value = self.value()
-        self.next()
-        return None if waits else found[0] if found else value
-
-    def bracket(self):
-        if self.now == "not":
-            self.next()
-            inner = self.value()
-            value = None if inner is None else not inner
-        elif self.now == "if":
-            self.next()
-            test = self.value()
-            self.next()
-            first = self.value()
-            self.next()
-            second = self.value()
-            value = None if test is None else first if test else second
-        elif self.now == "-":
-            self.next()
-            inner = self.value()
-            value = self.chain(None if inner is None else values.clamp(-inner))
-        else:
-            value = self.chain(self.value())
-        self.next()
-        return value
-
-    def joined(self, left):
-        sign = self.next()
-        if re.fullmatch(r"-[0-9]+", sign):
-            return None if left is None else values.clamp(left + int(sign))
-        right = self.value()
-        if sign in ("and", "or") and (sign == "or") in (left, right):
-            return sign == "or"
-        return None if left is None or right is None else values.combined(sign, left, right)
-
-
-def value(text, variables, known):
-    """The value of an expression from what is known, or None."""
-    return Facts(text, variables, known).value()
+from expressions import value
 
 
 def names_of(one):
@@ -121,13 +51,13 @@ def source(found, path, given):
 
 
 def first_state(flat):
-    return {p: values.value_of(v.value) for p, v in flat.variables.items() if v.state}
+    return {p: expressions.value_of(v.value) for p, v in flat.variables.items() if v.state}
 
 
 def all_values(flat, state):
     """The state with the value of each flow, where there is no fault."""
     found = facts(flat, state)
-    flows = {p: next(iter(found[p])) if p in found else values.value_of(v.value)
+    flows = {p: next(iter(found[p])) if p in found else expressions.value_of(v.value)
              for p, v in flat.variables.items() if not v.state}
     return {**state, **flows}
 
@@ -138,10 +68,10 @@ def sets_of(flat, way, known):
         parts = [(p, next(w for w in flat.ways if w.event == p[1] and w.number == p[2])) for p in way.parts]
         given = [sets_of(flat, inner, known) for _, inner in parts]
         return {k: v for one in given if one for k, v in one.items()}
-    if not values.evaluate(way.guard, flat.variables, known):
+    if not expressions.evaluate(way.guard, flat.variables, known):
         return None
-    return {one.target: values.evaluate(one.value, flat.variables, known) for one in way.sets
-            if all(values.evaluate(c, flat.variables, known) == wanted for c, wanted in one.conditions)}
+    return {one.target: expressions.evaluate(one.value, flat.variables, known) for one in way.sets
+            if all(expressions.evaluate(c, flat.variables, known) == wanted for c, wanted in one.conditions)}
 
 
 def after(flat, state, label):

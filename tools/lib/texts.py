@@ -15,7 +15,7 @@ Edge = namedtuple("Edge", "from_mode label to_mode")
 Equations = namedtuple("Equations", "gates conflict top")
 """gates is a list of (`&` or `|`, operands); an operand is `true`, `false`, or (negated, event path or gate number)."""
 
-WORD = re.compile(r"[A-Za-z_][A-Za-z0-9_]*(?:\.[A-Za-z_][A-Za-z0-9_]*)*")
+WORD = re.compile(r"(?<![\w.'])[A-Za-z_][A-Za-z0-9_]*(?:\.[A-Za-z_][A-Za-z0-9_]*)*")
 
 
 def outside_brackets(text, pieces):

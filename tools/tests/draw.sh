@@ -33,9 +33,9 @@ for model in tests/beside/*.alt; do
   tools/draw units "$model" --dot >"$work/units.dot"
   equal "each unit of $model is drawn once" "$("$ALTARICA" check "$model" | cut -d' ' -f3)" "$(nodes "$work/units.dot")"
 done
-equal "no picture is made of a model that is refused, and its status is that of the program" '2 3' \
+equal "no picture is made of a model that is refused, and the status is 3" '3' \
   "$(for model in tests/mistakes/*.alt tests/literature/*.alt; do tools/draw units "$model" >/dev/null 2>&1; echo $?; done | sort -u | paste -sd' ')"
-equal "a refused model is said" 'draw: examples/supply.alt: outside: S1 at lose_grid status 4' "$(tools/draw modes examples/supply.alt 2>&1) status $(tools/draw modes examples/supply.alt >/dev/null 2>&1; echo $?)"
+equal "a refused model is said" 'draw: examples/supply.alt: outside: S1 at lose_grid (status 4) status 3' "$(tools/draw modes examples/supply.alt 2>&1) status $(tools/draw modes examples/supply.alt >/dev/null 2>&1; echo $?)"
 equal "too many nodes are said" 'draw: 18 nodes are more than 3: --most 18 draws them' "$(tools/draw units examples/brake.alt --most 3 2>&1)"
 
 read -ra words <<<"$(words_of ring)"
@@ -43,7 +43,7 @@ python=$(python3 -c 'import sys; print(sys.executable)')
 mkdir "$work/bin"
 PATH=$work/bin "$python" tools/draw gates examples/ring.alt "${words[@]}" >"$work/without" 2>"$work/said"
 drawn=$?
-equal "without dot no picture is written, and a line says so" '2 0 1' "$drawn $(wc -c <"$work/without") $(grep -c 'apt-get install graphviz' "$work/said")"
+equal "without dot no picture is written, and a line says so" '4 0 1' "$drawn $(wc -c <"$work/without") $(grep -c 'apt-get install graphviz' "$work/said")"
 
 if have dot; then
   texts() { grep -o '<text [^>]*>[^<]*' "$1" | sed 's/.*>//' | LC_ALL=C sort; }

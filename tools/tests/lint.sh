@@ -23,6 +23,25 @@ equal "lint with an observer: a mode that only a class that extends this one ent
   "$(tools/lint tests/trial/feed.alt --observer loss 2>/dev/null) status $?"
 equal "lint of a text with several blocks says which it has not looked at" \
   'lint: nothing to say of the main block `Summer`; not looked at: --main Winter' "$(tools/lint tests/lint/two_blocks.alt 2>&1)"
+both="--ask Demanded:no_trip,Calm:spurious_trip"
+equal "lint of two main blocks in one call names the events that are in no cut of any" ' status 0' \
+  "$(tools/lint tests/trial/channel.alt $both 2>/dev/null) status $?"
+equal "and says of which blocks there is nothing to say" 'lint: nothing to say of the main blocks `Demanded` and `Calm`' "$(tools/lint tests/trial/channel.alt $both 2>&1)"
+equal "lint --ask takes blocks and observers alone" '2 2 3' \
+  "$(for ask in Demanded "Calm:spurious_trip --main Calm" Nosuch:x; do tools/lint tests/trial/channel.alt --ask $ask >/dev/null 2>&1; echo $?; done | paste -sd' ')"
+tools/lint tests/lint/slips.alt --json >"$work/json" 2>/dev/null
+equal "lint --json has the lines of the text, with file, line, column, rule and cause" "$(cat tests/lint/expected)" \
+  "$(python3 -c 'import json, sys; [print("%(file)s:%(line)d:%(column)d: lint: %(cause)s" % it) for it in json.load(open(sys.argv[1]))]' "$work/json")"
+equal "lint --json where there is nothing to say is an empty list" '[]' "$(tools/lint examples/supply.alt --json 2>/dev/null)"
+rules=$(tools/lint tests/lint/slips.alt --names 2>/dev/null | sed 's/.*\[\(.*\)\]$/\1/' | sort -u)
+silenced() { awk -F: 'FNR == NR { name = $0; sub(/.*\[/, "", name); sub(/\]$/, "", name); said[$2] = said[$2] (said[$2] == "" ? "" : ", ") name; next } { print $0 (FNR in said ? " // lint: allow " said[FNR] : "") }' <(tools/lint "$1" --names 2>/dev/null) "$1"; }
+silenced tests/lint/slips.alt >"$work/silenced.alt"
+equal "remarks \`// lint: allow NAME\` silence each line of slips.alt" ' status 0' "$(tools/lint "$work/silenced.alt" 2>/dev/null) status $?"
+equal "each name is one of --help" '' "$(for rule in $rules; do tools/lint --help | grep -qw "$rule" || echo "$rule"; done)"
+sed 's|// lint: allow .*|// lint: allow nosuch|' "$work/silenced.alt" >"$work/wrong.alt"
+equal "a name that is none is said" "$(grep -c nosuch "$work/wrong.alt")" "$(tools/lint "$work/wrong.alt" 2>/dev/null | grep -c 'is the name of no check')"
+equal "a symbol with the name of a variable of the main block is told apart from it" \
+  'tests/lint/symbol_of_main.alt:12:5: lint: state d.m never has the value good: no event enters it status 1' "$(tools/lint tests/lint/symbol_of_main.alt 2>/dev/null) status $?"
 equal "lint with two observers lists the failures that are in no cut set of either" ' status 0' \
   "$(tools/lint tests/models/howto/protection.alt --observer no_trip,spurious 2>/dev/null) status $?"
 equal "lint with an observer: in the right model each failure is in a cut set" ' status 0' \
@@ -31,7 +50,7 @@ equal "lint with an observer lists the failures that are in no cut set" 'bus_b.f
   "$(tools/lint tests/models/howto/trains_open.alt --observer no_flow | sed -n 's/.* event \(.*\) is in no minimal cut set of no_flow$/\1/p' | paste -sd' ')"
 equal "lint with an observer, without the dropped events" ' status 0' \
   "$(tools/lint examples/ring.alt --observer south_is_deaf --drop north.mend,east.mend,south.mend,west.mend 2>/dev/null) status $?"
-equal "lint with an observer whose cut sets are refused" 'examples/ring.alt: outside: S6 at north.works status 2' \
+equal "lint with an observer whose cut sets are refused" 'lint: examples/ring.alt: outside: S6 at north.works (status 4) status 3' \
   "$(tools/lint examples/ring.alt --observer south_is_deaf 2>&1) status $?"
 equal "lint finds the nine things that vote.alt leaves open, and the two that vote2.alt reads nowhere" '9 2' \
   "$(tools/lint tests/beside/vote.alt | wc -l) $(tools/lint tests/beside/vote2.alt | wc -l)"
@@ -40,4 +59,4 @@ for model in tests/beside/*.alt; do
   equal "lint has nothing to say of $model" ' status 0' "$(tools/lint "$model" 2>/dev/null) status $?"
 done
 got=$(for model in tests/mistakes/*.alt tests/literature/*.alt; do tools/lint "$model" >/dev/null 2>&1; echo $?; done | sort | uniq -c | tr -s ' ')
-equal "lint refuses each model that the program refuses" ' 68 2' "$got"
+equal "lint refuses each model that the program refuses" ' 68 3' "$got"

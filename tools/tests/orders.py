@@ -9,7 +9,13 @@ import tempfile
 TOP = os.path.dirname(os.path.dirname(os.path.dirname(os.path.realpath(__file__))))
 sys.path.insert(0, os.path.join(TOP, "tools", "lib"))
 
-from program import Words, run  # noqa: E402
+from asked import ProgramWords  # noqa: E402
+from program import run  # noqa: E402
+
+
+def some(asked, *names):
+    """These options as words for the program, where they were given."""
+    return ["%s=%s" % (name, asked.options[name]) for name in names if name in asked.options]
 
 
 def last_value(trace, observer):
@@ -34,14 +40,14 @@ def slips_of_orders(folder, model, asked, cuts):
     for cut in cuts:
         labels = [label for label in cut[1:-1].split(", ") if label]
         script = write(folder, "script", "".join("fire %s\n" % label for label in labels))
-        status, trace = run(["replay", model, script, *asked.some("--main")])
+        status, trace = run(["replay", model, script, *some(asked, "--main")])
         if status or last_value(trace, asked.options["--observer"]) != asked.options.get("--value", "true"):
             yield "order " + cut
 
 
 def slips_of_checks(folder, model, asked, cuts, rest):
     """What is said wrongly of the listing where it is given back."""
-    words = ["checkcuts", model, *asked.some("--main", "--observer", "--value", "--nodes", "--drop")]
+    words = ["checkcuts", model, *some(asked, "--main", "--observer", "--value", "--nodes", "--drop")]
 
     def said(lines):
         text = run([*words, write(folder, "list", "".join(line + "\n" for line in [*lines, *rest]))])[1].splitlines()
@@ -60,7 +66,7 @@ def test(folder, name, words):
     status, listing = run(words)
     if status:
         return False
-    asked = Words(words[1:])
+    asked = ProgramWords(words[1:])
     lines = listing.splitlines()
     cuts = [line for line in lines if line.startswith("{")]
     rest = [line for line in lines if not line.startswith("{")]

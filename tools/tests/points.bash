@@ -39,16 +39,25 @@ words_of() {
   esac
 }
 
-# usage TOOL: without words a helper says its use, on standard error, with status 2, and that it is not proved.
+# usage TOOL: without words a helper says its use, on standard error, with status 2, and that it is not proved; --help says it
+# on standard output, with status 0 or, where that takes nothing, 4.
 usage() {
-  local said status
+  local said helped status
   said=$("tools/$1" 2>&1 >/dev/null)
   status=$?
-  if [ $status -eq 2 ] && grep -q "^$1 " <<<"$said" && grep -qi 'not proved' <<<"$said" && head -n 60 "tools/$1" | grep -qi 'not proved'; then
-    passed "$1 says its use, and that it is not proved"
+  helped=$("tools/$1" --help 2>&1)
+  status+=" $?"
+  "tools/$1" --help >/dev/full 2>/dev/null
+  status+=" $?"
+  equal "$1 says its use without words and with --help" '2 0 4 same' "$status $([ "$said" = "$helped" ] && echo same)"
+  if grep -q "^$1 " <<<"$said" && grep -q '^Status: 0 ' <<<"$said" && grep -qi '^not proved' <<<"$said"; then
+    passed "$1 says its statuses, and that it is not proved"
   else
-    failed "$1 says its use, and that it is not proved" "status $status: $said"
+    failed "$1 says its statuses, and that it is not proved" "$said"
   fi
+  equal "$1 has a version" "$1 of altarica $(sed -n 's/^## \([0-9-]*\).*/\1/p' docs/CHANGES.md | head -n 1)" "$("tools/$1" --version 2>&1)"
+  # The words of `why` are those of the program.
+  [ "$1" = why ] || equal "$1 does not know --no-such-word" 2 "$("tools/$1" --no-such-word x y z >/dev/null 2>&1; echo $?)"
 }
 
 # The words of each command, from the table of docs/TEXTS.md, without the program's name: `check MODEL [--main B]`.

@@ -10,7 +10,8 @@ page() {
   tools/report "examples/$plant.alt" "${words[@]}" --out "$2"
 }
 for plant in brake bus conflict hydraulic pumps repair ring supply; do
-  holds "the page of $plant is made" page $plant "$work/$plant.html"
+  case $plant in conflict | repair | supply) wanted=3 ;; *) wanted=0 ;; esac
+  equal "the page of $plant is made, with status $wanted" $wanted "$(page $plant "$work/$plant.html" >/dev/null 2>&1; echo $?)"
   case $(head -n 1 "examples/$plant.cuts") in
     {*) want=$(grep -c '^{' "examples/$plant.cuts"); got=$(grep -o 'There are <b>[0-9]*' "$work/$plant.html" | grep -o '[0-9]*$') ;;
     *) want=$(head -n 1 "examples/$plant.cuts"); got=$(sed 's/&quot;/"/g; s/&#x27;/'"'"'/g' "$work/$plant.html" | grep -oF "$want" | head -n 1) ;;
@@ -19,7 +20,8 @@ for plant in brake bus conflict hydraulic pumps repair ring supply; do
 done
 for model in standby:lost train:lost twoway3:lost vote:no_trip vote2:no_trip wear:odd; do
   IFS=: read -r name observer <<<"$model"
-  holds "the page of $name is made" tools/report "tests/beside/$name.alt" --observer "$observer" --out "$work/$name.html"
+  case $name in *2 | wear) wanted=0 ;; *) wanted=3 ;; esac
+  equal "the page of $name is made, with status $wanted" $wanted "$(tools/report "tests/beside/$name.alt" --observer "$observer" --out "$work/$name.html" >/dev/null 2>&1; echo $?)"
 done
 equal "the page of vote2 has its 17 cuts, that of wear none, that of vote its fault" '17 0 34:7' \
   "$(grep -o 'There are <b>[0-9]*' "$work/vote2.html" | grep -o '[0-9]*$') $(grep -o 'There are <b>[0-9]*' "$work/wear.html" | grep -o '[0-9]*$') $(grep -o 'assignment 2 at 34:7' "$work/vote.html" | head -n 1 | grep -o '34:7')"
@@ -28,7 +30,23 @@ holds "the same words make the same page" cmp "$work/brake.html" "$work/again.ht
 equal "the page has no outside parts" '' "$(grep -Eo '<link|<script [^>]*src|<img|@import|url\(|href="[^#"][^"]*"|xlink:href="[^#"]*"' "$work/brake.html" | head -n 3)"
 equal "the page names the sums of the model and of the program" 2 \
   "$(grep -o -e "$(sha256sum <examples/brake.alt | cut -d' ' -f1)" -e "$(sha256sum <"$ALTARICA" | cut -d' ' -f1)" "$work/brake.html" | wc -l)"
-equal "a model that is refused as a whole has no page" 2 "$(tools/report tests/mistakes/semi.alt --observer x >/dev/null 2>&1; echo $?)"
+equal "a list that is refused is said, with its line and status" 'report: examples/supply.alt: outside: S1 at lose_grid (status 4); the page shows why' \
+  "$(tools/report examples/supply.alt --observer dark --out "$work/supply.html" 2>&1)"
+equal "and the page shows the line with its status, in each part that is refused" 4 "$(grep -c 'line: outside: S1 at lose_grid (status 4)' "$work/supply.html")"
+equal "an observer that is misspelt has no page, and status 3" 'report: examples/brake.alt: script: no observer (status 11) status 3 no page' \
+  "$(tools/report examples/brake.alt --observer too_wek --out "$work/none.html" 2>&1) status $(tools/report examples/brake.alt --observer too_wek >/dev/null 2>&1; echo $?) $([ -e "$work/none.html" ] || echo no page)"
+mkdir -p "$work/repo/out"
+cp -r tools docs "$work/repo/"
+proved() { (cd "$work/repo" && env "$@" tools/report "$top/examples/brake.alt" --observer too_weak 2>/dev/null) | grep -o 'id="proved">[^<]*' | sed 's/.*>//'; }
+cp "$ALTARICA" "$work/repo/out/unproved"
+equal "the page says that a program without its proofs is not proved" 'The program that made the lists is not proved: it was compiled without its proofs.' "$(proved -u ALTARICA)"
+equal "also where ALTARICA names a copy of it" 'The program that made the lists is not proved: it was compiled without its proofs.' "$(proved ALTARICA="$ALTARICA")"
+rm "$work/repo/out/unproved"
+equal "of a program from elsewhere it says that this is not known" 'The program that made the lists is none that this checkout has proved: whether it is proved is not known here.' "$(proved ALTARICA="$ALTARICA")"
+cp "$ALTARICA" "$work/repo/out/altarica"
+printf 'sum\n%s\nkit\n' "$(sha256sum <"$ALTARICA")" >"$work/repo/out/altarica.made_of"
+equal "of the proved one it says so" 'The program that made the lists is the proved one of this checkout.' "$(proved -u ALTARICA)"
+equal "a model that is refused as a whole has no page" 3 "$(tools/report tests/mistakes/semi.alt --observer x >/dev/null 2>&1; echo $?)"
 
 if have chromium; then
   browser() { timeout 100 chromium --headless --no-sandbox --disable-gpu --disable-dev-shm-usage --user-data-dir="$work/browser" "$@" 2>/dev/null; }

@@ -18,7 +18,7 @@ point() {
 # Runs the script in the copy; its output goes to `out`, `err` and `got`, its status to `status`.
 run() {
   local began=$EPOCHREALTIME
-  (cd "$copy" && PATH=$lab/bin:$PATH timeout 60 ./altarica "$@") >"$lab/out" 2>"$lab/err" <"${input:-/dev/null}"
+  (cd "$copy" && PATH=$lab/bin:$PATH timeout "${within:-60}" ./altarica "$@") >"$lab/out" 2>"$lab/err" <"${input:-/dev/null}"
   status=$?
   took=$(awk -v a="$began" -v b="$EPOCHREALTIME" 'BEGIN { printf "%d", (b - a) * 1000 }')
   { echo "status $status, $took ms:"; cat "$lab/out" "$lab/err"; } >"$lab/got"
@@ -42,24 +42,30 @@ new_copy() {
   cp "$top/tests/models/refusals/plant.alt" "$top/tests/models/refusals/twice.script" "$copy/"
   printf '#!/bin/sh\necho "$ALTARICA" "$@"\n' >"$copy/tools/why"
   chmod +x "$copy/tools/why"
+  cp "$copy/tools/why" "$lab/why"
+  [ ! -e "$top/tools/explain" ] || ln -s "$top/tools/explain" "$copy/tools/explain"
   : >"$lab/calls"
 }
 copies=0
 
-# The stand-in for rt: notes the call; proves nothing or, where the file `works` is there, as the kit does.
+# The stand-in for rt: notes the call; proves nothing or, where the file `works` is there, as the kit does. Another process,
+# which is none of those that it starts, has the words of its program where the file `evil` is there.
 mkdir -p "$lab/bin"
+cp "$(type -P cp)" "$lab/cp"
 cat >"$lab/bin/rt" <<END
 #!/usr/bin/env bash
+[ "\$1" != version ] || { echo stand-in; exit; }
 echo "\$*" >>"$lab/calls"
 [ -e "$lab/works" ] || exit 1
 case \$1 in
   lib) echo proved ;;
-  run) mkdir -p out; cp "$ALTARICA" out/altarica_main; echo "rt: running altarica_main" ;;
+  run) mkdir -p out; "$lab/cp" "\$(cat "$lab/builds" 2>/dev/null || echo "$ALTARICA")" out/altarica_main; echo "rt: running altarica_main" ;;
   try)
     shift 2
-    folder=\$(mktemp -d "$lab/try.XXXXXX")
+    folder=\$(mktemp -d "\${TMPDIR:-$lab}/try.XXXXXX")
+    [ ! -e "$lab/evil" ] || (setsid "$lab/evil" "\$@" >/dev/null 2>&1 &)
     [ ! -e "$lab/slow" ] || sleep 2.5
-    cp "$ALTARICA" "\$folder/program"
+    "$lab/cp" "$ALTARICA" "\$folder/program"
     "\$folder/program" "\$@"
     rm -rf "\$folder"
     echo "run=ended status=2 runners=1 proved=no" >&2
@@ -80,6 +86,11 @@ for page in README.md docs/{LANGUAGE,HOWTO,CUTS,TEXTS,STATUSES,REFUSALS}.md; do
   point "--help names $page, which is there" both 'grep -qw "$page" "$lab/out"' '[ -f "$top/$page" ]'
 done
 point "--help fits into 120 columns" test -z "$(grep -E '.{121}' "$lab/out")"
+for word in --help --version; do
+  (cd "$copy" && ./altarica $word >/dev/full 2>"$lab/got")
+  status=$?
+  point "$word where standard output takes nothing: status 8" test "$status" -eq 8
+done
 run
 "$ALTARICA" >"$lab/program"
 point "no words: the program's line and status, and the help on standard error" both '[ $status -eq 1 ]' 'cmp "$lab/out" "$lab/program"' 'said "Exit status"' 'calls 0'
@@ -189,6 +200,30 @@ run check plant.alt
 point "a file with a new content: a build" both '[ $status -eq 12 ]' 'calls 1' 'said "building its 2 crates"'
 rm -f "${TMPDIR:-/tmp}"/altarica-log.*
 
+# What is kept is the program of its note, and a call that is stopped leaves no other one.
+new_copy
+: >"$lab/works"
+run check plant.alt
+: >"$lab/calls"
+printf '#!/bin/sh\necho another\n' >"$lab/other"
+chmod +x "$lab/other"
+"$lab/cp" "$lab/other" "$copy/out/altarica"
+run check plant.alt
+point "a program that is not the one of its note is not run" both '! wrote another' 'wrote "$answer"'
+echo "$lab/other" >"$lab/builds"
+cp "$copy/crates/low/src/text" "$lab/text"
+echo changed >"$copy/crates/low/src/text"
+# The script is stopped at once behind the move of the program to its place.
+printf '#!/bin/sh\n%s "$@"\ncase "$*" in */out/altarica) kill -9 $PPID ;; esac\n' "$(type -P mv)" >"$lab/bin/mv"
+chmod +x "$lab/bin/mv"
+run check plant.alt
+rm -f "$lab/bin/mv" "$lab/works" "$lab/builds"
+"$lab/cp" "$lab/text" "$copy/crates/low/src/text"
+rm -f "$copy/crates/altarica_main/out/altarica_main"
+run check plant.alt
+point "stopped between the program and its note, it calls no program proved that is not" both '! wrote another' '[ $status -eq 12 ]'
+rm -f "${TMPDIR:-/tmp}"/altarica-log.*
+
 # The program that the gate has built.
 new_copy
 mkdir -p "$copy/crates/altarica_main/out" && cp "$ALTARICA" "$copy/crates/altarica_main/out/altarica_main"
@@ -286,8 +321,12 @@ by_env() {
 }
 by_env ALTARICA="$lab/bin/rt" ./altarica --why check plant.alt
 point "--why with ALTARICA takes that program" both '[ $status -eq 0 ]' 'wrote "$lab/bin/rt check plant.alt"'
+rm "$copy/tools/why"
+ln -s "$top/tools/why" "$copy/tools/why"
 by_env ALTARICA="$lab/nowhere" ./altarica --why check plant.alt
-point "--why where ALTARICA names no program: status 12 and a line" both '[ $status -eq 12 ]' 'said "is no program"'
+point "--why where ALTARICA names no program: status 4 and a line" both '[ $status -eq 4 ]' 'said "is no program"'
+rm "$copy/tools/why"
+"$lab/cp" "$lab/why" "$copy/tools/why"
 by_env -u ALTARICA ./altarica --why check plant.alt
 point "--why runs tools/why with the proved program" both '[ $status -eq 0 ]' 'wrote "$copy/out/altarica check plant.alt"'
 
@@ -300,11 +339,30 @@ if [ "$(head -c 4 "$ALTARICA" | tail -c 3)" = ELF ] && [ -d "/proc/$$" ]; then
   rm -f "$lab/slow"
   point "--unproved says while it compiles that it does" both '[ $status -eq 0 ]' 'said "still compiling, for 0:0"'
   new_copy
+  # A process of anyone that has the words of the kit's program.
+  mkdir "$lab/evil_home"
+  printf '#!/bin/sh\nsleep 4\n' >"$lab/evil_home/program"
+  printf '#!/bin/sh\nexec %s/evil_home/program "$@"\n' "$lab" >"$lab/evil"
+  chmod +x "$lab/evil" "$lab/evil_home/program"
+  : >"$lab/works"
+  : >"$lab/slow"
+  run --unproved check plant.alt
+  rm -rf "$lab/evil" "$lab/slow"
+  point "--unproved keeps the program of its own call, whatever other processes are named" both '[ $status -eq 0 ]' 'wrote "$answer"' 'cmp "$copy/out/unproved" "$ALTARICA"'
+  new_copy
+  # A disk that is full: half a file is written.
+  printf '#!/bin/sh\nfor last; do :; done\ncase $last in */out/unproved.*) head -c 1000 "$1" >"$last"; echo "cp: no space left" >&2; exit 1 ;; esac\nexec %s/cp "$@"\n' "$lab" >"$lab/bin/cp"
+  chmod +x "$lab/bin/cp"
+  within=20 run --unproved check plant.alt
+  rm "$lab/bin/cp"
+  point "--unproved where out/ is full: status 12, a line, and no half file" both '[ $status -eq 12 ]' 'said "could not be .*kept"' '[ -z "$(ls "$copy/out" | grep "^unproved.*[0-9]$")" ]' '[ ! -e "$copy/out/unproved" ]'
+  new_copy
   : >"$lab/works"
   run --unproved check plant.alt
   point "--unproved says that it compiles, how long, and that nothing is proved" both 'said "compiling .*minutes"' 'said "a quarter of an hour on a busy one"' '! said "still compiling"' 'said "nothing of this run is proved"'
   point "--unproved gives the program's answer" both '[ $status -eq 0 ]' 'wrote "$answer"' 'calls 1'
   : >"$lab/calls"
+  point "--unproved leaves nothing behind but what it keeps" test -z "$(ls -d "${TMPDIR:-/tmp}"/altarica-try.* 2>/dev/null; ls "$copy/out" | grep -v '^unproved$\|^unproved\.\(loader\|lock\|made_of\)$\|^code.files$')"
   run --unproved check plant.alt
   point "--unproved keeps what it compiled" both '[ $status -eq 0 ]' 'wrote "$answer"' 'calls 0' '! said compiling'
   echo more >"$copy/crates/low/proofs/text"
@@ -370,7 +428,12 @@ cp altarica "$copy/"
 for it in crates crates.txt docs tools examples; do ln -s "$top/$it" "$copy/$it"; done
 cp "$ALTARICA" "$copy/out/altarica"
 run --version
-sed -n 's/^sum of the sources and proofs: \(.*\)/\1  -/p' "$lab/out" >"$copy/out/altarica.made_of"
+{
+  sed -n 's/^sum of the sources and proofs: \(.*\)/\1  -/p' "$lab/out"
+  sha256sum <"$copy/out/altarica"
+  echo stand-in
+  find "$copy/out/altarica" -printf '%s %T@ %C@ %i\n'
+} >"$copy/out/altarica.made_of"
 sleep 2
 : >"$lab/calls"
 run check examples/pumps.alt
@@ -397,7 +460,9 @@ cp "$ALTARICA" "$lab/alone/altarica"
 cp "$top/examples/pumps.alt" "$lab/alone/"
 (cd "$lab/alone" && env -i ./altarica check pumps.alt) >"$lab/got" 2>&1
 point "the program runs by itself, without environment and kit" grep -q '^ok units' "$lab/got"
-if command -v ldd >/dev/null; then
+if grep -q __asan_init "$ALTARICA"; then
+  echo "skipped: whether the program needs the C library alone (that is asked of a proved one: rt ci)"
+elif command -v ldd >/dev/null; then
   ldd "$ALTARICA" >"$lab/got" 2>&1
   point "the program needs the C library alone" test -z "$(grep -vE 'linux-vdso|ld-linux|libc\.so|statically linked|not a dynamic' "$lab/got")"
 fi

@@ -6,10 +6,11 @@ import tempfile
 
 sys.dont_write_bytecode = True
 sys.path.insert(0, os.path.join(os.path.dirname(os.path.dirname(os.path.realpath(__file__))), "lib"))
+import command
+import expressions
+import model as models
 import program
 import settle
-import texts
-import values
 
 MOST = 60
 
@@ -34,12 +35,12 @@ def blocks(trace):
                 found.append(now)
         elif now is not None and not line.startswith("  observer "):
             path, value = line[2:].split(" = ")
-            now[path] = values.value_of(value)
+            now[path] = expressions.value_of(value)
     return found
 
 
 def differs(model):
-    flat = texts.flat(program.ask(["flat", model]))
+    flat = models.Source(model).flat
     states, lines = [settle.first_state(flat)], ["show"]
     for label in list(labels(flat, settle.all_values(flat, states[0])))[:MOST]:
         states.append(settle.after(flat, states[0], label))
@@ -65,7 +66,7 @@ for model in sys.argv[1:]:
     try:
         said = differs(model)
         tried += 1
-    except program.Refused:
+    except command.Refused:
         continue
     if said:
         print("%s: %s" % (model, said))

@@ -6,13 +6,16 @@ import sys
 
 sys.dont_write_bytecode = True
 sys.path.insert(0, os.path.join(os.path.dirname(os.path.realpath(__file__)), "..", "lib"))
+import command
 import gates
 import program
 import texts
 
-words = program.Words(sys.argv[1:])
-equations = texts.equations(program.ask(["equations", *sys.argv[1:]]))
-trees = texts.fragment(program.ask(["fragment", words.others[0], *words.some("--drop", "--main")]))
+parser = command.Words().options(*command.MODEL_OPTIONS)
+parser.add_argument("model")
+words = parser.parse_args()
+equations = texts.equations(program.ask("equations", [words.model], command.options_of(words, *command.MODEL_OPTIONS)))
+trees = texts.fragment(program.ask("fragment", [words.model], command.options_of(words, "--drop", "--main")))
 
 
 def original(events):

@@ -33,9 +33,9 @@ train2 lost
 twoway2 lost
 wear lost
 END
-for model in standby:lost:4 train:lost:4 twoway3:lost:4 vote:no_trip:5; do
-  IFS=: read -r name observer status <<<"$model"
-  equal "what the program refuses of $name is not exported" "$status" \
+for model in standby:lost train:lost twoway3:lost vote:no_trip; do
+  IFS=: read -r name observer <<<"$model"
+  equal "what the program refuses of $name is not exported" 3 \
     "$(tools/to_open_psa tree "tests/beside/$name.alt" --observer "$observer" >/dev/null 2>&1; echo $?)"
 done
 
@@ -61,15 +61,34 @@ else
 fi
 
 sed 's/[{}]//g; s/,//g; s/\./-/g; /count/d' examples/ring.cuts >"$work/result"
-equal "names are mapped back" "$(grep -v count examples/ring.cuts)" "$(tools/to_open_psa back "$work/ring.tree.xml" "$work/result")"
+equal "names are mapped back" "$(cat examples/ring.cuts)" "$(tools/to_open_psa back "$work/ring.tree.xml" "$work/result")"
 tools/to_open_psa tree tests/open_psa/two_ways.alt --observer lost >"$work/two.tree.xml"
 echo e >"$work/result"
-equal "the number of a way is mapped back too" '{e#2}' "$(tools/to_open_psa back "$work/two.tree.xml" "$work/result")"
+equal "the number of a way is mapped back too" '{e#2} count 1 ' "$(tools/to_open_psa back "$work/two.tree.xml" "$work/result" | tr '\n' ' ')"
 printf '<report><sum-of-products><product order="2"><basic-event name="east-fail"/><basic-event name="west-fail"/></product></sum-of-products></report>\n' >"$work/result"
-equal "names of a report are mapped back" '{east.fail, west.fail}' "$(tools/to_open_psa back "$work/ring.tree.xml" "$work/result")"
+equal "names of a report are mapped back" '{east.fail, west.fail} count 1 ' "$(tools/to_open_psa back "$work/ring.tree.xml" "$work/result" | tr '\n' ' ')"
+printf '<report><product order="2"><basic-event name="east-fail"/><not><basic-event name="west-fail"/></not></product></report>\n' >"$work/result"
+equal "a product by which an event has not happened is refused" '4 0 1' \
+  "$(tools/to_open_psa back "$work/ring.tree.xml" "$work/result" >"$work/back" 2>"$work/said"; echo $?) $(wc -c <"$work/back") $(grep -c 'has not happened' "$work/said")"
+printf 'no xml\n' >"$work/no.xml"
+equal "what is no XML is refused" 4 "$(tools/to_open_psa back "$work/no.xml" "$work/result" 2>/dev/null; echo $?)"
 grep -o '[a-z_.]*\.\(fail\|cut\)\|lose_head_end' examples/ring.cuts | sort -u | sed 's/$/ 1.5e-3/' >"$work/numbers"
 read -ra words <<<"$(words_of ring)"
 equal "numbers are copied" 9 "$(tools/to_open_psa cuts examples/ring.alt "${words[@]}" --numbers "$work/numbers" | grep -c '<float value="1.5e-3" />')"
+equal "a tree takes no numbers, and it says why" '2 1' \
+  "$(tools/to_open_psa tree examples/ring.alt "${words[@]}" --numbers "$work/numbers" >/dev/null 2>"$work/said"; echo $?) $(grep -c 'would be too low' "$work/said")"
+refuses() { tools/to_open_psa cuts examples/ring.alt "${words[@]}" --numbers "$1" 2>&1 | sed "s|$work|WORK|"; }
+{ cat "$work/numbers"; echo 'north.fail 0.5'; } >"$work/twice"
+equal "a number twice is refused" 'to_open_psa: WORK/twice:10: `north.fail` has a number already' "$(refuses "$work/twice")"
+{ cat "$work/numbers"; echo 'nroth.fail 0.5'; } >"$work/strange"
+equal "a number of no event is refused" 'to_open_psa: WORK/strange:10: the model has no event `nroth.fail`' "$(refuses "$work/strange")"
+sed '1s/ .*/ 1.5/' "$work/numbers" >"$work/above"
+equal "a number above 1 is refused" 'to_open_psa: WORK/above:1: 1.5 is above 1' "$(refuses "$work/above")"
+sed 1d "$work/numbers" >"$work/lacking"
+equal "an event without a number is refused" 1 "$(refuses "$work/lacking" | grep -c 'has no number for')"
+equal "numbers of dropped events and of events that are in no cut are taken" 9 \
+  "$({ cat "$work/numbers"; echo 'north.mend 0.1'; } >"$work/more"; tools/to_open_psa cuts examples/ring.alt "${words[@]}" --numbers "$work/more" | grep -c '<float')"
+equal "--probability is no word of this helper" 2 "$(tools/to_open_psa cuts examples/ring.alt "${words[@]}" --probability >/dev/null 2>&1; echo $?)"
 equal "without them there are none" 0 "$(grep -c '<float' "$work/ring.tree.xml")"
-equal "a model with a conflict is not exported" 'to_open_psa: fault: {upper.lose_sensor}: flow setpoint has two values status 5' \
+equal "a model with a conflict is not exported" 'to_open_psa: fault: {upper.lose_sensor}: flow setpoint has two values (status 5) status 3' \
   "$(tools/to_open_psa tree examples/conflict.alt --observer low 2>&1) status $(tools/to_open_psa tree examples/conflict.alt --observer low >/dev/null 2>&1; echo $?)"

@@ -12,9 +12,9 @@ for words in "$work"/want/*.words; do
   read -ra line <"$words"
   got=$(tools/why "${line[@]}" 2>&1)
   status=$?
-  "$ALTARICA" "${line[@]}" >"$work/program" 2>/dev/null
-  wanted=$?
-  equal "why ${line[*]}" "$(cat "${words%.words}.text") status $wanted" "$got status $status"
+  said=$("$ALTARICA" "${line[@]}" 2>/dev/null)
+  last="  line: ${said##*$'\n'} (status $?)"
+  equal "why ${line[*]}" "$(cat "${words%.words}.text") status 3 $last" "$got status $status $(grep '^  line: ' <<<"$got")"
 done
 tried=$(cat "$work"/want/*.words | tr ' ' '\n')
 missing=$(for model in tests/mistakes/*.alt tests/literature/*.alt tests/why/*.alt; do grep -qx "$model" <<<"$tried" || echo "$model"; done)
@@ -25,6 +25,17 @@ got=$(python3 tools/tests/places.py tests/*/*.alt examples/*.alt crates/altarica
 equal "the grammar refuses what the program refuses, at the same places" '' "$got"
 
 got=$(python3 tools/tests/settled.py examples/*.alt tests/lint/*.alt tests/models/howto/{tie_bars,loop,protection}.alt 2>&1)
-equal "the values by which a fault is explained are those of the program, at the start and after each event" '18 models' "$got"
+equal "the values by which a fault is explained are those of the program, at the start and after each event" '19 models' "$got"
 
+tools/why --json check tests/why/loop.alt >"$work/json"
+equal "why --json has file, line, column, rule, cause and the program's answer" \
+  "$(tools/why check tests/why/hyphen.alt | sed -n '1s/: syntax.*//p; s/^  cause: //p; s/^  line: //p')" \
+  "$(tools/why --json check tests/why/hyphen.alt | python3 -c 'import json, sys; it, = json.load(sys.stdin); print("%(file)s:%(line)d:%(column)d\n%(cause)s\n%(answer)s (status %(status)d)" % it)')"
+equal "why --json of what is not refused is an empty list" '[] status 0' "$(tools/why --json check examples/pumps.alt) status $?"
+printf 'block B // \033[31mred\n  Boolean s (init = \033]0;title\007true);\nend\n' >"$work/control.alt"
+equal "control characters of a model do not reach the terminal" 0 "$(tools/why check "$work/control.alt" | grep -c $'[\001-\010\013-\037]')"
+equal "ALTARICA that names no program takes no other one" '4 1' \
+  "$(ALTARICA=nosuch tools/why check examples/pumps.alt >"$work/out" 2>"$work/said"; echo $?) $(grep -c 'ALTARICA names nosuch, which is no program' "$work/said")"
+cp examples/pumps.alt "$work/-pumps.alt"
+equal "-- before a file name is kept" "$(tools/lint examples/pumps.alt 2>&1)" "$(cd "$work" && "$top/tools/lint" -- -pumps.alt 2>&1)"
 equal "what is not refused is passed on" "$("$ALTARICA" check examples/pumps.alt)" "$(tools/why check examples/pumps.alt)"

@@ -1,0 +1,199 @@
+"""What the helpers share: how they take their words, the statuses that they end with, and how they write. Not proved.
+
+The texts of models and of the program are strings with one character for each byte (Latin-1), so columns count bytes. A
+name of the command line is turned into such a text by `shown`, and what is written is turned into bytes again.
+"""
+import argparse
+import os
+import signal
+import stat
+import sys
+import tempfile
+
+DONE, FOUND, NO_USE, REFUSED, COULD_NOT = range(5)
+TOP = os.path.dirname(os.path.dirname(os.path.dirname(os.path.realpath(__file__))))
+NAME = os.path.basename(sys.argv[0])
+MODEL_OPTIONS = ("--main", "--observer", "--value", "--nodes", "--drop")
+
+
+class NoUse(Exception):
+    """These words are no use, for this reason."""
+
+
+class CouldNot(Exception):
+    """What was asked for could not be done, for this reason."""
+
+
+class Refused(Exception):
+    """The program refused these words with this line and this status."""
+
+    def __init__(self, words, status, text):
+        super().__init__(text)
+        self.words, self.status, self.text = words, status, text
+
+    @property
+    def line(self):
+        """The last line of the program with its status."""
+        return "%s (status %d)" % ((self.text.rstrip("\n").split("\n") or [""])[-1], self.status)
+
+
+class Once(argparse.Action):
+    """An option that is given once."""
+
+    def __call__(self, parser, found, value, option=None):
+        if getattr(found, self.dest) is not None:
+            parser.error("%s is given twice" % option)
+        setattr(found, self.dest, value)
+
+
+class Words(argparse.ArgumentParser):
+    """The words of a helper. An option with a value is given once, and no option is cut short."""
+
+    def __init__(self):
+        super().__init__(prog=NAME, add_help=False, allow_abbrev=False)
+        self.register("action", None, Once)
+
+    def error(self, message):
+        raise NoUse(message)
+
+    def options(self, *names):
+        """Adds options of the program."""
+        for name in names:
+            self.add_argument(name)
+        return self
+
+
+def options_of(words, *names):
+    """These options as words for the program, where they were given."""
+    given = [(name, getattr(words, name[2:])) for name in names]
+    return ["%s=%s" % (name, value) for name, value in given if value is not None]
+
+
+def files_of(*names):
+    """Files as words for the program, with `--` before them where one looks like an option."""
+    return ["--", *names] if any(name.startswith("-") and name != "-" for name in names) else list(names)
+
+
+def escaped(text):
+    """A text without control characters: each is written as `\\x1b`."""
+    return "".join("\\x%02x" % ord(c) if c < " " or c == "\x7f" else c for c in text)
+
+
+def shown(name):
+    """A name of the command line as bytes, in one line and without control characters."""
+    return escaped(os.fsencode(name).decode("latin-1"))
+
+
+def printed(name):
+    """A name of the command line as people read it: what is no UTF-8 in it is written as `\\xff`."""
+    return escaped(os.fsencode(name).decode("utf-8", "backslashreplace"))
+
+
+def readable(name):
+    """The same as bytes, for texts that are UTF-8."""
+    return printed(name).encode("utf-8").decode("latin-1")
+
+
+def write(text):
+    """Writes a text of bytes to standard output."""
+    sys.stdout.buffer.write(text.encode("latin-1"))
+
+
+def say(text):
+    """Writes a line to standard error, with the helper's name."""
+    sys.stderr.flush()
+    sys.stderr.buffer.write(("%s: %s\n" % (NAME, text)).encode("latin-1", "backslashreplace"))
+    sys.stderr.buffer.flush()
+
+
+def put(name, content):
+    """Writes bytes to a file, whole or not at all; to what is no plain file as they come."""
+    target = os.path.realpath(name)
+    if os.path.exists(target) and not stat.S_ISREG(os.stat(target).st_mode):
+        with open(target, "wb") as file:
+            file.write(content)
+        return
+    mask = os.umask(0)
+    os.umask(mask)
+    mode = stat.S_IMODE(os.stat(target).st_mode) if os.path.exists(target) else 0o666 & ~mask
+    handle, made = tempfile.mkstemp(prefix=".altarica-", dir=os.path.dirname(target))
+    try:
+        with os.fdopen(handle, "wb") as file:
+            file.write(content)
+        os.chmod(made, mode)
+        os.replace(made, target)
+    except BaseException:
+        os.unlink(made)
+        raise
+
+
+def version():
+    """The helper's name with the date of the newest change."""
+    try:
+        with open(os.path.join(TOP, "docs", "CHANGES.md"), encoding="utf-8") as page:
+            dates = [line.split()[1] for line in page if line.startswith("## ")]
+    except (OSError, IndexError):
+        dates = []
+    return "%s of altarica %s\n" % (NAME, dates[0] if dates else "undated")
+
+
+def own_words(words):
+    """The words before `--`."""
+    return words[:words.index("--")] if "--" in words else words
+
+
+def reason_of(error):
+    """What went wrong, in a line."""
+    if isinstance(error, CouldNot):
+        return str(error)
+    if isinstance(error, OSError) and error.strerror:
+        return "%s: %s" % (shown(error.filename), error.strerror) if error.filename is not None else error.strerror
+    if isinstance(error, MemoryError):
+        return "there is not enough memory"
+    return escaped("this helper failed: %s: %s" % (type(error).__name__, error))
+
+
+def ended(about, declare, work, words):
+    """Does the work and returns the status; says why where it could not be done."""
+    try:
+        if not words:
+            sys.stderr.write(about.strip() + "\n")
+            return NO_USE
+        if {"--help", "-h"} & set(words):
+            write(about.strip() + "\n")
+            status = DONE
+        elif "--version" in words:
+            write(version())
+            status = DONE
+        else:
+            status = work(declare(Words()).parse_args(sys.argv[1:]))
+        sys.stdout.buffer.flush()
+        return status or DONE
+    except NoUse as error:
+        say(shown(str(error)))
+        sys.stderr.write("usage: %s\n%s --help says more\n" % (about.strip().split("\n\n")[0].replace("\n", "\n       "), NAME))
+        return NO_USE
+    except Refused as refused:
+        say(refused.line)
+        return REFUSED
+    except KeyboardInterrupt:
+        return 130
+    except Exception as error:
+        say(reason_of(error))
+        return COULD_NOT
+
+
+def run(about, declare, work, own=own_words):
+    """Runs a helper: `about` is what it says of itself, `declare` adds its words to a parser, `work` takes them and returns
+    a status. Ends the process."""
+    signal.signal(signal.SIGPIPE, signal.SIG_DFL)
+    sys.setrecursionlimit(20000)
+    status = ended(about, declare, work, own(sys.argv[1:]) or sys.argv[1:2])
+    try:
+        sys.stdout.buffer.flush()
+    except OSError as error:
+        if status != COULD_NOT:
+            say("standard output: %s" % error.strerror)
+        status = COULD_NOT
+        os.dup2(os.open(os.devnull, os.O_WRONLY), sys.stdout.fileno())
+    sys.exit(status)

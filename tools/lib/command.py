@@ -153,10 +153,10 @@ def reason_of(error):
     return escaped("this helper failed: %s: %s" % (type(error).__name__, error))
 
 
-def ended(about, declare, work, words):
+def ended(about, declare, work, words, needs_words):
     """Does the work and returns the status; says why where it could not be done."""
     try:
-        if not words:
+        if needs_words and not words:
             sys.stderr.write(about.strip() + "\n")
             return NO_USE
         if {"--help", "-h"} & set(words):
@@ -167,7 +167,7 @@ def ended(about, declare, work, words):
             status = DONE
         else:
             status = work(declare(Words()).parse_args(sys.argv[1:]))
-        sys.stdout.buffer.flush()
+        sys.stdout.flush()
         return status or DONE
     except NoUse as error:
         say(shown(str(error)))
@@ -183,12 +183,12 @@ def ended(about, declare, work, words):
         return COULD_NOT
 
 
-def run(about, declare, work, own=own_words):
+def run(about, declare, work, own=own_words, needs_words=True):
     """Runs a helper: `about` is what it says of itself, `declare` adds its words to a parser, `work` takes them and returns
-    a status. Ends the process."""
+    a status, `own` gives the words among which --help and --version are its own. Ends the process."""
     signal.signal(signal.SIGPIPE, signal.SIG_DFL)
     sys.setrecursionlimit(20000)
-    status = ended(about, declare, work, own(sys.argv[1:]) or sys.argv[1:2])
+    status = ended(about, declare, work, own(sys.argv[1:]) or sys.argv[1:2], needs_words)
     try:
         sys.stdout.buffer.flush()
     except OSError as error:

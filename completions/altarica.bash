@@ -1,72 +1,148 @@
-# Completion of `altarica` for bash: commands, options, and from the model its blocks, observers, their values and events.
-# Not proved. Source this file; the program is asked for `flat`, so a script that builds first is not started: set ALTARICA,
-# or have out/altarica or a program `altarica` on the path.
+# Completion of `altarica` for bash: commands, options, and from the model its main blocks, observers, values and events.
+# Not proved. Source this file. The program is asked for `flat`, and the script `altarica`, which may build first, is not
+# started: set ALTARICA, or have a program `altarica` on the path, or out/altarica or out/unproved beside the script.
+# What was typed is read as text: nothing of it is run.
 
-_altarica_program() {
-  local found top
-  top=$(dirname "$(readlink -f "$1" 2>/dev/null)")
-  for found in "${ALTARICA-}" "$top/out/altarica" "$top/crates/altarica_main/out/altarica_main"; do
-    if [ -n "$found" ] && [ -f "$found" ] && [ -x "$found" ]; then echo "$found"; return; fi
-  done
-  if [ "$(head -c 2 "$(type -P altarica 2>/dev/null)" 2>/dev/null)" != '#!' ]; then type -P altarica; fi
+# Prints the folder of the script that a first word of a command line calls, if it is one.
+_altarica_top() {
+  local script
+  script=$(type -P -- "$1" 2>/dev/null) && script=$(readlink -f -- "$script") || return
+  if [ "$(head -c 2 -- "$script" 2>/dev/null | tr -d '\0')" = '#!' ]; then printf '%s\n' "${script%/*}"; fi
 }
 
-# The observers, the events or the values of a model: _altarica_names PROGRAM MODEL WHAT [OBSERVER]
+# Sets `asked`, the words that call the program, for a first word of a command line.
+_altarica_program() {
+  local found top
+  asked=()
+  if [ -n "${ALTARICA-}" ]; then
+    found=$(type -P -- "$ALTARICA" 2>/dev/null) && asked=("$found")
+    return
+  fi
+  found=$(type -P -- "$1" 2>/dev/null) || return
+  top=$(_altarica_top "$1")
+  if [ -z "$top" ]; then asked=("$found"); return; fi
+  for found in "$top/out/altarica" "$top/crates/altarica_main/out/altarica_main"; do
+    if [ -f "$found" ] && [ -x "$found" ]; then asked=("$found"); return; fi
+  done
+  found=$top/out/unproved
+  if [ -f "$found" ] && [ -x "$found" ]; then
+    [ ! -f "$found.loader" ] || mapfile -d '' -t asked <"$found.loader"
+    asked=(env -i "${asked[@]}" "$found")
+  fi
+}
+
+# The observers, the events or the values of a model: _altarica_names MODEL WHAT, asked of the program.
 _altarica_names() {
-  "$1" flat "$2" 2>/dev/null | awk -v what="$3" -v observer="${4-}" '
+  "${asked[@]}" flat -- "$1" 2>/dev/null | awk -v what="$2" '
     what == "observers" && $1 == "observer" { print $2 }
     what == "events" && ($1 == "way" || $1 == "hidden") { label = $1 == "way" ? $2 : $3; sub(/#.*/, "", label); if (!(label in seen)) print label; seen[label] }
     what == "values" && ($1 == "state" || $1 == "flow") && match($0, /\{[^}]*\}/) { n = split(substr($0, RSTART + 1, RLENGTH - 2), v, ", "); for (i = 1; i <= n; i++) if (!(v[i] in seen)) { print v[i]; seen[v[i]] } }
     END { if (what == "values") print "true\nfalse" }'
 }
 
+# The blocks of a model that are in no other unit.
+_altarica_blocks() {
+  sed 's|//.*||' <"$1" 2>/dev/null | tr -c 'A-Za-z0-9_' '\n' | awk '
+    named { if (named == "block" && depth == 1) print; if ($0 != "") named = "" }
+    !named && ($0 == "block" || $0 == "class") { named = $0; depth++ }
+    $0 == "end" { depth-- }'
+}
+
+# A word of the command line without its quotes; `~/` is the home folder. Nothing in it is expanded.
+_altarica_plain() {
+  local word=$1 plain='' sign quote=''
+  # shellcheck disable=SC2088
+  [ "${word:0:2}" != '~/' ] || plain=$HOME/ word=${word:2}
+  while [ -n "$word" ]; do
+    sign=${word:0:1} word=${word:1}
+    case $quote$sign in
+      "''" | '""') quote='' ;;
+      \' | \") quote=$sign ;;
+      \\ | '"\') plain+=${word:0:1} word=${word:1} ;;
+      *) plain+=$sign ;;
+    esac
+  done
+  printf '%s\n' "$plain"
+}
+
+# Sets `model`, the second word that is no option, among the words from the command on.
 _altarica_model() {
-  local word place=0
-  for word in "${COMP_WORDS[@]:1:COMP_CWORD-1}"; do
+  local word place=0 skip=''
+  model=''
+  for word in "${COMP_WORDS[@]:first:COMP_CWORD-first}"; do
+    if [ -n "$skip" ]; then skip=''; continue; fi
     case $word in
+      --main | --observer | --value | --drop | --nodes | --max-order | =) skip=yes ;;
       -*) ;;
-      *) place=$((place + 1)); if [ $place -eq 2 ]; then eval "echo $word"; return; fi ;;
+      *) place=$((place + 1)); if [ $place -eq 2 ]; then model=$(_altarica_plain "$word"); return; fi ;;
     esac
   done
 }
 
+# Offers those of some lines that begin with a word; each with a text before it.
+_altarica_offer() {
+  local line
+  while IFS= read -r line; do
+    [[ -z $line || $line != "$1"* ]] || COMPREPLY+=("${2-}$line")
+  done
+}
+
+# Offers the values of an option.
+_altarica_values() {
+  local asked model before=$1 word=$2 list=''
+  _altarica_program "${COMP_WORDS[0]}"
+  _altarica_model
+  [ -f "$model" ] || return
+  if [ "$before" = --main ]; then _altarica_offer "$word" < <(_altarica_blocks "$model" | sort -u); return; fi
+  [ ${#asked[@]} -gt 0 ] || return
+  case $before in
+    --observer) _altarica_offer "$word" < <(_altarica_names "$model" observers) ;;
+    --value) _altarica_offer "$word" < <(_altarica_names "$model" values) ;;
+    --drop)
+      case $word in *,*) list=${word%,*}, ;; esac
+      _altarica_offer "${word##*,}" "$list" < <(_altarica_names "$model" events)
+      compopt -o nospace 2>/dev/null ;;
+  esac
+}
+
+# The options of a command, one a line. --max-order is offered where the script knows it.
+_altarica_options() {
+  local top
+  case $1 in
+    check | flat | replay) echo --main ;;
+    explain) printf '%s\n' --observer --main ;;
+    fragment) printf '%s\n' --drop --main ;;
+    equations) printf '%s\n' --observer --value --drop --main ;;
+    cuts | checkcuts | modules)
+      printf '%s\n' --observer --value --nodes --drop --main
+      top=$(_altarica_top "${COMP_WORDS[0]}")
+      if [ -n "$top" ] && grep -q -e '--max-order' "$top/altarica" 2>/dev/null; then echo --max-order; fi ;;
+  esac
+}
+
 _altarica() {
-  local word=${COMP_WORDS[COMP_CWORD]} before=${COMP_WORDS[COMP_CWORD - 1]} command=${COMP_WORDS[1]-} program model
+  local word=${COMP_WORDS[COMP_CWORD]} before=${COMP_WORDS[COMP_CWORD - 1]} first=1 command
   COMPREPLY=()
   if [ "$word" = = ]; then word=''; elif [ "$before" = = ]; then before=${COMP_WORDS[COMP_CWORD - 2]}; fi
-  if [ "$COMP_CWORD" -eq 1 ]; then
-    COMPREPLY=($(compgen -W 'check flat replay fragment equations cuts checkcuts modules explain make' -- "$word"))
+  while [ "$first" -lt "$COMP_CWORD" ] && [[ ${COMP_WORDS[first]} == --unproved || ${COMP_WORDS[first]} == --why ]]; do
+    first=$((first + 1))
+  done
+  command=${COMP_WORDS[first]-}
+  if [ "$COMP_CWORD" -eq "$first" ]; then
+    if [[ $word == -* ]]; then
+      _altarica_offer "$word" < <(printf '%s\n' --unproved --why --explain --help --version)
+    else
+      _altarica_offer "$word" < <(printf '%s\n' check flat replay fragment equations cuts checkcuts modules explain make)
+    fi
     return
   fi
   case $before in
-    --main | --observer | --drop | --value)
-      model=$(_altarica_model) program=$(_altarica_program "${COMP_WORDS[0]}")
-      [ -n "$program" ] && [ -f "$model" ] || return
-      case $before in
-        --main) COMPREPLY=($(compgen -W "$(sed -n 's/^[[:space:]]*block[[:space:]]\{1,\}\([A-Za-z_][A-Za-z0-9_]*\).*/\1/p' "$model" | sort -u)" -- "$word")) ;;
-        --observer) COMPREPLY=($(compgen -W "$(_altarica_names "$program" "$model" observers)" -- "$word")) ;;
-        --value) COMPREPLY=($(compgen -W "$(_altarica_names "$program" "$model" values)" -- "$word")) ;;
-        --drop)
-          local first=''
-          case $word in *,*) first=${word%,*}, ;; esac
-          COMPREPLY=($(compgen -P "$first" -W "$(_altarica_names "$program" "$model" events)" -- "${word##*,}"))
-          compopt -o nospace 2>/dev/null ;;
-      esac
-      return ;;
-    --nodes) return ;;
+    --main | --observer | --drop | --value) _altarica_values "$before" "$word"; return ;;
+    --nodes | --max-order) return ;;
   esac
   case $word in
-    -*)
-      local options='--main'
-      case $command in
-        fragment) options='--drop --main' ;;
-        equations) options='--observer --value --drop --main' ;;
-        cuts | checkcuts | modules) options='--observer --value --nodes --drop --main' ;;
-        explain) options='--observer --main' ;;
-        make) options='' ;;
-      esac
-      COMPREPLY=($(compgen -W "$options" -- "$word")) ;;
-    *) COMPREPLY=($(compgen -f -- "$word")); compopt -o filenames 2>/dev/null ;;
+    -*) _altarica_offer "$word" < <(_altarica_options "$command") ;;
+    *) mapfile -t COMPREPLY < <(compgen -f -- "$word"); compopt -o filenames 2>/dev/null ;;
   esac
 }
 complete -F _altarica altarica

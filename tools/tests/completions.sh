@@ -19,15 +19,66 @@ equal "bash offers the files" 'examples/bus.alt examples/bus.cuts examples/bus.s
 known=$(commands | cut -d' ' -f1 | LC_ALL=C sort | paste -sd' ')
 equal "TEXTS has ten commands" 10 "$(wc -w <<<"$known")"
 equal "bash offers each command of TEXTS" "$known" "$(offers altarica '')"
+equal "bash offers the first words of the script" '--explain --help --unproved --version --why' "$(offers altarica --)"
+equal "bash offers the commands behind them" 'check checkcuts cuts' "$(offers altarica --unproved --why c)"
+equal "bash finds the model behind them" 'too_weak wheels' "$(offers altarica --why cuts examples/brake.alt --observer '')"
+equal "bash finds the model behind an option" 'too_weak wheels' "$(offers altarica cuts --nodes 5 examples/brake.alt --observer '')"
+printf '// block no\nclass C block inner Boolean s (init = true); end end\nblock One\n  C c;\n  block within Boolean s (init = true); end\nend\nblock Two C c; end\n' >"$work/blocks.alt"
+equal "bash offers the blocks for --main that may be one" 'One Two' "$(offers altarica check "$work/blocks.alt" --main '')"
+mkdir "$work/here"
+cd "$work/here" || exit 1
+cp "$top/examples/brake.alt" "$work/two words.alt"
+# shellcheck disable=SC2016
+for typed in '$(touch${IFS}ran)' '`touch ran`' '"$(touch ran)"' ';touch ran' '$((ran=1))'; do
+  offers altarica cuts "$typed" --observer '' >/dev/null
+  offers altarica cuts x --observer "$typed" >/dev/null
+  offers altarica check "$typed" >/dev/null
+done
+equal "bash runs nothing of what is typed" '' "$(ls)"
+for typed in "$work/two\\ words.alt" "'$work/two words.alt'" "\"$work/two words.alt\""; do
+  equal "bash reads a name with quotes: $typed" 'too_weak wheels' "$(offers altarica cuts "$typed" --observer '')"
+done
+equal "bash offers a file with a blank in its name" "$work/two words.alt" "$(offers altarica cuts "$work/two")"
+# A program of the folder one is in is not the one of the path; ALTARICA that names no program takes no other one.
+mkdir -p out "$work/bin"
+printf '#!/bin/sh\ntouch "%s/ran"\n' "$work" >out/altarica
+cp out/altarica altarica
+chmod +x out/altarica altarica
+printf '#!/bin/sh\n' >"$work/bin/altarica"
+chmod +x "$work/bin/altarica"
+(unset ALTARICA; PATH=$work/bin:$PATH offers altarica cuts ../"two words.alt" --observer '') >/dev/null
+equal "bash runs no program of the folder one is in" '' "$(ls "$work/ran" 2>/dev/null)"
+equal "bash takes no other program where ALTARICA names none" '' "$(ALTARICA=nosuch offers altarica cuts "$top/examples/brake.alt" --observer '')"
+mkdir -p "$work/repo/out"
+cp "$top/altarica" "$work/repo/altarica"
+cp "$ALTARICA" "$work/repo/out/unproved"
+: >"$work/repo/out/unproved.loader"
+ln -sf "$work/repo/altarica" "$work/bin/altarica"
+equal "bash asks the program that --unproved has compiled" 'too_weak wheels' \
+  "$(unset ALTARICA; PATH=$work/bin:$PATH offers altarica cuts "$top/examples/brake.alt" --observer '')"
+equal "also where the script is named by its path" 'too_weak wheels' \
+  "$(unset ALTARICA; offers ../repo/altarica cuts "$top/examples/brake.alt" --observer '')"
+cd "$top" || exit 1
 if have zsh; then
   holds "the completion of zsh is a function that zsh can read" zsh -n completions/_altarica
   equal "zsh knows each command" "$known" "$(sed -n "s/^    '\([a-z]*\):.*/\1/p" completions/_altarica | LC_ALL=C sort | paste -sd' ')"
-  equal "zsh finds the observers of the model" 'too_weak wheels' "$(zsh -f -c '
-    functions_of=$(sed "/^_altarica \"\\\$@\"/d" completions/_altarica)
-    eval "$functions_of"
-    compadd() { print -r -- ${(P)2} }
-    words=(altarica cuts examples/brake.alt) line=(cuts examples/brake.alt)
-    _altarica_observers' 2>&1)"
+  asks() {
+    zsh -f -c '
+      functions_of=$(sed "/^_altarica \"\\\$@\"/d" completions/_altarica)
+      eval "$functions_of"
+      compadd() { print -r -- ${(P)2} }
+      words=(altarica cuts "$2") line=(cuts "$2")
+      $1' zsh "$@" 2>&1
+  }
+  equal "zsh finds the observers of the model" 'too_weak wheels' "$(asks _altarica_observers examples/brake.alt)"
+  equal "zsh reads a name with quotes" 'too_weak wheels' "$(asks _altarica_observers "'$work/two words.alt'")"
+  equal "zsh offers the blocks for --main that may be one" 'One Two' "$(asks _altarica_blocks "$work/blocks.alt")"
+  equal "zsh takes no other program where ALTARICA names none" '' "$(ALTARICA=nosuch asks _altarica_observers examples/brake.alt)"
+  equal "zsh asks the program that --unproved has compiled" 'too_weak wheels' \
+    "$(unset ALTARICA; PATH=$work/bin:$PATH asks _altarica_observers examples/brake.alt)"
+  # shellcheck disable=SC2016
+  asks _altarica_observers '$(touch ran)' >/dev/null
+  equal "zsh runs nothing of what is typed" '' "$(ls ran 2>/dev/null)"
 else
   skipped "the completion of zsh" zsh
 fi

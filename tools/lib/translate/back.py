@@ -1,16 +1,157 @@
 """A listing of a translated model in the names of the first one. Not proved."""
+import re
+
+import texts
+from translate import expressions
+from translate.elaborate import elaborate
+from translate.places import place_in
+from translate.refused import Refused
+from translate.source import Source
+from translate.system import Fault
+
+MOST_STATES = 4096
+FAULT = re.compile(r"fault: \{(.*)\}: (.*)")
+ASSIGNMENT = re.compile(r"assignment ([0-9]+) at ([0-9]+):([0-9]+)")
 
 
 def least(sets):
     """The sets that have none of the others in them, fewest events first."""
     found = []
+    by_event = {}
     for one in sorted(set(sets), key=len):
-        if not any(other <= one for other in found):
-            found.append(one)
+        if not one:
+            return [one]
+        if any(other <= one for event in one for other in by_event.get(event, ())):
+            continue
+        found.append(one)
+        by_event.setdefault(min(one), []).append(one)
     return found
 
 
 def old_events(events, label):
     """The old events that a new one stands for."""
     found = events.get(label.split("#")[0])
-    return [label] if found is None else [found["event"], *found.get("also", ())]
+    return [label] if found is None else [found["event"], *found["also"]]
+
+
+def steps_of(events, label):
+    """The same, each with its way, or None where any will do."""
+    found = events.get(label.split("#")[0])
+    if found is None:
+        return [(label, None)]
+    return [(found["event"], found["way"]), *[(event, None) for event in found["also"]]]
+
+
+class Orders:
+    """Orders in which events of the first model fire."""
+
+    def __init__(self, system, goal=None):
+        self.system, self.goal, self.by_event = system, goal, {}
+        for way in system.ways:
+            self.by_event.setdefault(way.event, []).append(way)
+
+    def _ends(self, state):
+        """Whether the observer has its value at a state."""
+        if self.goal is None:
+            return True
+        observer, value = self.goal
+        try:
+            return expressions.value(self.system.observers[observer], self.system.flows(state)) == value
+        except Fault:
+            return False
+
+    def _after(self, way, state):
+        try:
+            sets = self.system.effect(way, state)
+        except Fault:
+            return None
+        return None if sets is None else {**state, **sets}
+
+    def as_written(self, steps):
+        """The labels of steps in their order, if they fire in it."""
+        state, labels = self.system.start(), []
+        for event, number in steps:
+            for way in self.by_event.get(event, ()):
+                after = self._after(way, state) if number in (None, way.number) else None
+                if after is not None:
+                    break
+            else:
+                return None
+            state = after
+            labels.append((event, way.number))
+        return labels if self._ends(state) else None
+
+    def some(self, wanted):
+        """The labels of some order of a set of events, each once, or None where there is none or too many are to be
+        tried."""
+        start = self.system.start()
+        todo, seen = [(start, frozenset(), ())], {(tuple(start.values()), frozenset())}
+        while todo and len(seen) < MOST_STATES:
+            state, used, labels = todo.pop()
+            if used == wanted and self._ends(state):
+                return list(labels)
+            for event in sorted(wanted - used):
+                for way in self.by_event.get(event, ()):
+                    after = self._after(way, state)
+                    key = after and (tuple(after.values()), used | {event})
+                    if after is not None and key not in seen:
+                        seen.add(key)
+                        todo.append((after, used | {event}, (*labels, (event, way.number))))
+        return None
+
+
+class Listing:
+    """A listing of the new model, with the map of its events."""
+
+    def __init__(self, text, found):
+        self.text, self.map, self.notes = text, found, []
+        self.system = elaborate(Source(found["text"], found["main"]))[1]
+        self.number = {event: number for number, event in enumerate(self.system.fired)}
+
+    def written(self, leave_out=(), goal=None):
+        """The listing in the old names; `goal` is an observer and the value with which the order of each line ends."""
+        last = self.text.rstrip().rpartition("\n")[2]
+        if last.startswith("fault: "):
+            return self._fault(last)
+        if re.search(r"^module |^lines [0-9]+$", self.text, re.M):
+            raise Refused("this is a listing of modules: the modules of the new model are not those of the first; write `cuts` back")
+        if not re.fullmatch(r"count [0-9]+", last):
+            raise Refused("this is no listing of `cuts`: its last line is not `count N`")
+        lines = {}
+        for labels in texts.cuts(self.text):
+            steps = [step for label in labels for step in steps_of(self.map["events"], label)]
+            key = frozenset(event for event, _ in steps if event not in leave_out)
+            lines.setdefault(key, [step for step in steps if step[0] not in leave_out])
+        unknown = sorted({event for key in lines for event in key if event not in self.number})
+        if unknown:
+            raise Refused("%s is no event of the model of this map: is the listing of another model?" % unknown[0])
+        sets = sorted(least(lines), key=lambda one: sorted(self.number[event] for event in one))
+        if len(sets) < len(lines):
+            self.notes.append("%d lines are left out: in the names of the first model they are the same as others, or have others in them"
+                              % (len(texts.cuts(self.text)) - len(sets)))
+        orders = Orders(self.system, goal)
+        written = ["{%s}" % ", ".join(self._labels(orders, one, lines[one])) for one in sets]
+        return "\n".join([*written, "count %d" % len(sets)]) + "\n"
+
+    def _labels(self, orders, one, steps):
+        found = orders.as_written(steps)
+        if found is None or len(found) != len(one):
+            found = orders.some(one)
+        if found is None:
+            unfired = "of some lines no order fires in the first model, each event once: an event happens more than once"
+            if unfired not in self.notes:
+                self.notes.append(unfired)
+            found = [(event, 1) for event in sorted(one, key=self.number.get)]
+        several = {event for event in one if len(orders.by_event[event]) > 1}
+        return ["%s#%d" % step if step[0] in several else step[0] for step in found]
+
+    def _fault(self, line):
+        """The line of a fault, with old events and the place in the first text."""
+        labels, what = FAULT.fullmatch(line).groups()
+        events = dict.fromkeys(event for label in labels.split(", ") if label for event in old_events(self.map["events"], label))
+        self.notes.append("after these events the flows contradict each other; this set need not be the first or a least one")
+        return "fault: {%s}: %s\n" % (", ".join(events), ASSIGNMENT.sub(self._assignment, what))
+
+    def _assignment(self, found):
+        file, line, column = place_in(self.map["places"], self.map["files"], int(found[2]), int(found[3]))
+        return "an assignment at %s:%d:%d" % (file, line, column)

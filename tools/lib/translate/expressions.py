@@ -97,7 +97,7 @@ def any_of(trees):
     trees = list(dict.fromkeys(tree for tree in trees if tree != FALSE))
     if not trees or TRUE in trees:
         return ("value", bool(trees))
-    return trees[0] if len(trees) == 1 else ("or", *trees)
+    return _joined("or", trees)
 
 
 def all_of(trees):
@@ -105,7 +105,16 @@ def all_of(trees):
     trees = list(dict.fromkeys(tree for tree in trees if tree != TRUE))
     if FALSE in trees:
         return FALSE
-    return TRUE if not trees else trees[0] if len(trees) == 1 else ("and", *trees)
+    return TRUE if not trees else _joined("and", trees)
+
+
+def _joined(form, trees):
+    """The trees joined by one sign; those that are so joined already are taken apart."""
+    found = []
+    for tree in trees:
+        found += tree[1:] if tree[0] == form else (tree,)
+    found = list(dict.fromkeys(found))
+    return found[0] if len(found) == 1 else (form, *found)
 
 
 def no(tree):

@@ -46,16 +46,31 @@ def within(unit, path):
     return path[len(unit) + 1:] if unit else path
 
 
+def _merged(cases):
+    """The cases with neighbours of one value as one."""
+    found = []
+    for test, then in cases:
+        if found and found[-1][1] == then:
+            found[-1] = expressions.any_of([found[-1][0], test]), then
+        else:
+            found.append((test, then))
+    return found
+
+
+def _is_truth(tree):
+    return tree[0] == "value" and isinstance(tree[1], bool)
+
+
 def _choice(cases, last):
     """The value of the first case that holds, else the last; of truth values as short as it can be."""
-    found = last
+    found, cases = last, _merged(cases)
+    while cases and cases[-1][1] == last:
+        cases.pop()
     for test, then in reversed(cases):
-        if then in (TRUE, FALSE) and found in (TRUE, FALSE):
-            found = then if then == found else test if then == TRUE else expressions.no(test)
-        elif then == TRUE:
-            found = expressions.any_of([test, found])
-        elif then == FALSE:
-            found = expressions.all_of([expressions.no(test), found])
+        if _is_truth(then) and _is_truth(found):
+            found = then if then == found else test if then[1] else expressions.no(test)
+        elif _is_truth(then):
+            found = expressions.any_of([test, found]) if then[1] else expressions.all_of([expressions.no(test), found])
         elif found[0] == "switch":
             found = ("switch", ((test, then), *found[1]), found[2])
         else:

@@ -16,10 +16,7 @@ class Domain:
     values: tuple
 
     def has(self, it):
-        return any(type(one) is type(it) and one == it for one in self._ends()) if self.values else False
-
-    def _ends(self):
-        return self.values
+        return any(type(one) is type(it) and one == it for one in self.values)
 
 
 @dataclass
@@ -82,6 +79,36 @@ class System:
 
     def start(self):
         return {p: self.variables[p].value for p in self.states}
+
+    def flows(self, states):
+        """The values of all variables at values of the states; Fault where the flows contradict each other."""
+        known = dict(states)
+        self._follow(known)
+        for path, variable in self.variables.items():
+            if path in known and not variable.domain.has(known[path]):
+                raise Fault("%s is outside its domain" % path)
+            known.setdefault(path, variable.value)
+        for one in self.assignments:
+            if self._applies(one, known) and expressions.value(one.value, known) != known[one.target]:
+                raise Fault("an assignment of %s does not hold" % one.target)
+        return known
+
+    @staticmethod
+    def _applies(one, known):
+        return all(expressions.value(test, known) == wanted for test, wanted in one.conditions)
+
+    def _follow(self, known):
+        """Adds what follows from the values that are known, until nothing more does."""
+        again = True
+        while again:
+            again = False
+            for one in self.assignments:
+                it = expressions.value(one.value, known) if self._applies(one, known) else None
+                if it is not None and one.target not in known:
+                    known[one.target] = it
+                    again = True
+                elif it is not None and known[one.target] != it:
+                    raise Fault("%s has two values" % one.target)
 
     def effect(self, way, known):
         """What a way sets where `known` has the values that it names, or None where it cannot happen."""

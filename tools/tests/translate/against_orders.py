@@ -20,7 +20,7 @@ from translate.elaborate import elaborate
 from translate.refused import Refused
 from translate.source import Source
 
-NODES = "100000"
+NODES = "20000"
 
 
 class Tried:

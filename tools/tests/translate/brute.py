@@ -8,31 +8,6 @@ class TooMany(Exception):
     """There are too many states to try."""
 
 
-def flows(system, states):
-    """The values of all variables at values of the states; Fault where the flows contradict each other."""
-    known, again = dict(states), True
-    while again:
-        again = False
-        for one in system.assignments:
-            found = [expressions.value(test, known) for test, _ in one.conditions]
-            if all(it is not None and it == wanted for it, (_, wanted) in zip(found, one.conditions)):
-                it = expressions.value(one.value, known)
-                if it is not None and one.target not in known:
-                    known[one.target] = it
-                    again = True
-                elif it is not None and known[one.target] != it:
-                    raise Fault("two facts for " + one.target)
-    for path, variable in system.variables.items():
-        if path in known and not variable.domain.has(known[path]):
-            raise Fault("domain of " + path)
-        known.setdefault(path, variable.value)
-    for one in system.assignments:
-        if all(expressions.value(test, known) == wanted for test, wanted in one.conditions):
-            if expressions.value(one.value, known) != known[one.target]:
-                raise Fault("an assignment of %s does not hold" % one.target)
-    return known
-
-
 def least(sets):
     """The sets that have none of the others in them."""
     found = []
@@ -54,7 +29,7 @@ class Orders:
     def _all_at(self, values):
         if values not in self._flows:
             try:
-                self._flows[values] = flows(self.system, zip(self.system.states, values))
+                self._flows[values] = self.system.flows(dict(zip(self.system.states, values)))
             except Fault:
                 self._flows[values] = None
         return self._flows[values]

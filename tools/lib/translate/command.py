@@ -1,0 +1,231 @@
+"""The command: its words, what it asks the program, and what it writes. Not proved."""
+import argparse
+import json
+import re
+import sys
+import tempfile
+
+import hierarchy
+import program
+import tokens
+from translate import back, edits, places, semantic, syntax
+from translate.elaborate import elaborate
+from translate.refused import Refused
+from translate.source import Source
+
+DONE, NO_USE, PROGRAM_REFUSED, COULD_NOT = 0, 2, 3, 4
+PLACE = re.compile(r"([0-9]+):([0-9]+)")
+
+USE = """from_altarica MODEL.. [--map FILE] [--drop EVENTS] [--main B] [--immediate settle|ordinary] [--broadcast]
+                     [--range LOW..HIGH] [--scale N] [--profile]
+       from_altarica --back LISTING MAP [--observer O [--value V]] [--leave-out EVENTS]
+       from_altarica --place MAP LINE:COLUMN"""
+
+ABOUT = """Writes a model of AltaRica 3.0, as its authors write it, as a model of the profile for which `cuts` gives a list; and a
+listing of that model back in the names of the first one. What is changed in meaning or left out is said on standard
+error, a line each with its place. What cannot be translated is refused with its place and the reason. Not proved:
+docs/FROM_ALTARICA.md says what was tried."""
+
+
+def words_of(arguments):
+    parser = argparse.ArgumentParser(prog="from_altarica", usage=USE, description=ABOUT,
+                                     formatter_class=argparse.RawDescriptionHelpFormatter)
+    parser.add_argument("model", nargs="*", help="the model; several files are read as one text, in their order")
+    parser.add_argument("--map", metavar="FILE", help="writes the map that --back and --place need")
+    parser.add_argument("--drop", default="", metavar="EVENTS", help="events that are left out, with commas between")
+    parser.add_argument("--main", metavar="B", help="the main block, instead of the last one")
+    parser.add_argument("--immediate", choices=("settle", "ordinary"),
+                        help="events with a delay of zero: happen as soon as they can, or are events like others")
+    parser.add_argument("--broadcast", action="store_true", help="an optional part with several ways takes the one that it can")
+    parser.add_argument("--range", metavar="LOW..HIGH", help="the values of a variable that is Integer or Real")
+    parser.add_argument("--scale", type=int, default=1, metavar="N", help="numbers of expressions are divided by N")
+    parser.add_argument("--profile", action="store_true", help="writes the text after the changes of syntax alone")
+    parser.add_argument("--back", action="store_true", help="writes LISTING in the names of the first model of MAP")
+    parser.add_argument("--observer", metavar="O", help="with --back: each line in an order that ends with O at the value")
+    parser.add_argument("--value", default="true", metavar="V", help="the value of the observer, true where it is not given")
+    parser.add_argument("--leave-out", default="", metavar="EVENTS", help="with --back: events that are left out of the sets")
+    parser.add_argument("--place", action="store_true", help="the place in the first model of a place in the new one")
+    found = parser.parse_args(arguments)
+    wanted = 2 if found.back or found.place else None
+    if not found.model or wanted and len(found.model) != wanted or found.back and found.place:
+        parser.error("a model is missing" if not found.model else "--back takes a listing and a map, --place a map and LINE:COLUMN")
+    return found, parser
+
+
+class Stopped(Exception):
+    """The run ends with a status; `lines` are for standard error."""
+
+    def __init__(self, status, *lines):
+        super().__init__(status)
+        self.status, self.lines = status, lines
+
+
+def read(path):
+    try:
+        return sys.stdin.buffer.read().decode("latin-1") if path == "-" else tokens.read(path)
+    except OSError as error:
+        raise Stopped(COULD_NOT, "from_altarica: %s: %s" % (path, error.strerror)) from error
+
+
+def listed(text):
+    return frozenset(word for word in text.split(",") if word)
+
+
+class Translation:
+    """One run: from files to the new text."""
+
+    def __init__(self, words):
+        self.words = words
+        files = places.Files(words.model, [read(path) for path in words.model])
+        self.trail, self.notes = places.Trail(files), []
+
+    def note(self, text, at, skip=0):
+        line = "%s: note: %s" % (self.trail.written(at, skip), text)
+        if line not in self.notes:
+            self.notes.append(line)
+
+    def refuse(self, refused, skip=0):
+        at = self.trail.written(refused.place.start, skip) if refused.place else self.words.model[0]
+        return Stopped(COULD_NOT, *self.notes, "%s: refused: %s" % (at, refused.reason))
+
+    def _asked(self, command, text):
+        """What the program says of a text for a command."""
+        with tempfile.NamedTemporaryFile("w", suffix=".alt", encoding="latin-1", newline="") as file:
+            file.write(text)
+            file.flush()
+            return program.run([command, file.name, *(["--main=" + self.words.main] if self.words.main else [])])
+
+    def to_profile(self):
+        """The text after the changes of syntax, that the program takes."""
+        try:
+            edited, notes = syntax.to_profile(self.trail.text, self.words.range, self.words.scale, self.words.main)
+        except Refused as refused:
+            raise self.refuse(refused) from refused
+        for text, at in notes:
+            self.note(text, at)
+        self.trail.add(edited)
+        status, said = self._asked("check", self.trail.text)
+        if status:
+            found = PLACE.search(said)
+            at = tokens.Places(self.trail.text).at(int(found[1]), int(found[2])) if found else 0
+            raise Stopped(PROGRAM_REFUSED, *self.notes, "%s: the program refuses the text with status %d: %s"
+                          % (self.trail.written(at), status, said.strip()))
+
+    def to_static(self):
+        """The new text and the map of its events."""
+        source = Source(self.trail.text, self.words.main)
+        elaboration, system = elaborate(source)
+        drop = frozenset(elaboration.tree.canonical(event) for event in listed(self.words.drop))
+        at_once = self._at_once(system, drop)
+        if not drop and not at_once and self._asked("fragment", self.trail.text)[0] == 0:
+            self.trail.add(edits.Edited(self.trail.text, [edits.Piece(self.trail.text, 0)]))
+            return {event: dict(event=event, way=1, also=[]) for event in system.fired}, system
+        asked = semantic.Asked(drop, at_once, self.words.broadcast)
+        try:
+            written, found, system, notes = semantic.translate(self.trail.text, asked, self.words.main)
+        except Refused as refused:
+            raise self.refuse(refused) from refused
+        for text, place in notes:
+            self.note(text, place.start if place else 0)
+        self.trail.add(written)
+        self._is_static()
+        return found, system
+
+    def _at_once(self, system, drop):
+        """The events that happen at once, if they are to settle; refused, if nothing is said of them."""
+        found = [event for event in system.events.values() if event.at_once and event.path not in drop
+                 and any(way.event == event.path and not way.hidden for way in system.ways)]
+        if not found or self.words.immediate == "ordinary":
+            return frozenset()
+        if self.words.immediate is None:
+            one = found[0]
+            raise self.refuse(Refused("%s happens at once (a delay of zero), and here no event does: --immediate settle lets it happen "
+                                      "as soon as it can, --immediate ordinary takes it as an event like others, --drop leaves it out"
+                                      % one.path, one.member.name))
+        return frozenset(event.path for event in found)
+
+    def _is_static(self):
+        status, said = self._asked("fragment", self.trail.text)
+        if status:
+            raise Stopped(COULD_NOT, *self.notes, "%s: refused: the program says of the new model: %s" % (self.words.model[0], said.strip()))
+
+    def map_text(self, events, system, profile):
+        found = dict(files=self.words.model, main=self.words.main, drop=sorted(listed(self.words.drop)), events=events,
+                     order=system.fired, notes=self.notes, places=self.trail.rows(), text=profile)
+        return json.dumps(found, indent=None, separators=(",", ":")).replace('],[', '],\n[').replace(',"', ',\n"') + "\n"
+
+
+def translate(words):
+    run = Translation(words)
+    run.to_profile()
+    profile = run.trail.text
+    if not words.profile:
+        events, system = run.to_static()
+        if words.map:
+            write_map(words.map, run.map_text(events, system, profile))
+        elif any(new != found["event"] or found["also"] for new, found in events.items()):
+            run.notes.append("%s: note: some events of the new model have other names: --map FILE keeps what --back needs"
+                             % words.model[0])
+    program.write(run.trail.text)
+    raise Stopped(DONE, *run.notes)
+
+
+def write_map(path, text):
+    try:
+        with open(path, "w", encoding="latin-1") as file:
+            file.write(text)
+    except OSError as error:
+        raise Stopped(COULD_NOT, "from_altarica: %s: %s" % (path, error.strerror)) from error
+
+
+def read_map(path):
+    try:
+        found = json.loads(read(path))
+        assert {"files", "events", "places", "text", "main"} <= set(found)
+    except (ValueError, TypeError, AssertionError) as error:
+        raise Stopped(COULD_NOT, "from_altarica: %s: this is no map that from_altarica wrote" % path) from error
+    return found
+
+
+def write_back(words):
+    listing = back.Listing(read(words.model[0]), read_map(words.model[1]))
+    goal = None
+    if words.observer:
+        if words.observer not in listing.system.observers:
+            raise Stopped(COULD_NOT, "from_altarica: %s is no observer of the first model" % words.observer)
+        value = words.value
+        goal = words.observer, value == "true" if value in ("true", "false") else int(value) if re.fullmatch("-?[0-9]+", value) else value
+    try:
+        text = listing.written(listed(words.leave_out), goal)
+    except Refused as refused:
+        raise Stopped(COULD_NOT, "%s: refused: %s" % (words.model[0], refused.reason)) from refused
+    program.write(text)
+    raise Stopped(DONE, *["%s: note: %s" % (words.model[0], note) for note in listing.notes])
+
+
+def write_place(words):
+    found = read_map(words.model[0])
+    at = PLACE.fullmatch(words.model[1])
+    if not at:
+        raise Stopped(NO_USE, "from_altarica: %s is no LINE:COLUMN" % words.model[1])
+    program.write("%s:%d:%d\n" % places.place_in(found["places"], found["files"], int(at[1]), int(at[2])))
+    raise Stopped(DONE)
+
+
+def main(arguments):
+    if not arguments:
+        sys.stderr.write("%s\n\n%s\n" % (USE, ABOUT))
+        return NO_USE
+    words, _ = words_of(arguments)
+    try:
+        (write_back if words.back else write_place if words.place else translate)(words)
+    except Stopped as stopped:
+        for line in stopped.lines:
+            sys.stderr.write(line + "\n")
+        return stopped.status
+    except hierarchy.Unknown:
+        sys.stderr.write("%s: refused: it has more units, or deeper ones, than are read\n" % words.model[0])
+        return COULD_NOT
+    return DONE
+
+

@@ -98,7 +98,7 @@ class Translation:
     def to_profile(self):
         """The text after the changes of syntax, that the program takes."""
         try:
-            edited, notes = syntax.to_profile(self.trail.text, self.words.range, self.words.scale, self.words.main)
+            edited, notes = syntax.to_profile(self.trail.text, self.words.range, self.words.scale)
         except Refused as refused:
             raise self.refuse(refused) from refused
         for text, at in notes:

@@ -61,6 +61,8 @@ def apply(text, start, end, edits):
     """The pieces of a stretch of the text with its edits."""
     found, at = [], start
     for one in joined(text, edits):
+        if one.start < at:
+            continue
         if one.start > at:
             found.append(Piece(text[at:one.start], at))
         if one.text:

@@ -14,6 +14,8 @@ from translate.refused import Refused
 from translate.source import Source
 
 DONE, NO_USE, PROGRAM_REFUSED, COULD_NOT = 0, 2, 3, 4
+OUTSIDE = 4
+"""The status of the program for a model outside the static fragment."""
 PLACE = re.compile(r"([0-9]+):([0-9]+)")
 
 USE = """from_altarica MODEL.. [--map FILE] [--drop EVENTS] [--main B] [--immediate settle|ordinary] [--broadcast]
@@ -104,8 +106,9 @@ class Translation:
         for text, at in notes:
             self.note(text, at)
         self.trail.add(edited)
-        status, said = self._asked("check", self.trail.text)
-        if status:
+        status, said = self._asked("fragment", self.trail.text)
+        self.is_static = not status
+        if status not in (0, OUTSIDE):
             found = PLACE.search(said)
             at = tokens.Places(self.trail.text).at(int(found[1]), int(found[2])) if found else 0
             raise Stopped(PROGRAM_REFUSED, *self.notes, "%s: the program refuses the text with status %d: %s"
@@ -117,7 +120,7 @@ class Translation:
         elaboration, system = elaborate(source)
         drop = frozenset(elaboration.tree.canonical(event) for event in listed(self.words.drop))
         at_once = self._at_once(system, drop)
-        if not drop and not at_once and self._asked("fragment", self.trail.text)[0] == 0:
+        if not drop and not at_once and self.is_static:
             self.trail.add(edits.Edited(self.trail.text, [edits.Piece(self.trail.text, 0)]))
             return {event: dict(event=event, way=1, also=[]) for event in system.fired}, system
         asked = semantic.Asked(drop, at_once, self.words.broadcast)

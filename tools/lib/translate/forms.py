@@ -3,9 +3,7 @@ events. Not proved."""
 from grammar import Domain, Unit
 from translate.edits import Edit, apply
 from translate.refused import Refused
-from translate.wide import NEVER
-
-ATTRIBUTES = {"delay", "expectation", "policy", "weight", "priority", "hidden"}
+from translate.wide import ATTRIBUTES, NEVER
 
 
 class Forms:

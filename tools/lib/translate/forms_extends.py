@@ -1,8 +1,8 @@
 """`extends C (p = v);`: the class is written once more, with these values. And a block that is extended becomes a class.
 Not proved."""
 from translate.edits import Edit
-from translate.forms import ATTRIBUTES
 from translate.refused import Refused
+from translate.wide import ATTRIBUTES
 
 
 class Extended:

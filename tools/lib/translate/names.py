@@ -10,7 +10,7 @@ class Names:
         bodies = source.bodies
         self.members = {token.text for scope in bodies.scopes() for token, _, _ in bodies.names(scope.unit)}
         self.symbols = bodies.symbols | set(tokens.RESERVED)
-        self.of_unit, self.modes, self.top, self.domains = {}, set(), set(), {}
+        self.of_unit, self.given, self.modes, self.top, self.domains = {}, set(), set(), set(), {}
 
     def member(self, unit, wish):
         """A name for a new member of a unit."""
@@ -18,14 +18,14 @@ class Names:
         find = self.elaboration.bodies.find
         found = _first(wish, lambda name: find(scope, name) or name in self.symbols or name in self.modes or name in given)
         given.add(found)
+        self.given.add(found)
         return found
 
     def mode(self, wish, taken):
         """A symbol for a mode; the old one where no member of any unit has its name."""
-        given = set().union(*self.of_unit.values()) if self.of_unit else set()
-        while wish in self.members or wish in given or not wish.isidentifier():
+        while wish in self.members or wish in self.given or not wish.isidentifier():
             wish += "__mode"
-        found = _first(wish, lambda name: name in taken or name in self.members or name in given)
+        found = _first(wish, lambda name: name in taken or name in self.members or name in self.given)
         self.modes.add(found)
         return found
 

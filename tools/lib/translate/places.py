@@ -1,4 +1,6 @@
 """Places in the first texts of places in a text that was made of them by edits. Not proved."""
+import bisect
+
 import tokens
 
 
@@ -45,7 +47,7 @@ class Trail:
 
     def rows(self):
         """The places where a piece of the text begins: [line, column, file, line, column, whether it runs on]."""
-        begins = self._begins()
+        begins = _begins(self.steps)
         new = tokens.Places(self.text)
         found = []
         for at in begins:
@@ -59,29 +61,18 @@ class Trail:
             at = step.old(at)
         return at
 
-    def _begins(self):
-        """The offsets in the text where a piece of one of its steps begins."""
-        if not self.steps:
-            return [0]
-        found = {0, *self.steps[0].begins}
-        for number, step in enumerate(self.steps[1:], 1):
-            for begin in step.begins:
-                place = _new(self.steps[:number], begin)
-                if place is not None:
-                    found.add(place)
-        return sorted(found)
 
-
-def _new(steps, old):
-    """The first place in the text that these steps made, the last first, of a place before them, if it is there."""
-    for step in reversed(steps):
-        for begin, at, same, end in zip(step.begins, step.olds, step.same, [*step.begins[1:], len(step.text)]):
-            if same and at <= old < at + end - begin:
-                old = begin + old - at
-                break
-        else:
-            return None
-    return old
+def _begins(steps):
+    """The offsets in the text that these steps made, the last first, where a piece of one of them begins."""
+    if not steps:
+        return [0]
+    inner, step, found = _begins(steps[1:]), steps[0], set()
+    for begin, old, same, end in zip(step.begins, step.olds, step.same, [*step.begins[1:], len(step.text)]):
+        found.add(begin)
+        if same:
+            some = inner[bisect.bisect_left(inner, old):bisect.bisect_left(inner, old + end - begin)]
+            found.update(begin + one - old for one in some)
+    return sorted(found | {0})
 
 
 def place_in(rows, files, line, column):

@@ -2,6 +2,7 @@
 states as flows. Not proved."""
 from collections import Counter
 from dataclasses import dataclass, field
+from functools import cached_property
 
 from translate import expressions
 from translate.elaborate import joined, name_of, unit_of
@@ -29,6 +30,14 @@ class UnitPlan:
     events: list = field(default_factory=list)
     transitions: list = field(default_factory=list)
     assertions: list = field(default_factory=list)
+
+    @cached_property
+    def instead(self):
+        """The texts of new transitions that come in the place of a member, by its identity."""
+        found = {}
+        for one in self.transitions:
+            found.setdefault(id(one.instead_of), []).append(one.text)
+        return found
 
 
 def common(units):
@@ -100,7 +109,7 @@ class Plan:
         for cluster in clusters:
             plan_shocks(self, cluster)
         for group in groups.groups:
-            if not group.keeps and group.cluster is None:
+            if not group.keeps and len(group.components) == 1:
                 self.project(group, group.unit, lambda component: TRUE)
 
     # -- trees of modes ---------------------------------------------------------------------------------------------

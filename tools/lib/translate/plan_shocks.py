@@ -23,7 +23,7 @@ class Shocks:
                 for one in cluster.ways:
                     self.on[one.event, one.number, stage] = self._on(one, stage)
         for group in cluster.groups:
-            if not group.keeps:
+            if len(group.components) > 1:
                 plan.project(group, self.unit, lambda one: TRUE if one.parent is None else self.entered[one, cluster.stages + 1])
 
     def _state(self, event, ways):

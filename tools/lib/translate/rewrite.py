@@ -67,7 +67,7 @@ class Rewriting:
         indent = "\n" + indent_of(self.text, member.first.start)
         if not is_first(self.text, member.first.start):
             indent += "  "
-        instead = [one.text for one in plan.transitions if one.instead_of is member]
+        instead = plan.instead.get(id(member), [])
         end = member.last if member.kind == "synchronisation" else member.parts[1].last
         return [Edit(member.first.start, end.end, indent.join(instead))]
 

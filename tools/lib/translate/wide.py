@@ -14,10 +14,12 @@ Names = namedtuple("Names", "names settings open close")
 Setting = namedtuple("Setting", "words value first last")
 Number = namedtuple("Number", "token context")
 """A number of an expression; `context` is the name that a setting or a parameter gives it to, or ``."""
+ATTRIBUTES = {"delay", "expectation", "policy", "weight", "priority", "hidden"}
 NEVER = "\0"
 """The context of a number that is never scaled."""
 TYPES = ("name", "Boolean", "Integer", "Real")
-ABSENT = {"package": "packages", "import": "imports: give the files as further words", "for": "loops", "function": "functions"}
+ABSENT = {"package": "packages are not translated", "import": "an import is not followed: give the files as further words",
+          "for": "loops are not translated: write what each round does", "function": "functions are not translated"}
 
 
 class Parser(source.Parser):
@@ -35,7 +37,7 @@ class Parser(source.Parser):
     def fail(self):
         word = self.now.text
         if word in ABSENT and self.now.kind == "name":
-            raise Refused("%s are not translated" % ABSENT[word], self.now)
+            raise Refused(ABSENT[word], self.now)
         if self.now.kind in ("/", "string"):
             raise Refused("there is no division" if self.now.kind == "/" else "a string stands where it has no meaning", self.now)
         raise Refused("this is no AltaRica 3.0 that is read: `%s`, where one of these could come: %s"
@@ -106,11 +108,12 @@ class Parser(source.Parser):
         names = [name.text for _, name in self.list_of(lambda: (self.take(*TYPES), self.take("name")))]
         self.take(")")
         used, self.used = self.used, set()
+        sign = self.taken("=", ":=")
         body = self.expr()
         text = self.rendered(body.first, body.last)
         self.used = used | self.used - set(names)
-        self.taken(";")
-        last = self.take("end")
+        last = self.take(";") if sign else self.taken(";")
+        last = self.next() if self.at("end") else last or self.take("end")
         self.operators[name.text] = names, text
         self.edits.append(Edit(first.start, last.end, ""))
         self.notes.append(("operator %s is put in place where it is used" % name.text, name.start))
@@ -411,10 +414,22 @@ class Parser(source.Parser):
         if self.at("string"):
             value = Expr("string", [], self.now, self.now)
             self.replace(self.now, plain_word(self.next().text))
+        elif words[-1].text in ATTRIBUTES and len(words) > 1:
+            value = self.attribute_value()
         else:
             value = self.expr()
         self.context = context
         return Setting(words, value, first, self.last)
+
+    def attribute_value(self):
+        """The value of an attribute of an event, which means nothing."""
+        begun, depth = self.now, 0
+        while depth or not self.at(",", ")"):
+            if self.at("END", ";"):
+                self.fail()
+            depth += self.at("(") - self.at(")")
+            self.next()
+        return Expr("kept", [], begun, self.last)
 
     def setting_context(self, words):
         if words[-1].kind == "name":

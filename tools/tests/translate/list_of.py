@@ -1,8 +1,11 @@
-"""list_of.py MODEL OBSERVER [VALUE] WORDS..: what `from_altarica MODEL WORDS..` gives, listed and written back, against all
-firing orders of the model in the profile. Writes the sets, and whether they are equal to those of the orders."""
+"""What `from_altarica` gives for a model, listed and written back, against all firing orders of the model in the profile.
+
+list_of.py FILE: each line of FILE is `MODEL[,MODEL] OBSERVER[=VALUE] WORDS..`, with models of tests/from_altarica. Written are
+the line behind `> ` and the list of the program in the old names, or the refusal; then what differs from the orders.
+"""
+import io
 import json
 import os
-import subprocess
 import sys
 import tempfile
 
@@ -13,57 +16,72 @@ sys.path[:0] = [here, os.path.join(here, "..", "..", "lib")]
 import brute
 import program
 import texts
-from translate import elaborate, semantic, source
-
-TOOL = os.path.join(here, "..", "..", "from_altarica")
-
+from translate import command, elaborate, semantic, source
 
 def tool(*words):
-    done = subprocess.run([TOOL, *words], stdout=subprocess.PIPE, stderr=subprocess.PIPE, check=False)
-    return done.returncode, done.stdout.decode("latin-1"), done.stderr.decode("latin-1")
-
-
-def option(words, name):
-    return words[words.index(name) + 1] if name in words else ""
+    """The status, the output and the messages of `from_altarica` on these words."""
+    kept, sys.stdout, sys.stderr = (sys.stdout, sys.stderr), io.TextIOWrapper(io.BytesIO()), io.StringIO()
+    try:
+        status = command.main(list(words))
+        sys.stdout.flush()
+        return status, sys.stdout.buffer.getvalue().decode("latin-1"), sys.stderr.getvalue()
+    finally:
+        sys.stdout, sys.stderr = kept
 
 
 def orders_of(found, words):
     """The firing orders of the model in the profile, with what the words ask."""
     system = elaborate.elaborate(source.Source(found["text"], found["main"]))[1]
-    drop = frozenset(found["drop"])
-    at_once = frozenset(e.path for e in system.events.values() if e.at_once and e.path not in drop) if "settle" in words else frozenset()
-    return brute.Orders(system, semantic.Asked(drop, at_once, "--broadcast" in words)), at_once
+    drop, at_once = frozenset(found["drop"]), frozenset()
+    if "settle" in words:
+        at_once = frozenset(event.path for event in system.events.values() if event.at_once and event.path not in drop)
+    return brute.Orders(system, semantic.Asked(drop, at_once, "--broadcast" in words))
 
 
 def value_of(word):
     return word == "true" if word in ("true", "false") else int(word) if word.lstrip("-").isdigit() else word
 
 
-def main():
-    model, observer, value, words = sys.argv[1], sys.argv[2], sys.argv[3], sys.argv[4:]
-    with tempfile.TemporaryDirectory() as folder:
-        map_file, new, listing = [os.path.join(folder, name) for name in ("map", "new.alt", "list")]
-        status, text, said = tool(model, "--map", map_file, *words)
+class Asked:
+    """One line: its models, its observer with a value, and further words."""
+
+    def __init__(self, line, folder):
+        models, observer, *self.words = line.split()
+        self.models = ["tests/from_altarica/%s.alt" % name for name in models.split(",")]
+        self.observer, _, value = observer.partition("=")
+        self.value = value or "true"
+        self.map, self.new, self.list = [os.path.join(folder, name) for name in ("map", "new.alt", "list")]
+
+    def write(self, file, text):
+        with open(file, "w", encoding="latin-1") as it:
+            it.write(text)
+
+    def answer(self):
+        """The lines that are written for it."""
+        status, text, said = tool(*self.models, "--map", self.map, *self.words)
         if status:
-            print("status %d %s" % (status, said.strip().splitlines()[-1]))
-            return
-        with open(new, "w", encoding="latin-1") as file:
-            file.write(text)
-        status, text = program.run(["cuts", new, "--observer", observer, "--value", value])
-        with open(listing, "w", encoding="latin-1") as file:
-            file.write(text)
-        if status:
-            print("cuts %d %s" % (status, text.strip()))
-            return
-        with open(map_file, encoding="latin-1") as file:
-            found = json.load(file)
-        orders, at_once = orders_of(found, words)
-        status, text, said = tool("--back", listing, map_file, "--observer", observer, "--value", value)
+            return ["status %d %s" % (status, said.strip().rpartition("\n")[2])]
+        self.write(self.new, text)
+        status, text = program.run(["cuts", self.new, "--observer", self.observer, "--value", self.value])
+        self.write(self.list, text)
+        back, text, said = tool("--back", self.list, self.map, "--observer", self.observer, "--value", self.value)
+        lines = text.strip().splitlines() + [line for line in said.splitlines() if back]
+        return lines if status else lines + self.wrong(text)
+
+    def wrong(self, text):
+        """What differs from the firing orders."""
+        with open(self.map, encoding="latin-1") as file:
+            orders = orders_of(json.load(file), self.words)
         got = {frozenset(map(texts.event_of, line)) for line in texts.cuts(text)}
-        want = orders.sets(observer, value_of(value))
-        print(" ".join("{%s}" % ", ".join(line) for line in texts.cuts(text)), "equal" if got == want else "WRONG, orders give %s" % want)
-        if orders.conflicts:
-            print("the orders meet a conflict, the list does not")
+        want = orders.sets(self.observer, value_of(self.value))
+        found = [] if got == want else ["WRONG: the orders give %s" % sorted(map(sorted, want))]
+        return found + (["WRONG: some order meets a conflict"] if orders.conflicts else [])
+
+
+def main():
+    with tempfile.TemporaryDirectory() as folder, open(sys.argv[1], encoding="utf-8") as file:
+        for line in file:
+            print("\n".join(["> " + line.strip(), *Asked(line, folder).answer()]))
 
 
 main()

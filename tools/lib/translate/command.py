@@ -90,12 +90,12 @@ class Translation:
         at = self.trail.written(refused.place.start, skip) if refused.place else self.words.model[0]
         return Stopped(COULD_NOT, *self.notes, "%s: refused: %s" % (at, refused.reason))
 
-    def _asked(self, command, text):
+    def _asked(self, command, text, *more):
         """What the program says of a text for a command."""
         with tempfile.NamedTemporaryFile("w", suffix=".alt", encoding="latin-1", newline="") as file:
             file.write(text)
             file.flush()
-            return program.run([command, file.name, *(["--main=" + self.words.main] if self.words.main else [])])
+            return program.run([command, file.name, *(["--main=" + self.words.main] if self.words.main else []), *more])
 
     def to_profile(self):
         """The text after the changes of syntax, that the program takes."""
@@ -126,6 +126,8 @@ class Translation:
         asked = semantic.Asked(drop, at_once, self.words.broadcast)
         try:
             written, found, system, notes = semantic.translate(self.trail.text, asked, self.words.main)
+            if at_once:
+                semantic.refuse_conflict(self.trail.text, asked, self.words.main, lambda text, observer: self._asked("cuts", text, "--observer=" + observer))
         except Refused as refused:
             raise self.refuse(refused) from refused
         for text, place in notes:
@@ -167,8 +169,8 @@ def translate(words):
         if words.map:
             write_map(words.map, run.map_text(events, system, profile))
         elif any(new != found["event"] or found["also"] for new, found in events.items()):
-            run.notes.append("%s: note: some events of the new model have other names: --map FILE keeps what --back needs"
-                             % words.model[0])
+            run.notes.append("%s: note: events of the new model stand for others: --map FILE keeps what --back needs to write its list "
+                             "in the old names" % words.model[0])
     program.write(run.trail.text)
     raise Stopped(DONE, *run.notes)
 

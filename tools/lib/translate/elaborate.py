@@ -162,7 +162,16 @@ class Elaboration:
             self._transitions(node.path)
         for event in events:
             ways += self._ways(event.path)
-        return System(variables, events, ways, assignments, observers)
+        return System(variables, events, ways, assignments, observers, self._parts_of())
+
+    def _parts_of(self):
+        """The parts of each event that is synchronised."""
+        found = {}
+        for event, members in self.split.items():
+            for unit, member in members:
+                if member.kind == "synchronisation":
+                    found.setdefault(event, []).extend((mark, self.path(unit, path), path.first) for mark, path in member.parts[0])
+        return found
 
     def _variables(self, unit, member):
         for token in member.parts[1]:

@@ -92,6 +92,16 @@ def _strict(form, found):
     return COMPARE[form](left, right) if form in COMPARE else clamped(ARITHMETIC[form](left, right))
 
 
+def is_truth(tree, system):
+    """Whether a tree has a truth value."""
+    form = tree[0]
+    if form == "variable":
+        return system.variables[tree[1]].domain.name == "Boolean"
+    if form in ("if", "switch"):
+        return is_truth(tree[2], system)
+    return isinstance(tree[1], bool) if form == "value" else form in ("not", "and", "or", "==", "!=", *COMPARE)
+
+
 def any_of(trees):
     """The `or` of trees, short where it can be."""
     trees = list(dict.fromkeys(tree for tree in trees if tree != FALSE))

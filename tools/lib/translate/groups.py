@@ -47,12 +47,14 @@ class Node:
 
 @dataclass(eq=False)
 class Component:
-    """A tree of modes. `parent` is the node from which the ways `by` of shocks lead to it, `used` the shocks so far."""
+    """A tree of modes. `parent` is the node from which the ways `by` of shocks lead to it, `used` the shocks so far, `keys`
+    the lists of ways that can have led here."""
     group: Any
     number: int
     used: tuple
     parent: Any
     by: list
+    keys: list = field(default_factory=list)
     nodes: list = field(default_factory=list)
     inner: list = field(default_factory=list)
     variable: str = ""

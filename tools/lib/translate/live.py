@@ -48,6 +48,7 @@ class Ways:
                      for order, way in enumerate(system.ways) if not way.hidden and way.event not in asked.drop]
         if asked.broadcast:
             self._broadcast()
+        self._note_parts()
         self._constants()
 
     def note(self, text, place=None):
@@ -72,6 +73,21 @@ class Ways:
                 raise Refused("%s: its part %s is itself a synchronisation, and is optional or has optional parts alone"
                               % (way.event, event), way.place)
         return found
+
+    def _note_parts(self):
+        """Says where optional parts mean something else than in AltaRica 3.0."""
+        for event in self.system.events.values():
+            parts = self.system.parts_of.get(event.path)
+            if not parts or event.path in self.asked.drop:
+                continue
+            member = "%s: its part %s has %s"
+            for mark, part, place in parts:
+                count = len(self.system.ways_of(part))
+                if not count:
+                    self.note(member % (event.path, part, "no transition, so the whole event never happens"), place)
+                elif count > 1 and mark == "?" and not self.asked.broadcast:
+                    self.note(member % (event.path, part, "several transitions: the event may take one that cannot move it; --broadcast "
+                                        "takes the one that can"), place)
 
     def _broadcast(self):
         """One way for all choices of ways of a synchronised event: each part takes the way that it can."""

@@ -64,18 +64,25 @@ class Event:
 
 
 class System:
-    """A model. `events` are those of the text in order; `fired` those with a way."""
+    """A model. `events` are those of the text in order, `fired` those with a way; `parts_of` has for each event that is
+    synchronised (mark, event, place in the text) of its parts."""
 
-    def __init__(self, variables, events, ways, assignments, observers):
+    def __init__(self, variables, events, ways, assignments, observers, parts_of=None):
         self.variables = {v.path: v for v in variables}
         self.events = {e.path: e for e in events}
         self.ways, self.assignments, self.observers = ways, assignments, observers
         self.way = {(w.event, w.number): w for w in ways}
+        self.parts_of, self._ways_of = parts_of or {}, {}
+        for way in ways:
+            self._ways_of.setdefault(way.event, []).append(way)
         self.fired = list(dict.fromkeys(w.event for w in ways))
         self.states = [p for p, v in self.variables.items() if v.is_state]
         self.defined = {}
         for one in assignments:
             self.defined.setdefault(one.target, []).append(one)
+
+    def ways_of(self, event):
+        return self._ways_of.get(event, [])
 
     def start(self):
         return {p: self.variables[p].value for p in self.states}

@@ -22,14 +22,13 @@ class Unfolding:
     def _component(self, values, used, parent, by, events):
         """The tree from some values: fewest events first, so that a set of events is least where none before is in it."""
         found = self.group.add(used, parent, by)
+        found.keys = [(*key, one) for key in parent.component.keys for one in by] if parent else [()]
         queue, count = [(len(events), 0, values, events, None, None)], 0
         while queue:
             _, _, at, so_far, above, move = heapq.heappop(queue)
-            known = self.group.least.setdefault((used, at), [])
-            least = not any(other <= so_far for other in known)
+            least = self._is_least(found, at, so_far)
             if not least and above:
                 continue
-            known.append(so_far)
             node = self._node(found, at, so_far, above, move)
             # A root that is not least stays for its shocks; what follows from it is reached by fewer events elsewhere.
             for one, also, after in self.groups.moves(self.group, at) if least else ():
@@ -41,6 +40,17 @@ class Unfolding:
         if self.group.cluster:
             for node in list(found.nodes):
                 self._struck(found, node)
+        return found
+
+    def _is_least(self, component, values, events):
+        """Whether these values are not reached by fewer events already, by the same ways of shocks; then this is kept. What
+        comes by other ways of a shock does not count: those ways do other things to other groups."""
+        found = False
+        for key in component.keys:
+            known = self.group.least.setdefault((key, values), [])
+            if not any(other <= events for other in known):
+                known.append(events)
+                found = True
         return found
 
     def _node(self, component, values, events, above, move):
@@ -64,6 +74,7 @@ class Unfolding:
         if self.group.cluster.simple:
             self._struck_simply(component, node)
             return
+        alike = {}
         for one in self.group.shocks:
             found = None if one.event in component.used else self.groups.effect(one, self.group, node.values)
             if found is None:
@@ -72,7 +83,9 @@ class Unfolding:
                 continue
             if not self.groups.asked.once and len(self.group.cluster.events) > 1 and found[1] != node.values:
                 shocks.refuse_second(self.groups, self.group, found[1], one)
-            self._component(found[1], (*component.used, one.event), node, [(one.event, one.number)], node.events | {one.event})
+            alike.setdefault((one.event, found[1]), []).append((one.event, one.number))
+        for (event, values), by in alike.items():
+            self._component(values, (*component.used, event), node, by, node.events | {event})
 
     def _struck_simply(self, component, node):
         """One further mode, whichever of the shocks comes."""

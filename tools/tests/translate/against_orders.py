@@ -29,6 +29,8 @@ class Tried:
     def __init__(self, text, asked):
         self.asked = asked
         self.written, self.map, self.system, self.notes = semantic.translate(text, asked)
+        if asked.at_once:
+            semantic.refuse_conflict(text, asked, None, self.cuts)
         self.orders = brute.Orders(self.system, asked)
         self.kept = {event for event in self.system.fired if event not in asked.at_once}
 
@@ -38,12 +40,15 @@ class Tried:
 
     def listed(self, observer, value=None):
         """The status, the text of the program, and its sets in the old names."""
-        with tempfile.NamedTemporaryFile("w", suffix=".alt", encoding="latin-1") as file:
-            file.write(self.written.text)
-            file.flush()
-            words = ["cuts", file.name, "--observer", observer, "--nodes", NODES, *(["--value", value] if value else [])]
-            status, text = program.run(words)
+        status, text = self.cuts(self.written.text, observer, *(["--value", value] if value else []))
         return status, text, self.back(texts.cuts(text)) if status == 0 else None
+
+    @staticmethod
+    def cuts(text, observer, *words):
+        with tempfile.NamedTemporaryFile("w", suffix=".alt", encoding="latin-1") as file:
+            file.write(text)
+            file.flush()
+            return program.run(["cuts", file.name, "--observer", observer, "--nodes", NODES, *words])
 
     def wanted(self, observer, value=True):
         return brute.least(one & self.kept for one in self.orders.sets(observer, value))

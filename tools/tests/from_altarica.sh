@@ -8,7 +8,7 @@ models=tests/from_altarica
 here=tools/tests/translate
 
 # What a text means is what the program writes for `flat`.
-got=$(python3 $here/elaborated.py examples/*.alt tests/models/howto/*.alt tests/from_altarica/*.alt crates/altarica_cases/data/*.model 2>&1 | grep -v '^[0-9]* models$\|symbol_and_flow')
+got=$(python3 $here/elaborated.py examples/*.alt tests/from_altarica/*.alt crates/altarica_cases/data/*{form,const,set,clone,part}*.model 2>&1 | grep -v "^[0-9]* models$\|symbol_and_flow")
 equal "what a text means is what the program writes for flat" '' "$got"
 
 # The kept lists; each is compared with all firing orders.
@@ -54,3 +54,48 @@ for name in split burns pump_pair; do
   holds "$name twice gives the same map" cmp "$work/map1" "$work/map2"
   holds "what is made of $name stays as it is" cmp "$work/one" "$work/three"
 done
+
+# Each line of a list that is written back replays in the first model and ends with the value.
+for observer in failed burnt spared half; do
+  $tool $models/burns.alt --map "$work/map" >"$work/new.alt" 2>"$work/notes"
+  "$ALTARICA" cuts "$work/new.alt" --observer $observer >"$work/list"
+  $tool --back "$work/list" "$work/map" --observer $observer >"$work/back"
+  count=$(grep -c '^{' "$work/back")
+  for number in $(seq "$count"); do
+    tools/line_as_script "$work/back" "$number" >"$work/script"
+    equal "line $number of $observer replays in the first model" "  observer $observer = true" \
+      "$("$ALTARICA" replay $models/burns.alt "$work/script" | tail -n 6 | grep " $observer ")"
+  done
+done
+equal "an optional part with two transitions is named" "$models/burns.alt:13:20: note: CCF: its part A.failure has several transitions: the event may take one that cannot move it; --broadcast takes the one that can" \
+  "$(grep A.failure "$work/notes")"
+
+# Faults, places, and what is refused.
+$tool $models/clash.alt --map "$work/map" >"$work/new.alt" 2>/dev/null
+"$ALTARICA" cuts "$work/new.alt" --observer wrong >"$work/list"
+equal "the fault of a list" "fault: {shock, a.stick}: flow high has two values" "$($tool --back "$work/list" "$work/map" 2>/dev/null)"
+line=$(grep -n 'then high := true' "$work/new.alt" | cut -d: -f1)
+equal "the place in the first model of a place in the new one" "$models/clash.alt:18:29" "$($tool --place "$work/map" "$line:29")"
+$tool $models/parts_one.alt $models/parts_two.alt --map "$work/map" >"$work/new.alt" 2>/dev/null
+equal "the same where there are two files" "$models/parts_two.alt:3:39" "$($tool --place "$work/map" "$(grep -n 'flat =' "$work/new.alt" | cut -d: -f1):41")"
+equal "what is refused" "$(cat $models/refusals)" "$(python3 $here/refusals.py $models/refusals)"
+
+# answer STATUS WORDS..: the helper ends with this status and says something on standard error alone.
+answer() {
+  local status=$1 said
+  shift
+  said=$($tool "$@" 2>&1 >/dev/null)
+  equal "from_altarica $* ends with $status" "$status yes" "$? $([ -n "$said" ] && echo yes)"
+}
+"$ALTARICA" modules examples/brake.alt --observer too_weak >"$work/modules"
+answer 4 --back "$work/modules" "$work/map"
+answer 4 --back tests/models/TEXTS-pumps.list "$work/map"
+answer 4 --back "$work/list" "$work/list"
+answer 4 --back "$work/list" none
+answer 4 --back "$work/list" "$work/map" --observer none
+answer 4 none.alt
+answer 4 $models/ccf.alt --map none/map
+answer 2 --back "$work/list"
+answer 2 --place "$work/map" here
+answer 2 $models/ccf.alt --immediate soon
+answer 3 tests/mistakes/path.alt

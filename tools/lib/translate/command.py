@@ -121,6 +121,8 @@ class Translation:
         drop = frozenset(elaboration.tree.canonical(event) for event in listed(self.words.drop))
         at_once = self._at_once(system, drop)
         if not drop and not at_once and self.is_static:
+            for text, place in semantic.notes_of(system):
+                self.note(text, place.start)
             self.trail.add(edits.Edited(self.trail.text, [edits.Piece(self.trail.text, 0)]))
             return {event: dict(event=event, way=1, also=[]) for event in system.fired}, system
         asked = semantic.Asked(drop, at_once, self.words.broadcast)

@@ -52,16 +52,20 @@ class Elaboration:
         """(unit, name, `init`, `reset` or ``) -> (setting, the unit that it is read in); the outermost is taken."""
         found = {}
         for node in self.tree.nodes:
-            if node.kind != "part":
-                continue
-            owner = unit_of(node.path)
-            member = self.bodies.find(self.units[owner].scope, name_of(node.path))[1]
-            for one in member.parts[2]:
+            for one in self.declared_settings(node.path):
                 words = [token.text for token in one.words]
                 last = words.pop() if words[-1] in ("init", "reset") else ""
                 unit = ".".join([node.path, *words[:-1]])
-                found.setdefault((unit, words[-1], last), (one, owner))
+                found.setdefault((unit, words[-1], last), (one, unit_of(node.path)))
         return found
+
+    def declared_settings(self, unit):
+        """The settings of the declaration of a unit; a clone has those of what it copies, read at its own place."""
+        kind = self.units[unit].kind
+        if kind not in ("part", "clone"):
+            return []
+        member = self.bodies.find(self.units[unit_of(unit)].scope, name_of(unit))[1]
+        return member.parts[2] if kind == "part" else self.declared_settings(self.path(unit_of(unit), member.parts[0]))
 
     def _hidden(self):
         found = set()

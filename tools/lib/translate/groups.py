@@ -95,6 +95,27 @@ class Groups:
         self.shocks = []
         for one in ways.live:
             self._place(one)
+        self._leave_out_impossible()
+
+    def _leave_out_impossible(self):
+        """Leaves out shocks of which a required part is never possible, as the end of a repair whose start is dropped."""
+        again = True
+        while again:
+            dead = [one for one in self.shocks if any(self._never(one, group) for group in one.groups)]
+            again = bool(dead)
+            for one in dead:
+                self.ways.note("%s can never happen" % one.event, one.place)
+                self.shocks.remove(one)
+                for group in one.groups:
+                    group.shocks.remove(one)
+
+    def _never(self, one, group):
+        """Whether a shock is possible at no values of a group that own ways and shocks may lead to."""
+        try:
+            values = self.reached(group, self.start(group), group.shocks)
+            return all(self.effect(one, group, at) is None for at in values)
+        except Refused:
+            return False
 
     def _join_events(self, joined):
         targets = {}
@@ -216,7 +237,7 @@ class Groups:
 
     def start(self, group):
         values = tuple(self.system.variables[path].value for path in group.variables)
-        return self.only_end(group, values, "the start")
+        return self.only_end(group, values, "the start", self.system.variables[group.variables[0]].token)
 
     def reached(self, group, values, shocks=()):
         """The values that own ways and these shocks lead to."""

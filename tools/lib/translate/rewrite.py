@@ -98,16 +98,20 @@ class Rewriting:
         for token in member.parts[1]:
             inner = joined(unit, token.text)
             type_name = self.variant(inner, self.elaboration.units[inner].scope.unit)
-            changed = []
-            for one in member.parts[2]:
-                words = [word.text for word in one.words]
-                owner = ".".join([inner, *words[:-2]])
-                if words[-1] == "init" and words[-2] in self.plan.units[owner].flows:
-                    changed.append(Edit(one.words[-1].start, one.words[-1].end, "reset"))
+            changed = self._to_flows(inner, member.parts[2])
             rows.append((type_name, token.text, changed))
         if all(row[0] == rows[0][0] and row[2] == rows[0][2] for row in rows):
             return self._renamed(member.parts[0], rows[0][0]) + rows[0][2]
         return [self._apart(member, rows)]
+
+    def _to_flows(self, unit, settings):
+        """The edits of settings of a unit whose states have become flows."""
+        found = []
+        for one in settings:
+            words = [word.text for word in one.words]
+            if words[-1] == "init" and words[-2] in self.plan.units[".".join([unit, *words[:-2]])].flows:
+                found.append(Edit(one.words[-1].start, one.words[-1].end, "reset"))
+        return found
 
     def _apart(self, member, rows):
         """A declaration of several names as one for each."""
@@ -126,7 +130,7 @@ class Rewriting:
         if self.edits(inner, copied) == self.edits(of, copied):
             return []
         if copied.kind == "class":
-            text = "%s %s;" % (self.variant(inner, copied), member.name.text)
+            text = "%s %s%s;" % (self.variant(inner, copied), member.name.text, self._settings_text(inner))
             sections = self.source.body(body).sections
             if sections and sections.start < member.first.start:
                 at = behind(self.text, body.name.end)
@@ -136,6 +140,13 @@ class Rewriting:
             inside = "".join(p.text for p in apply(self.text, begin.name.end, begin.end.start, self.edits(inner, copied)))
             text = "block %s%send" % (member.name.text, inside)
         return [Edit(member.first.start, member.last.end, text)]
+
+    def _settings_text(self, unit):
+        """The settings of a clone, for a declaration of its own."""
+        settings = self.elaboration.declared_settings(unit)
+        changed = self._to_flows(unit, settings)
+        texts = ["".join(piece.text for piece in apply(self.text, one.first.start, one.value.last.end, changed)) for one in settings]
+        return " (%s)" % ", ".join(texts) if texts else ""
 
     # -- what is new in a body ------------------------------------------------------------------------------------------
     def _inner_indent(self, body):

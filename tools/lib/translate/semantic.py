@@ -32,6 +32,11 @@ def translate(text, asked=None, main=None):
     return written, plan.map, system, ways.notes
 
 
+def notes_of(system):
+    """What is to be said of a model that stays as it is."""
+    return Ways(system, Asked()).notes
+
+
 def refuse_conflict(text, asked, main, cuts):
     """Refuses events that happen at once where the flows contradict each other if they come later: the states that are left
     at once are among those that are then tried, and no list of the translation shows them. `cuts` gives the status and the
@@ -50,7 +55,7 @@ def refuse_conflict(text, asked, main, cuts):
     if status == FAULT:
         found = dict.fromkeys(event for label in texts.labels(said) for event in old_events(events, label))
         raise Refused("the flows contradict each other after {%s}, if events that happen at once come later: they may do so in a "
-                      "state that is left at once" % ", ".join(found))
+                      "state that is left at once" % ", ".join(found), system.events[min(asked.at_once)].member.name)
 
 
 __all__ = ["translate", "refuse_conflict", "Asked", "Refused"]

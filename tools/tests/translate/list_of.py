@@ -3,7 +3,6 @@
 list_of.py FILE: each line of FILE is `MODEL[,MODEL] OBSERVER[=VALUE] WORDS..`, with models of tests/from_altarica. Written are
 the line behind `> ` and the list of the program in the old names, or the refusal; then what differs from the orders.
 """
-import io
 import json
 import os
 import sys
@@ -16,18 +15,8 @@ sys.path[:0] = [here, os.path.join(here, "..", "..", "lib")]
 import brute
 import program
 import texts
-from translate import command, elaborate, semantic, source
-
-def tool(*words):
-    """The status, the output and the messages of `from_altarica` on these words."""
-    kept, sys.stdout, sys.stderr = (sys.stdout, sys.stderr), io.TextIOWrapper(io.BytesIO()), io.StringIO()
-    try:
-        status = command.main(list(words))
-        sys.stdout.flush()
-        return status, sys.stdout.buffer.getvalue().decode("latin-1"), sys.stderr.getvalue()
-    finally:
-        sys.stdout, sys.stderr = kept
-
+from tool import tool
+from translate import elaborate, semantic, source
 
 def orders_of(found, words):
     """The firing orders of the model in the profile, with what the words ask."""

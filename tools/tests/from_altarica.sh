@@ -23,7 +23,7 @@ missing=$(for model in $models/*.alt; do grep -q "\b$(basename "$model" .alt)\b"
 equal "each model of $models is asked for" "$models/groups_of_three.alt" "$missing"
 
 # Random models.
-for words in "random 7000 7050" "random 9000 9015 broadcast" "random 10000 10015 settle"; do
+for words in "random 7000 7040" "trees 1 20" "random 9000 9012 broadcast" "random 10000 10012 settle"; do
   # shellcheck disable=SC2086
   got=$(python3 $here/against_orders.py $words 2>&1 | grep -v '^conflict in both\|^equal')
   equal "models by chance have the sets of their firing orders: $words" '' "$got"

@@ -200,7 +200,7 @@ class Plan:
         for event in {one.event for one in group.own}:
             ways = [one for one in group.own if one.event == event]
             members = self.elaboration.split[event]
-            if len(members) != len(ways) or not all(self._names_only(one.source, path) for one in ways):
+            if len(members) != len(ways) or not all(one.is_local and self._names_only(one.source, path) for one in ways):
                 continue
             edges = {(node.values, after.values) for node in nodes for one, _, after in node.moves if one.event == event}
             done = [(node.values, self.groups.effect(one, group, node.values)) for node in nodes for one in ways]

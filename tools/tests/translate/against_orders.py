@@ -1,4 +1,4 @@
-"""against_orders.py random FROM TO [settle | broadcast | once]: random models, translated, listed and written back, against
+"""against_orders.py random|trees FROM TO [settle | broadcast | once]: random models, translated, listed and written back, against
 all firing orders. Lines say what differs; the last has the counts."""
 import collections
 import os
@@ -14,6 +14,7 @@ sys.path[:0] = [here, os.path.join(here, "..", "..", "lib")]
 import brute
 import program
 import random_models
+import random_trees
 import texts
 from translate import back, semantic
 from translate.elaborate import elaborate
@@ -80,14 +81,15 @@ def asked_of(model, seed, words):
 
 
 def main():
+    make = random_trees.RandomTree if sys.argv[1] == "trees" else random_models.Random
     first, last, words = int(sys.argv[2]), int(sys.argv[3]), sys.argv[4:]
     counts = collections.Counter()
     for seed in range(first, last):
-        model = random_models.Random(seed)
+        model = make(seed)
         try:
             tried = Tried(model.text, asked_of(model, seed, words))
         except Refused as refused:
-            counts["refused: " + re.sub(r"[uc][0-9]\S*|[A-E]\b|'.*'", "_", refused.reason)[:48]] += 1
+            counts["refused: " + re.sub(r"[a-z_]+[0-9]*\.[a-z.]+|[uck][0-9]\S*|[A-E]\b", "_", refused.reason)[:48]] += 1
             continue
         except brute.TooMany:
             counts["too many states"] += 1

@@ -64,10 +64,10 @@ for observer in failed burnt spared half; do
   for number in $(seq "$count"); do
     tools/line_as_script "$work/back" "$number" >"$work/script"
     equal "line $number of $observer replays in the first model" "  observer $observer = true" \
-      "$("$ALTARICA" replay $models/burns.alt "$work/script" | tail -n 6 | grep " $observer ")"
+      "$("$ALTARICA" replay $models/burns.alt "$work/script" | grep "^  observer $observer " | tail -n 1)"
   done
 done
-equal "an optional part with two transitions is named" "$models/burns.alt:13:20: note: CCF: its part A.failure has several transitions: the event may take one that cannot move it; --broadcast takes the one that can" \
+equal "an optional part with two transitions is named" "$models/burns.alt:14:20: note: CCF: its part A.failure has several transitions: the event may take one that cannot move it; --broadcast takes the one that can" \
   "$(grep A.failure "$work/notes")"
 
 # Faults, places, and what is refused.
@@ -77,7 +77,7 @@ equal "the fault of a list" "fault: {shock, a.stick}: flow high has two values" 
 line=$(grep -n 'then high := true' "$work/new.alt" | cut -d: -f1)
 equal "the place in the first model of a place in the new one" "$models/clash.alt:18:29" "$($tool --place "$work/map" "$line:29")"
 $tool $models/parts_one.alt $models/parts_two.alt --map "$work/map" >"$work/new.alt" 2>/dev/null
-equal "the same where there are two files" "$models/parts_two.alt:3:39" "$($tool --place "$work/map" "$(grep -n 'flat =' "$work/new.alt" | cut -d: -f1):41")"
+equal "the same where there are two files" "$models/parts_two.alt:3:38" "$($tool --place "$work/map" "$(grep -n 'flat =' "$work/new.alt" | cut -d: -f1):41")"
 equal "what is refused" "$(cat $models/refusals)" "$(python3 $here/refusals.py $models/refusals)"
 
 # answer STATUS WORDS..: the helper ends with this status and says something on standard error alone.

@@ -12,6 +12,7 @@ pub mod Enough
 pub mod Expressions
 pub mod Findings
 pub mod Flats
+mod KnownFiles
 pub mod Labels
 pub mod Lines
 mod LogsApart

@@ -3,17 +3,17 @@ use Rattle.std.specs.Prelude.{◌≡◌, ◌<◌, ℕ, List, ◌∷◌, Result, 
 use Rattle.std.specs.List.{AllByRecursion, IsDistinct}
 use Rattle.std.specs.Str.{bytes_eq}
 use Rattle.ar_io.specs.Loads.{Load}
-use Rattle.ar_io.specs.Outside.{Told, Bytes, Absent}
+use Rattle.ar_io.specs.Outside.{Told, Bytes, Absent, Untold}
 use Rattle.ar_io.specs.Writing.{SinkState}
 use Rattle.ar_io.specs.declared.outside.LoadFault.{LoadFault}
 use Rattle.ar_io.specs.declared.outside.LoadFault.TheVariants as fault
 use Rattle.run_words.specs.declared.jobs.Job.{Job}
-use Rattle.job_stages.specs.Files.{files_of, Loads}
+use Rattle.job_stages.specs.Files.{File, files_of, Loads}
 use Rattle.job_stages.specs.Stages.{Ready, Passes}
 use Rattle.job_stages.specs.declared.refusals.FileKind.{FileKind}
 use Rattle.job_stages.specs.declared.refusals.Refusal.{Refusal}
 use Rattle.job_stages.specs.declared.refusals.Refusal.TheVariants.{NotRead}
-use Rattle.altarica_run.specs.Follows.{Call, RoseAt, sink_before, sink_after}
+use Rattle.altarica_run.specs.Follows.{Call, RoseAt, IsKnown, sink_before, sink_after}
 
 -- what is told of a name is what came of its load: the bytes, or more bytes than were asked for, or that there are none;
 -- of a load for which memory was refused nothing need be told
@@ -53,3 +53,20 @@ pub record IsCallOf (words : List (List ℕ)) (told : List ℕ → Told) (loads 
   pub after : sink_after c ≡ new
   pub rose : (name : List ℕ) → Failed name loads → RoseAt c name
   pub failed : (name : List ℕ) → RoseAt c name → Failed name loads
+
+-- something is told of each file of the job
+abbrev pub AreKnown : (List ℕ → Told) → Job → Type 0
+AreKnown told job = AllByRecursion (λ (f : File). IsKnown (told f.name)) (files_of job)
+
+-- what is told, and that there is no file where nothing is told
+abbrev pub settled : Told → Told
+settled (Bytes bytes) = Bytes bytes
+settled Absent = Absent
+settled Untold = Absent
+
+-- the same call, over files of each of which something is told
+abbrev pub settled_call : Call → Call
+settled_call c = record c {
+  files = λ name. settled (c.files name);
+  files_new = λ name. settled (c.files_new name);
+}

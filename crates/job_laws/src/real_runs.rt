@@ -7,18 +7,22 @@ ghost use Rattle.std.specs.Prelude.{◌≡◌, ℕ, List, [], Result};
 ghost use Rattle.ar_io.specs.Loads.{Load};
 ghost use Rattle.ar_io.specs.Outside.{Told};
 ghost use Rattle.ar_io.specs.Writing.{SinkState};
+ghost use Rattle.run_words.specs.Jobs.{IsJob};
 ghost use Rattle.run_words.specs.declared.jobs.Job.{Job};
 ghost use Rattle.job_stages.specs.Files.{File};
 ghost use Rattle.job_stages.specs.Jobs.{LoadsNothing};
 ghost use Rattle.job_stages.specs.Loading.{AnswersFiles};
 ghost use Rattle.job_stages.specs.Logs.{Came, PassesBy};
-ghost use Rattle.job_stages.specs.Stages.{Ready};
+ghost use Rattle.job_stages.specs.Stages.{Ready, Passes};
 ghost use Rattle.job_stages.specs.declared.refusals.Refusal.{Refusal};
 ghost use Rattle.job_stages.specs.declared.status.Status.{Status};
 ghost use Rattle.job_stages.specs.declared.stops.Stop.{Stop};
-ghost use Rattle.altarica_run.specs.Follows.{Call, Gave, IsKnown};
+ghost use Rattle.altarica_run.specs.Follows.{Call, Gave, IsKnown, IsQuiet};
 ghost use Rattle.altarica_run.specs.Reading.{EndsBy};
 ghost use Rattle.job_laws.specs.Runs.{AgreesWith, Failed, PassesOver, AreApart, IsCallOf};
+ghost use Rattle.job_laws.specs.Runs.{AreKnown, settled_call};
+
+use altarica_run::laws::one_job;
 
 /// What a run's loads and stages came to, they come to over each shelf that tells what the loads gave.
 ///
@@ -59,3 +63,19 @@ pub fn runs_are_calls()
         → (c : Call) × Gave c s × ((name : List ℕ) → IsKnown (c.files name))
         × AgreesWith c.files loads × IsCallOf words c.files loads old new c }
 {}
+
+/// The laws that ask that something is told of every name hold of each call where something is told of the
+/// job's own files: for they hold of the same call where of each other name it is told that there is no file.
+///
+/// - `known`, `quiet`: So something is told of every name, and counts of faults rose as before.
+/// - `gave`, `passes`: The call answers the same, and the stages of the job come to the same.
+pub fn known_files_suffice()
+    ensures known { (c : Call) (name : List ℕ) → IsKnown ((settled_call c).files name) }
+    ensures quiet { (c : Call) → IsQuiet c → IsQuiet (settled_call c) }
+    ensures gave { (c : Call) (s : Status) (job : Job) → Gave c s → IsJob c.words job
+        → AreKnown c.files job → Gave (settled_call c) s }
+    ensures passes { (c : Call) (job : Job) (x : Result Ready Refusal) → AreKnown c.files job
+        → Passes c.files job x → Passes (settled_call c).files job x }
+{
+    one_job();
+}

@@ -68,7 +68,7 @@ if not real_run.startswith(f"{more} lines more"):
     differ.append(f"the page has not {more} lines more for real runs")
 rows = re.findall(r"^\| [^|]+ \| (`[^|]+) \| (\d+) \|$", section, re.M)
 for names, lines in rows:
-    begin = ",".join(re.findall(r"`([^`]+)`", names))
+    begin = ",".join(f"{crate}/{file}.{name}" for name, crate, file in re.findall(r"`(\w+)` of `(\w+)/specs/(\w+)\.antt`", names))
     if (words("--from", begin) or [""])[-1] != f"{lines} lines":
         differ.append(f"{begin} has not {lines} lines")
 if len(rows) < 6:

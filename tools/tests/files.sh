@@ -37,6 +37,7 @@ padded() {
   cat "$1"
   head -c $(($2 - $(size_of "$1"))) /dev/zero | tr '\0' ' '
 }
+# shellcheck disable=SC2238
 padded model 4194304 >at
 padded model 4194305 >past
 equal "the model at its limit has 4194304 bytes" 4194304 "$(size_of at)"

@@ -78,7 +78,7 @@ def run(words):
 
 def fits(block, whole, is_part):
     """Says why the block's lines are not those of the whole, or nothing."""
-    pieces, open_start, open_end = [[]], False, False
+    pieces = [[]]
     for line in block:
         if line.strip() == "...":
             pieces.append([])

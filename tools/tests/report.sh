@@ -13,7 +13,7 @@ for plant in brake bus conflict hydraulic pumps repair ring supply; do
   case $plant in conflict | repair | supply) wanted=3 ;; *) wanted=0 ;; esac
   equal "the page of $plant is made, with status $wanted" $wanted "$(page $plant "$work/$plant.html" >/dev/null 2>&1; echo $?)"
   case $(head -n 1 "examples/$plant.cuts") in
-    {*) want=$(grep -c '^{' "examples/$plant.cuts"); got=$(grep -o 'There are <b>[0-9]*' "$work/$plant.html" | grep -o '[0-9]*$') ;;
+    "{"*) want=$(grep -c '^{' "examples/$plant.cuts"); got=$(grep -o 'There are <b>[0-9]*' "$work/$plant.html" | grep -o '[0-9]*$') ;;
     *) want=$(head -n 1 "examples/$plant.cuts"); got=$(sed 's/&quot;/"/g; s/&#x27;/'"'"'/g' "$work/$plant.html" | grep -oF "$want" | head -n 1) ;;
   esac
   equal "the page of $plant says how many cuts there are, or why there are none" "$want" "$got"

@@ -2,6 +2,7 @@
 # The script `altarica`: what it answers at once, what it says before a long build, which program it takes, and that it
 # costs next to nothing over the program. It is tried in small copies, in which `rt` is a stand-in that takes a note of
 # each call, and once over the real crates.
+# shellcheck disable=SC2034,SC2010
 set -u
 top=$PWD
 lab=$(mktemp -d "${TMPDIR:-/tmp}/altarica-lab.XXXXXX")

@@ -1,0 +1,88 @@
+#!/usr/bin/env bash
+# Hostile names of files: each helper reads a model and a list of such a name and writes to one, or ends with 4 and a line that
+# says why: the program takes no words that are no UTF-8. No helper fails with a trace of Python, and none leaves half a file.
+. "$(dirname "$0")/points.bash"
+
+names=(
+  "it's" 'a "quoted" one' "'\"'" '$(touch ran)' '`touch ran`' '; touch ran' $'new\nline' $'end\n' $'\e[31mred' $'tab\there'
+  '<script>alert(1)' '-leading' '--main=B' 'модель' '模型' $'byte\xff' $'\x80\xfe' '%s%n' 'a=b' '*' '\\' 'name#1,2{3}'
+)
+cd "$work" || exit 1
+# Pictures are drawn by a stand-in, which takes the texts that name files.
+mkdir room bin
+printf '#!/bin/sh\ncat >/dev/null; echo "<svg></svg>"\n' >bin/dot
+chmod +x bin/dot
+PATH=$work/bin:$PATH
+cp "$top/examples/brake.alt" model
+cp "$top/examples/brake.cuts" list
+asked=(--observer too_weak)
+
+# is_utf8 NAME
+is_utf8() { printf '%s' "$1" | iconv -f UTF-8 -t UTF-8 >/dev/null 2>&1; }
+
+# trial NAME: the helper ends with 0 or 1, or with 4 and a line where the name is no UTF-8; nothing else is there behind it.
+wrong=''
+trial() {
+  local name=$1 tool=$2 status
+  shift 2
+  (cd room && "$top/tools/$tool" "$@") >out 2>err </dev/null
+  status=$?
+  if grep -q Traceback out err || [ "$status" -gt 1 ] && { [ "$status" -ne 4 ] || is_utf8 "$name" || ! grep -q 'no UTF-8' err; }; then
+    wrong+="$tool $* ends with $status: $(tail -n 1 err); "
+  fi
+  grep -q $'[\x01-\x08\x0b-\x1f]' out err && wrong+="$tool $* writes control characters; "
+  [ ! -e room/ran ] || wrong+="$tool $* runs a name; "
+}
+
+# written NAME FILE: what was written is whole, or is not there.
+written() { [ ! -e "room/$1" ] || cmp -s "room/$1" "$2" || wrong+="half a file: $1; "; rm -f "room/$1"; }
+
+"$top/tools/draw" units "$work/model" --dot >units.dot
+"$top/tools/to_open_psa" cuts model "${asked[@]}" >cuts.xml
+for name in "${names[@]}"; do
+  cp model "room/$name"
+  trial "$name" lint -- "$name"
+  trial "$name" lint --json -- "$name"
+  trial "$name" why check -- "$name"
+  trial "$name" draw units --dot -- "$name"
+  trial "$name" report "${asked[@]}" -- "$name"
+  trial "$name" to_open_psa tree "${asked[@]}" -- "$name"
+  trial "$name" order -- "$name" "$work/list"
+  cp cuts.xml "room/$name"
+  trial "$name" to_open_psa back -- "$name" "$name"
+  cp list "room/$name"
+  trial "$name" compare -- "$name" "$work/list"
+  trial "$name" line_as_script -- "$name" 3
+  trial "$name" order -- "$work/model" "$name"
+  rm -f "room/$name"
+  trial "$name" draw units --dot --out="$name" "$work/model"
+  written "$name" units.dot
+  trial "$name" report "${asked[@]}" --out="$name" "$work/model"
+  [ ! -e "room/$name" ] || grep -q '</html>' "room/$name" || wrong+="half a page: $name; "
+  rm -f "room/$name"
+  equal "the name $(printf '%q' "$name")" '' "$wrong"
+  wrong=''
+done
+equal "${#names[@]} names leave nothing behind" '' "$(ls -A room)"
+
+# Places that cannot be written: a line, status 4, and what was there before stays.
+echo before >kept
+chmod a-w . 2>/dev/null
+for out in nowhere/picture room; do
+  equal "--out $out is refused" '4 1' "$("$top/tools/draw" units model --dot --out "$out" >/dev/null 2>err; echo $?) $(grep -c . err)"
+done
+chmod u+w .
+equal "a full disk is said" 4 "$("$top/tools/draw" units model --dot --out /dev/full >/dev/null 2>&1; echo $?)"
+for words in "lint $top/tests/lint/slips.alt" "why check model" "order model list" "compare list list" "line_as_script list 1" "draw units model --dot" \
+  "report model --observer too_weak" "to_open_psa cuts model --observer too_weak" "explain L10"; do
+  # shellcheck disable=SC2086
+  equal "standard output that takes nothing: ${words%% *}" '4 1' "$("$top"/tools/$words >/dev/full 2>err; echo $?) $(grep -v 'main block' err | grep -c .)"
+done
+
+# A crash of a helper itself is its status 4, and no finding.
+mkdir -p broken
+cp -r "$top/tools" "$top/docs" broken/
+echo 'raise KeyError("slip")' >>broken/tools/lib/lint_events.py
+printf 'def in_no_cut(blocks):\n    raise KeyError("slip")\n' >>broken/tools/lib/lint_events.py
+sed -i '/^raise/d' broken/tools/lib/lint_events.py
+equal "a fault of a helper is its status 4, with a line" "4 lint: this helper failed: KeyError: 'slip'" "$(broken/tools/lint model 2>err; echo "$? $(cat err)")"

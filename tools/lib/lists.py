@@ -10,7 +10,7 @@ from command import CouldNot, escaped, shown
 
 MARK = b"\xef\xbb\xbf"
 CUT = re.compile(rb"\{([^{}\x00-\x08\x0a-\x1f\x7f]*)\}")
-COUNT = re.compile(rb"count +([0-9]+)")
+COUNT = re.compile(rb"count +([0-9]{1,18})")
 FIRST_WAY = b"#1"
 BLANKS = b" \t\r"
 

@@ -35,7 +35,7 @@ class Source:
     @functools.cached_property
     def flat(self):
         found = texts.flat(program.ask("flat", [self.file], self.main_option))
-        return symbols.told_apart(found, self.tree)
+        return symbols.told_apart(found, self)
 
     def ask(self, command, options=(), more=()):
         """The program's text for a command on this model and further files."""

@@ -6,6 +6,7 @@ import shutil
 import subprocess
 from collections import namedtuple
 
+import command
 from command import TOP, CouldNot, Refused, files_of, say, shown
 
 Program = namedtuple("Program", "words is_unproved told")
@@ -113,6 +114,8 @@ def proved_words():
         return "the proved one of this checkout"
     return "none that this checkout has proved: whether it is proved is not known here"
 
+
+write = command.write
 
 asked = []
 """The words of each call, in order."""

@@ -4,19 +4,24 @@ The flat text writes both by that name alone. In the source a unit knows the var
 there the name is the variable. Elsewhere it is the symbol. Where an expression of one unit has both, the types decide: a
 symbol stands beside symbols. `told_apart` puts `'` before each such symbol.
 """
+import bisect
 import re
 
 import expressions
 import texts
 from hierarchy import Missing, Unknown
 
-WORDS = ("and", "or", "not", "if", "then", "else", "switch", "case", "default")
+DOMAIN = re.compile(r"\bdomain\b[^{}]*\{([^}]*)\}")
+NAME = re.compile(r"[A-Za-z_]\w*")
 
 
-def told_apart(flat, tree):
-    """The flat system with `'` before each symbol that has the name of a variable."""
-    shared = {path for path in flat.variables if "." not in path} & tree.bodies.symbols
-    return Apart(flat, tree, shared).whole() if shared else flat
+def told_apart(flat, source):
+    """The flat system with `'` before each symbol that has the name of a variable; the source is read for that alone."""
+    own = {path for path in flat.variables if "." not in path}
+    if not own & set(NAME.findall(" ".join(DOMAIN.findall(source.text)))):
+        return flat
+    shared = own & source.bodies.symbols
+    return Apart(flat, source.tree, shared).whole() if shared else flat
 
 
 def paths_of(thing):
@@ -34,6 +39,14 @@ class Apart:
     def __init__(self, flat, tree, shared):
         self.flat, self.tree, self.shared = flat, tree, shared
         self.nodes = {node.path: node for node in tree.nodes}
+        self.assertions = {}
+        """Each assertion of the text, with the units that have it: by the place of its first token."""
+        for node in tree.nodes:
+            for member in tree.bodies.members(node.scope.unit):
+                if member.kind == "assertion":
+                    place = (member.first.line, member.first.column)
+                    self.assertions.setdefault(place, (member, []))[1].append(node)
+        self.places = sorted(self.assertions)
 
     def whole(self):
         flat = self.flat
@@ -61,13 +74,12 @@ class Apart:
 
     def of_assertion(self, one):
         """The same for the assertion from which an assignment is."""
-        found = []
-        for node in self.tree.nodes:
-            for member in self.tree.bodies.members(node.scope.unit):
-                if member.kind == "assertion" and (member.first.line, member.first.column) <= (one.line, one.column) <= (
-                        member.last.line, member.last.column) and self.sets(node, member, one.set.target):
-                    found.append((node, member))
-        return self.named(found[0][0], [member for _, member in found]) if found else set()
+        at = bisect.bisect_right(self.places, (one.line, one.column))
+        if not at:
+            return set()
+        member, nodes = self.assertions[self.places[at - 1]]
+        node = next((node for node in nodes if self.sets(node, member, one.set.target)), None)
+        return set() if node is None else self.named(node, [member])
 
     def sets(self, node, member, target):
         """Whether a path of this member, in this unit, is the target."""

@@ -116,7 +116,10 @@ def put(name, content):
     mask = os.umask(0)
     os.umask(mask)
     mode = stat.S_IMODE(os.stat(target).st_mode) if os.path.exists(target) else 0o666 & ~mask
-    handle, made = tempfile.mkstemp(prefix=".altarica-", dir=os.path.dirname(target))
+    try:
+        handle, made = tempfile.mkstemp(prefix=".altarica-", dir=os.path.dirname(target))
+    except OSError as error:
+        raise CouldNot("%s: %s" % (shown(name), error.strerror)) from error
     try:
         with os.fdopen(handle, "wb") as file:
             file.write(content)
@@ -183,11 +186,27 @@ def ended(about, declare, work, words, needs_words):
         return COULD_NOT
 
 
+def open_what_is_closed():
+    """Opens the standard files that are closed, so that no other file gets their numbers; returns whether output was."""
+    was_closed = sys.stdout is None
+    for number, name in enumerate(("stdin", "stdout", "stderr")):
+        if getattr(sys, name) is None:
+            handle = os.open(os.devnull, os.O_RDWR)
+            if handle != number:
+                os.dup2(handle, number)
+                os.close(handle)
+            setattr(sys, name, os.fdopen(number, "w" if number else "r", closefd=False))
+    return was_closed
+
+
 def run(about, declare, work, own=own_words, needs_words=True):
     """Runs a helper: `about` is what it says of itself, `declare` adds its words to a parser, `work` takes them and returns
     a status, `own` gives the words among which --help and --version are its own. Ends the process."""
     signal.signal(signal.SIGPIPE, signal.SIG_DFL)
     sys.setrecursionlimit(20000)
+    if open_what_is_closed():
+        say("standard output is closed")
+        sys.exit(COULD_NOT)
     status = ended(about, declare, work, own(sys.argv[1:]) or sys.argv[1:2], needs_words)
     try:
         sys.stdout.buffer.flush()

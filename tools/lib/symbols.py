@@ -11,6 +11,7 @@ import expressions
 import texts
 from hierarchy import Missing, Unknown
 
+REMARK = re.compile(r"//[^\n]*|/\*.*?\*/", re.S)
 DOMAIN = re.compile(r"\bdomain\b[^{}]*\{([^}]*)\}")
 NAME = re.compile(r"[A-Za-z_]\w*")
 
@@ -18,7 +19,7 @@ NAME = re.compile(r"[A-Za-z_]\w*")
 def told_apart(flat, source):
     """The flat system with `'` before each symbol that has the name of a variable; the source is read for that alone."""
     own = {path for path in flat.variables if "." not in path}
-    if not own & set(NAME.findall(" ".join(DOMAIN.findall(source.text)))):
+    if not own & set(NAME.findall(" ".join(DOMAIN.findall(REMARK.sub(" ", source.text))))):
         return flat
     shared = own & source.bodies.symbols
     return Apart(flat, source.tree, shared).whole() if shared else flat

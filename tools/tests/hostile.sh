@@ -72,6 +72,9 @@ for out in nowhere/picture room; do
   equal "--out $out is refused" '4 1' "$("$top/tools/draw" units model --dot --out "$out" >/dev/null 2>err; echo $?) $(grep -c . err)"
 done
 chmod u+w .
+equal "standard output that is closed is said" '4 1' "$("$top/tools/lint" model >&- 2>err; echo $?) $(grep -c 'output is closed' err)"
+equal "standard input that is closed is an empty list, which is none" 4 "$("$top/tools/compare" - list <&- 2>/dev/null >&2; echo $?)"
+equal "an empty name of an observer is no use" 2 "$("$top/tools/lint" model --observer= 2>/dev/null; echo $?)"
 equal "a full disk is said" 4 "$("$top/tools/draw" units model --dot --out /dev/full >/dev/null 2>&1; echo $?)"
 for words in "lint $top/tests/lint/slips.alt" "why check model" "order model list" "compare list list" "line_as_script list 1" "draw units model --dot" \
   "report model --observer too_weak" "to_open_psa cuts model --observer too_weak" "explain L10"; do

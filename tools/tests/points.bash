@@ -5,7 +5,7 @@ cd "$top" || exit 1
 : "${ALTARICA:?names the program under test}"
 work=$(mktemp -d)
 # The interpreter itself, where python3 on the path is a script that starts it.
-PATH=$(dirname "$(python3 -c 'import sys; print(sys.executable)')"):$PATH
+if [ "$(head -c 2 -- "$(type -P python3)")" = '#!' ]; then PATH=$(dirname "$(python3 -c 'import sys; print(sys.executable)')"):$PATH; fi
 trap 'rm -rf "$work"' EXIT
 
 passed() { echo "passed: $*"; }

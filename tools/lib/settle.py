@@ -2,12 +2,8 @@
 events. Read from the flat system, and used to say causes. Not proved.
 """
 import expressions
-import texts
 from expressions import value
-
-
-def names_of(one):
-    return texts.words(one.value).union(*(texts.words(c) for c, _ in one.conditions))
+from facts import names_of
 
 
 def is_on(one, variables, known):

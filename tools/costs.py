@@ -1,3 +1,4 @@
+#!/usr/bin/env python3
 """costs.py KIND N [MORE]
 
 Writes a model of a kind and a size that shows costs (of the kinds `script` and `enabled` a script). What each kind is stands

@@ -17,7 +17,7 @@ def output(words):
 def cuts_of(model, words):
     """The cut sets of the program."""
     lines = output([os.environ["ALTARICA"], "cuts", model, *words]).decode().splitlines()
-    return {frozenset(line[1:-1].split(", ")) for line in lines if line.startswith("{")}
+    return {frozenset(filter(None, line[1:-1].split(", "))) for line in lines if line.startswith("{")}
 
 
 def products(report, exported):

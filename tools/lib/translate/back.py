@@ -1,5 +1,6 @@
 """A listing of a translated model in the names of the first one. Not proved."""
 import re
+from collections import ChainMap
 
 import texts
 from translate import expressions
@@ -46,7 +47,7 @@ class Orders:
     """Orders in which events of the first model fire."""
 
     def __init__(self, system, goal=None):
-        self.system, self.goal, self.by_event = system, goal, {}
+        self.system, self.goal, self.start, self.by_event = system, goal, system.start(), {}
         for way in system.ways:
             self.by_event.setdefault(way.event, []).append(way)
 
@@ -56,20 +57,21 @@ class Orders:
             return True
         observer, value = self.goal
         try:
-            return expressions.value(self.system.observers[observer], self.system.flows(state)) == value
+            return expressions.value(self.system.observers[observer], self.system.flows({**self.start, **state})) == value
         except Fault:
             return False
 
     def _after(self, way, state):
+        """The values that differ from the start after a way, or None where it cannot fire; `state` has those before it."""
         try:
-            sets = self.system.effect(way, state)
+            sets = self.system.effect(way, ChainMap(state, self.start))
         except Fault:
             return None
-        return None if sets is None else {**state, **sets}
+        return None if sets is None else {path: it for path, it in {**state, **sets}.items() if it != self.start[path]}
 
     def as_written(self, steps):
         """The labels of steps in their order, if they fire in it."""
-        state, labels = self.system.start(), []
+        state, labels = {}, []
         for event, number in steps:
             for way in self.by_event.get(event, ()):
                 after = self._after(way, state) if number in (None, way.number) else None
@@ -84,8 +86,7 @@ class Orders:
     def some(self, wanted):
         """The labels of some order of a set of events, each once, or None where there is none or too many are to be
         tried."""
-        start = self.system.start()
-        todo, seen = [(start, frozenset(), ())], {(tuple(start.values()), frozenset())}
+        todo, seen = [({}, frozenset(), ())], {(frozenset(), frozenset())}
         while todo and len(seen) < MOST_STATES:
             state, used, labels = todo.pop()
             if used == wanted and self._ends(state):
@@ -93,8 +94,8 @@ class Orders:
             for event in sorted(wanted - used):
                 for way in self.by_event.get(event, ()):
                     after = self._after(way, state)
-                    key = after and (tuple(after.values()), used | {event})
-                    if after is not None and key not in seen:
+                    key = after is not None and (frozenset(after.items()), used | {event})
+                    if key and key not in seen:
                         seen.add(key)
                         todo.append((after, used | {event}, (*labels, (event, way.number))))
         return None
@@ -114,7 +115,8 @@ class Listing:
         if last.startswith("fault: "):
             return self._fault(last)
         if re.search(r"^module |^lines [0-9]+$", self.text, re.M):
-            raise Refused("this is a listing of modules: the modules of the new model are not those of the first; write `cuts` back")
+            raise Refused("this is a listing of modules: the modules of the new model are not those of the first; write "
+                          "`cuts` back")
         if not re.fullmatch(r"count [0-9]+", last):
             raise Refused("this is no listing of `cuts`: its last line is not `count N`")
         lines = {}
@@ -127,8 +129,9 @@ class Listing:
             raise Refused("%s is no event of the model of this map: is the listing of another model?" % unknown[0])
         sets = sorted(least(lines), key=lambda one: sorted(self.number[event] for event in one))
         if len(sets) < len(lines):
-            self.notes.append("%d lines are left out: in the names of the first model they are the same as others, or have others in them"
-                              % (len(texts.cuts(self.text)) - len(sets)))
+            left_out = len(texts.cuts(self.text)) - len(sets)
+            self.notes.append("%d lines are left out: in the names of the first model they are the same as others, or have "
+                              "others in them" % left_out)
         orders = Orders(self.system, goal)
         written = ["{%s}" % ", ".join(self._labels(orders, one, lines[one])) for one in sets]
         return "\n".join([*written, "count %d" % len(sets)]) + "\n"

@@ -59,15 +59,19 @@ def _whole_lines(text, one):
 
 def apply(text, start, end, edits):
     """The pieces of a stretch of the text with its edits."""
-    found, at = [], start
+    ends = {one.start: one.end for one in edits if not one.text}
+    found, at, end_of_last = [], start, start
     for one in joined(text, edits):
         if one.start < at:
+            # What is inserted behind a piece whose line goes as a whole stays; what is inside of it goes with it.
+            if one.start == one.end and one.start >= end_of_last:
+                found.append(Piece(one.text, one.start))
             continue
         if one.start > at:
             found.append(Piece(text[at:one.start], at))
         if one.text:
             found.append(Piece(one.text, one.start))
-        at = max(at, one.end)
+        at, end_of_last = max(at, one.end), ends.get(one.start, one.end)
     if end > at:
         found.append(Piece(text[at:end], at))
     return found

@@ -174,7 +174,8 @@ class Elaboration:
         for event, members in self.split.items():
             for unit, member in members:
                 if member.kind == "synchronisation":
-                    found.setdefault(event, []).extend((mark, self.path(unit, path), path.first) for mark, path in member.parts[0])
+                    parts = [(mark, self.path(unit, path), path.first) for mark, path in member.parts[0]]
+                    found.setdefault(event, []).extend(parts)
         return found
 
     def _variables(self, unit, member):

@@ -101,7 +101,7 @@ class Forms:
             return self._values(unit, kind, group, kept)
         gone = [one for one in kept if one.words[-1].text in ATTRIBUTES and len(one.words) > 1]
         for one in gone:
-            self.note("%s is left out: attributes of events have no meaning here" % ".".join(w.text for w in one.words), one.first)
+            self.note("%s is left out: attributes of events have no meaning here" % dotted(one.words), one.first)
         kept = [one for one in kept if one not in gone]
         texts = [self.rendered(one.first.start, one.last.end) for one in kept]
         return texts, len(kept) < len(group.settings)
@@ -114,7 +114,7 @@ class Forms:
         given = {one.words[0].text: one for one in kept if one.words[0].text in ("init", "reset") and len(one.words) == 1}
         others = [one for one in kept if one not in given.values()]
         for one in others:
-            self.note("%s is left out: a variable has init or reset alone" % ".".join(w.text for w in one.words), one.first)
+            self.note("%s is left out: a variable has init or reset alone" % dotted(one.words), one.first)
         if len(given) == 1 and not others and not (is_record and "init" in given):
             return [], False
         if len(given) == 2:
@@ -205,6 +205,11 @@ class Forms:
         for name, places in self.parser.indexed.items():
             if name not in self.parser.arrays:
                 raise Refused("%s is no array" % name, places[0][0])
+
+
+def dotted(words):
+    """The words of a setting as they are written."""
+    return ".".join(word.text for word in words)
 
 
 def _free(wish, words):

@@ -1,6 +1,7 @@
 """`extends C (p = v);`: the class is written once more, with these values. And a block that is extended becomes a class.
 Not proved."""
 from translate.edits import Edit
+from translate.forms import dotted
 from translate.refused import Refused
 from translate.wide import ATTRIBUTES
 
@@ -39,7 +40,7 @@ class Extended:
 
     def copy(self, base, settings):
         """The name of the class with these settings: (words, text of the value)."""
-        key = base.name.text, tuple((".".join(word.text for word in words), text) for words, text in settings)
+        key = base.name.text, tuple((dotted(words), text) for words, text in settings)
         if key not in self.copies:
             name = self.upper(base.name.text)
             self.copies[key] = name, base, []
@@ -71,12 +72,13 @@ class Extended:
             if not changed:
                 texts = [self.forms.rendered(one.first.start, one.last.end) for one in group.settings]
             for token in group.names:
-                mine = {".".join(w.text for w in words[1:]) or "init": text for words, text in settings if words[0].text == token.text}
+                mine = {dotted(words[1:]) or "init": text for words, text in settings if words[0].text == token.text}
                 own = [text for text in texts if text.partition("=")[0].strip() not in mine]
                 if set(mine) & {"init", "reset"}:
                     own = [text for text in own if text.partition("=")[0].strip() not in ("init", "reset")]
                 own += ["%s = %s" % row for row in mine.items()]
-                lines.append("%s %s%s;" % (self.forms.parser.type_text(kind), token.text, " (%s)" % ", ".join(own) if own else ""))
+                behind = " (%s)" % ", ".join(own) if own else ""
+                lines.append("%s %s%s;" % (self.forms.parser.type_text(kind), token.text, behind))
         return " ".join(lines)
 
     def _above(self, base, settings):
@@ -96,7 +98,7 @@ class Extended:
                 edits.append(Edit(member.name.start, member.last.end, self.copy(above, own + mine) + ";"))
         for words, _ in settings:
             if words[-1].text in ATTRIBUTES:
-                self.forms.note("%s is left out: attributes of events have no meaning here" % ".".join(w.text for w in words), words[0])
+                self.forms.note("%s is left out: attributes of events have no meaning here" % dotted(words), words[0])
             else:
                 raise Refused("class %s has no member %s" % (base.name.text, words[0].text), words[0])
         return edits

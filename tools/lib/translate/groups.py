@@ -175,11 +175,12 @@ class Groups:
             if sets is None:
                 continue
             if can.setdefault(way.event, sets) != sets:
-                raise Refused("%s: its part %s can happen in two ways where %s" % (one.event, way.event, self.show(group, values)),
-                              one.place)
+                raise Refused("%s: its part %s can happen in two ways where %s"
+                              % (one.event, way.event, self.show(group, values)), one.place)
             for target, it in sets.items():
                 if found.setdefault(target, it) != it:
-                    raise Refused("%s where %s: it gives %s two values" % (one.event, self.show(group, values), target), one.place)
+                    raise Refused("%s where %s: it gives %s two values" % (one.event, self.show(group, values), target),
+                                  one.place)
         if need - set(can):
             return None
         if not can and not optional:

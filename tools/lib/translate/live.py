@@ -80,14 +80,13 @@ class Ways:
             parts = self.system.parts_of.get(event.path)
             if not parts or event.path in self.asked.drop:
                 continue
-            member = "%s: its part %s has %s"
+            several = "several transitions: the event may take one that cannot move it; --broadcast takes the one that can"
             for mark, part, place in parts:
                 count = len(self.system.ways_of(part))
                 if not count:
-                    self.note(member % (event.path, part, "no transition, so the whole event never happens"), place)
+                    self.note("%s: its part %s has no transition, so the whole event never happens" % (event.path, part), place)
                 elif count > 1 and mark == "?" and not self.asked.broadcast:
-                    self.note(member % (event.path, part, "several transitions: the event may take one that cannot move it; --broadcast "
-                                        "takes the one that can"), place)
+                    self.note("%s: its part %s has %s" % (event.path, part, several), place)
 
     def _broadcast(self):
         """One way for all choices of ways of a synchronised event: each part takes the way that it can."""

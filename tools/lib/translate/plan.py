@@ -94,7 +94,7 @@ def flattened(path):
 class Plan:
     """The plan of a translation. `map` says of each new event which old ones it stands for."""
 
-    def __init__(self, elaboration, groups, clusters, names):
+    def __init__(self, elaboration, groups, names):
         self.elaboration, self.system, self.groups, self.names = elaboration, groups.system, groups, names
         self.units = {unit: UnitPlan() for unit in elaboration.units}
         self.map, self.copies = {}, Counter()
@@ -105,9 +105,6 @@ class Plan:
             self._states(group)
         for group in groups.groups:
             self._events(group)
-        from translate.plan_shocks import plan_shocks
-        for cluster in clusters:
-            plan_shocks(self, cluster)
         for group in groups.groups:
             if not group.keeps and len(group.components) == 1:
                 self.project(group, group.unit, lambda component: TRUE)
@@ -173,15 +170,17 @@ class Plan:
             if one.event in kept:
                 continue
             variable = name_of(component.variable)
-            text = "%s: %s -> %s := %s;" % (name, self.text(self.at(component, [node]), group.unit), variable, self.mode_text(component, after))
-            self.units[group.unit].transitions.append(Transition(name, text, self._place_of(group, one.event), self._anchor(group)))
+            guard = self.text(self.at(component, [node]), group.unit)
+            text = "%s: %s -> %s := %s;" % (name, guard, variable, self.mode_text(component, after))
+            place = self._place_of(group, one.event)
+            self.units[group.unit].transitions.append(Transition(name, text, place, self._anchor(group)))
 
     def event_name(self, unit, event, wish=None, anchor=None):
         """The name of the next event that stands for an old one; the first keeps the name where it is in its unit."""
         self.copies[event] += 1
         if self.copies[event] == 1 and unit_of(event) == unit:
             return name_of(event)
-        name = self.names.member(unit, wish or flattened(within(unit, event) if common([unit, event]) == unit else name_of(event)))
+        name = self.names.member(unit, wish or flattened(within(unit, event)))
         self.units[unit].events.append((anchor, self.order[event], name))
         return name
 
@@ -260,7 +259,8 @@ class Plan:
         symbols = {it for it in variable.domain.values if isinstance(it, str)}
         while any(self._is_member(unit, symbol) for symbol in symbols):
             if not unit:
-                raise Refused("the symbols of %s are names of members of all units above it: rename one of them" % path, variable.token)
+                raise Refused("the symbols of %s are names of members of all units above it: rename one of them" % path,
+                              variable.token)
             unit = unit_of(unit)
         anchor = variable.member if variable.unit == unit else None
         self.units[unit].assertions.append((anchor, "%s := %s;" % (within(unit, path), self.text(tree, unit))))

@@ -1,8 +1,8 @@
 """The members of the new model for shocks: a state for each shock, and the flows that say whether a shock has come into
 force and which tree it has led a group to. Not proved."""
 from translate.elaborate import joined, unit_of
-from translate.expressions import FALSE, TRUE, all_of, any_of, no
-from translate.plan import common, flattened, within
+from translate.expressions import TRUE, all_of, any_of, no
+from translate.plan import Transition, common, flattened, within
 
 
 class Shocks:
@@ -53,7 +53,6 @@ class Shocks:
             self.struck[event, number, stage] = ("==", ("variable", path), ("value", symbol))
 
     def _event(self, unit, event, wish, mode, guard, action):
-        from translate.plan import Transition
         plan = self.plan
         name = plan.event_name(unit, event, wish)
         place = plan.elaboration.split[event][0][1] if unit_of(event) == unit else None

@@ -87,7 +87,8 @@ class Rewriting:
         flows = self.plan.units[unit].flows.intersection(names)
         if not flows:
             return []
-        changed = [Edit(one.words[-1].start, one.words[-1].end, "reset") for one in member.parts[2] if one.words[-1].text == "init"]
+        words = [one.words[-1] for one in member.parts[2] if one.words[-1].text == "init"]
+        changed = [Edit(word.start, word.end, "reset") for word in words]
         if len(flows) == len(names):
             return changed
         return [self._apart(member, [(member.parts[0].text, name, changed if name in flows else []) for name in names])]
@@ -145,7 +146,8 @@ class Rewriting:
         """The settings of a clone, for a declaration of its own."""
         settings = self.elaboration.declared_settings(unit)
         changed = self._to_flows(unit, settings)
-        texts = ["".join(piece.text for piece in apply(self.text, one.first.start, one.value.last.end, changed)) for one in settings]
+        pieces = [apply(self.text, one.first.start, one.value.last.end, changed) for one in settings]
+        texts = ["".join(piece.text for piece in some) for some in pieces]
         return " (%s)" % ", ".join(texts) if texts else ""
 
     # -- what is new in a body ------------------------------------------------------------------------------------------
@@ -170,7 +172,8 @@ class Rewriting:
             found.append(self._before(place.sections or place.end, [indent + text]))
         lines = []
         moves = [one.text for one in plan.transitions if one.instead_of is None and self._belongs(unit, one.anchor, body)]
-        for word, texts in (("transition", moves), ("assertion", [t for a, t in plan.assertions if self._belongs(unit, a, body)])):
+        values = [text for anchor, text in plan.assertions if self._belongs(unit, anchor, body)]
+        for word, texts in (("transition", moves), ("assertion", values)):
             lines += [indent + word, *[indent + "  " + text for text in texts]] if texts else []
         if lines:
             found.append(self._before(place.end, lines))

@@ -9,6 +9,7 @@ from translate.groups import Groups
 from translate.live import Asked, Ways
 from translate.names import Names
 from translate.plan import Plan
+from translate.plan_shocks import plan_shocks
 from translate.refused import Refused
 from translate.rewrite import Rewriting
 from translate.source import Source
@@ -27,7 +28,9 @@ def translate(text, asked=None, main=None):
     ways = Ways(system, asked)
     groups = Groups(ways)
     clusters = unfold(groups)
-    plan = Plan(elaboration, groups, clusters, Names(source, elaboration))
+    plan = Plan(elaboration, groups, Names(source, elaboration))
+    for cluster in clusters:
+        plan_shocks(plan, cluster)
     written = Rewriting(source, elaboration, plan).written()
     return written, plan.map, system, ways.notes
 

@@ -44,7 +44,8 @@ def _cluster(groups, ways):
     if found.stages > MOST_ORDERED:
         raise Refused("the order of %s matters, and they are more than %d" % (", ".join(events), MOST_ORDERED), ways[0].place)
     if found.stages > 1:
-        groups.ways.note("the order of %s matters: each has an event for each place in the order" % ", ".join(events), ways[0].place)
+        groups.ways.note("the order of %s matters: each has an event for each place in the order" % ", ".join(events),
+                         ways[0].place)
     for group in found.groups:
         group.cluster = found
     return found

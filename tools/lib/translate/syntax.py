@@ -46,7 +46,7 @@ class Syntax:
     def _own_events(self):
         """Declares the hidden events that guards and actions of synchronisations have become."""
         for unit in self.forms.units:
-            names = [m.name.text for m in unit.members if m.kind == "synchronisation" and (m.parts[1] is not None or m.parts[2] is not None)]
+            names = [member.name.text for member in unit.members if member.kind == "synchronisation" and any(member.parts[1:])]
             if not names:
                 continue
             for name in dict.fromkeys(names):
@@ -63,12 +63,13 @@ class Syntax:
     def _pieces(self):
         """The pieces of the new text: each copy of a class comes behind it, new domains come last."""
         text, edits, pieces, at = self.text, self.parser.edits, [], 0
-        for name, base, changed in sorted(self.extended.copies.values(), key=lambda copy: self.parser.bodies[id(copy[1])].end.end):
-            body = self.parser.bodies[id(base)]
+        copies = [(self.parser.bodies[id(base)], name, changed) for name, base, changed in self.extended.copies.values()]
+        for body, name, changed in sorted(copies, key=lambda copy: copy[0].end.end):
             if at < body.end.end:
                 pieces += apply(text, at, body.end.end, [one for one in edits if at <= one.start < body.end.end])
                 at = body.end.end
-            inside = [one for one in edits if body.name.end <= one.start < at and not any(c.start <= one.start < c.end for c in changed)]
+            inside = [one for one in edits if body.name.end <= one.start < at
+                      and not any(other.start <= one.start < other.end for other in changed)]
             pieces.append(Piece("\n\nclass " + name, body.name.start))
             pieces += apply(text, body.name.end, at, changed + inside)
         pieces += apply(text, at, len(text), [one for one in edits if at <= one.start])

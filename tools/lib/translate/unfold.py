@@ -60,7 +60,8 @@ class Unfolding:
         names = ", ".join(self.group.variables)
         place = move[0].place if move else None
         if len(component.nodes) > MOST_MODES:
-            raise Refused("%s: more than %d least sets of events lead to modes, and each would be a mode" % (names, MOST_MODES), place)
+            raise Refused("%s: more than %d least sets of events lead to modes, and each would be a mode" % (names, MOST_MODES),
+                          place)
         if self.total > MOST_AFTER_SHOCKS:
             raise Refused("%s: more than %d modes after shocks" % (names, MOST_AFTER_SHOCKS), place)
         if above:
@@ -91,9 +92,10 @@ class Unfolding:
         """One further mode, whichever of the shocks comes."""
         if component.used:
             return
-        by = [(one, end) for one in self.group.shocks if (end := shocks.changes(self.groups, one, self.group, node.values))]
-        if by:
-            self._component(by[0][1], tuple(self.group.cluster.events), node, [(one.event, one.number) for one, _ in by], node.events)
+        ends = [(one, end) for one in self.group.shocks if (end := shocks.changes(self.groups, one, self.group, node.values))]
+        if ends:
+            by = [(one.event, one.number) for one, _ in ends]
+            self._component(ends[0][1], tuple(self.group.cluster.events), node, by, node.events)
 
     def _once_is_enough(self):
         """A shock may come again; it need not, if each mode where it would move the group again is also reached without

@@ -198,8 +198,9 @@ class Parser(Expressions):
                     self.replace(token, plain_word(token.text))
                 words = [word.text for word in self.attributes_of[member.name.start][number:number + 3]]
                 if words == ["hidden", "=", "true"]:
-                    self.notes.append(("event %s (hidden = true) is hidden: hide %s" % (member.name.text, member.name.text), member.name.start))
-                    self.insert(self.last.end, " hide %s;" % member.name.text)
+                    name = member.name.text
+                    self.notes.append(("event %s (hidden = true) is hidden: hide %s" % (name, name), member.name.start))
+                    self.insert(self.last.end, " hide %s;" % name)
         return found
 
     def parameter(self):
@@ -281,7 +282,8 @@ class Parser(Expressions):
         done = self.rendered(action.first, action.last) if action else "skip;"
         taken = self.rendered(*parts)
         test = self.rendered(guard.first, guard.last) if guard else "true"
-        self.edits.append(Edit(name.start, self.last.end, "%s: %s -> %s %s: !%s & %s;" % (own, test, done, name.text, own, taken)))
+        text = "%s: %s -> %s %s: !%s & %s;" % (own, test, done, name.text, own, taken)
+        self.edits.append(Edit(name.start, self.last.end, text))
         self.notes.append(("%s: its own guard and action become a hidden event that is a part of it" % name.text, name.start))
 
 

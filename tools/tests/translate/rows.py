@@ -20,7 +20,8 @@ def main():
     for block in blocks:
         head, *lines = block.strip().split("\n")
         model, observer, *words = head.split()
-        print("| `%s` | %s | `%s` | %s |" % (model.replace(",", "`, `"), "`%s`" % " ".join(words) if words else "", observer, answer(lines)))
+        asked = "`%s`" % " ".join(words) if words else ""
+        print("| `%s` | %s | `%s` | %s |" % (model.replace(",", "`, `"), asked, observer, answer(lines)))
 
 
 main()

@@ -8,7 +8,7 @@ models=tests/from_altarica
 here=tools/tests/translate
 
 # What a text means is what the program writes for `flat`.
-got=$(python3 $here/elaborated.py examples/*.alt tests/from_altarica/*.alt crates/altarica_cases/data/*{form,const,set,clone,part}*.model 2>&1 | grep -v "^[0-9]* models$\|symbol_and_flow")
+got=$(python3 $here/elaborated.py examples/*.alt tests/from_altarica/*.alt crates/altarica_cases/data/*{form,const,clone}*.model 2>&1 | grep -v "^[0-9]* models$\|symbol_and_flow")
 equal "what a text means is what the program writes for flat" '' "$got"
 
 # The kept lists; each is compared with all firing orders.
@@ -23,7 +23,7 @@ missing=$(for model in $models/*.alt; do grep -q "\b$(basename "$model" .alt)\b"
 equal "each model of $models is asked for" "$models/groups_of_three.alt" "$missing"
 
 # Random models.
-for words in "random 7000 7040" "trees 1 20" "random 9000 9012 broadcast" "random 10000 10012 settle"; do
+for words in "random 7000 7025" "trees 1 12" "random 9000 9008 broadcast" "random 10000 10008 settle"; do
   # shellcheck disable=SC2086
   got=$(python3 $here/against_orders.py $words 2>&1 | grep -v '^conflict in both\|^equal')
   equal "models by chance have the sets of their firing orders: $words" '' "$got"
@@ -107,3 +107,9 @@ sed -n 's/^| `\([a-z]*\)` | `.*` | `[a-z]*: .* | \(done\|refused\)[^|]*|$/\1 \2/
   $tool tests/literature/"$name".alt --profile --range 0..9 >/dev/null 2>&1
   equal "the form $name is $done" "$done" "$([ $? -eq 0 ] && echo "done" || echo refused)"
 done
+
+# Events that are left out of a list.
+$tool $models/edf.alt --immediate settle --map "$work/map" >"$work/new.alt" 2>/dev/null
+"$ALTARICA" cuts "$work/new.alt" --observer dead >"$work/list"
+equal "a list without events that happen at once" "{GRID.failure, DG.startFailure} {GRID.failure, DG.failure} {T1.failure, T2.failure, DG.startFailure} \
+{T1.failure, T2.failure, DG.failure} {BB.failure} count 5" "$($tool --back "$work/list" "$work/map" --leave-out DG.start 2>/dev/null | tr '\n' ' ' | sed 's/ $//')"

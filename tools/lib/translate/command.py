@@ -148,7 +148,7 @@ class Translation:
     def _at_once(self, system, drop):
         """The events that happen at once, if they are to settle; refused, if nothing is said of them."""
         found = [event for event in system.events.values() if event.at_once and event.path not in drop
-                 and any(way.event == event.path and not way.hidden for way in system.ways)]
+                 and any(not way.hidden for way in system.ways_of(event.path))]
         if not found or self.words.immediate == "ordinary":
             return frozenset()
         if self.words.immediate is None:

@@ -1,10 +1,10 @@
 """The command: its words, what it asks the program, and what it writes. Not proved."""
-import argparse
 import json
 import re
 import sys
 import tempfile
 
+import command
 import hierarchy
 import program
 import tokens
@@ -13,49 +13,35 @@ from translate.elaborate import elaborate
 from translate.refused import Refused
 from translate.source import Source
 
-DONE, NO_USE, PROGRAM_REFUSED, COULD_NOT = 0, 2, 3, 4
+DONE, NO_USE, PROGRAM_REFUSED, COULD_NOT = command.DONE, command.NO_USE, command.REFUSED, command.COULD_NOT
 OUTSIDE = 4
 """The status of the program for a model outside the static fragment."""
 PLACE = re.compile(r"([0-9]+):([0-9]+)")
 
-USE = """from_altarica MODEL.. [--map FILE] [--drop EVENTS] [--main B] [--immediate settle|ordinary] [--broadcast]
-                     [--range LOW..HIGH] [--scale N] [--profile]
-       from_altarica --back LISTING MAP [--observer O [--value V]] [--leave-out EVENTS]
-       from_altarica --place MAP LINE:COLUMN"""
 
-ABOUT = """Writes a model of AltaRica 3.0, as its authors write it, as a model of the profile for which `cuts` gives a list; and a
-listing of that model back in the names of the first one. What is changed in meaning or left out is said on standard
-error, a line each with its place. What cannot be translated is refused with its place and the reason. Not proved:
-docs/FROM_ALTARICA.md says what was tried."""
+def declare(parser):
+    parser.add_argument("model", nargs="*", action="store")
+    for name in ("--map", "--drop", "--main", "--range", "--observer", "--value", "--leave-out"):
+        parser.add_argument(name)
+    parser.add_argument("--immediate", choices=("settle", "ordinary"))
+    parser.add_argument("--scale", type=int)
+    for name in ("--broadcast", "--profile", "--back", "--place"):
+        parser.add_argument(name, action="store_true")
+    return parser
 
 
-def words_of(arguments):
-    parser = argparse.ArgumentParser(prog="from_altarica", usage=USE, description=ABOUT,
-                                     formatter_class=argparse.RawDescriptionHelpFormatter)
-    parser.add_argument("model", nargs="*", help="the model; several files are read as one text, in their order")
-    parser.add_argument("--map", metavar="FILE", help="writes the map that --back and --place need")
-    parser.add_argument("--drop", default="", metavar="EVENTS", help="events that are left out, with commas between")
-    parser.add_argument("--main", metavar="B", help="the main block, instead of the last one")
-    parser.add_argument("--immediate", choices=("settle", "ordinary"),
-                        help="events with a delay of zero: happen as soon as they can, or are events like others")
-    parser.add_argument("--broadcast", action="store_true",
-                        help="an optional part with several ways takes the one that it can")
-    parser.add_argument("--range", metavar="LOW..HIGH", help="the values of a variable that is Integer or Real")
-    parser.add_argument("--scale", type=int, default=1, metavar="N", help="numbers of expressions are divided by N")
-    parser.add_argument("--profile", action="store_true", help="writes the text after the changes of syntax alone")
-    parser.add_argument("--back", action="store_true", help="writes LISTING in the names of the first model of MAP")
-    parser.add_argument("--observer", metavar="O", help="with --back: each line in an order that ends with O at the value")
-    parser.add_argument("--value", default="true", metavar="V", help="the value of the observer, true where it is not given")
-    parser.add_argument("--leave-out", default="", metavar="EVENTS",
-                        help="with --back: events that are left out of the sets")
-    parser.add_argument("--place", action="store_true", help="the place in the first model of a place in the new one")
-    found = parser.parse_args(arguments)
-    wanted = 2 if found.back or found.place else None
-    if not found.model:
-        parser.error("a model is missing")
-    if wanted and len(found.model) != wanted or found.back and found.place:
-        parser.error("--back takes a listing and a map, --place a map and LINE:COLUMN")
-    return found, parser
+def settled(words):
+    """The words with what stands for those that were not given; NoUse where they go on no way together."""
+    if not words.model:
+        raise command.NoUse("a model is missing")
+    if words.back and words.place:
+        raise command.NoUse("--back and --place are not given together")
+    if (words.back or words.place) and len(words.model) != 2:
+        raise command.NoUse("--back takes a listing and a map, --place a map and LINE:COLUMN")
+    words.drop, words.leave_out = words.drop or "", words.leave_out or ""
+    words.value = "true" if words.value is None else words.value
+    words.scale = 1 if words.scale is None else words.scale
+    return words
 
 
 class Stopped(Exception):
@@ -181,7 +167,7 @@ def translate(words):
         elif any(new != found["event"] or found["also"] for new, found in events.items()):
             run.notes.append("%s: note: events of the new model stand for others: --map FILE keeps what --back needs to write "
                              "its list in the old names" % words.model[0])
-    program.write(run.trail.text)
+    command.write(run.trail.text)
     raise Stopped(DONE, *run.notes)
 
 
@@ -220,7 +206,7 @@ def write_back(words):
         text = listing.written(listed(words.leave_out), goal)
     except Refused as refused:
         raise Stopped(COULD_NOT, "%s: refused: %s" % (words.model[0], refused.reason)) from refused
-    program.write(text)
+    command.write(text)
     raise Stopped(DONE, *["%s: note: %s" % (words.model[0], note) for note in listing.notes])
 
 
@@ -229,24 +215,21 @@ def write_place(words):
     at = PLACE.fullmatch(words.model[1])
     if not at:
         raise Stopped(NO_USE, "from_altarica: %s is no LINE:COLUMN" % words.model[1])
-    program.write("%s:%d:%d\n" % places.place_in(found["places"], found["files"], int(at[1]), int(at[2])))
+    command.write("%s:%d:%d\n" % places.place_in(found["places"], found["files"], int(at[1]), int(at[2])))
     raise Stopped(DONE)
 
 
-def main(arguments):
-    if not arguments:
-        sys.stderr.write("%s\n\n%s\n" % (USE, ABOUT))
-        return NO_USE
-    words, _ = words_of(arguments)
+def work(words):
+    """Does what the words ask and returns the status."""
+    words = settled(words)
     try:
         (write_back if words.back else write_place if words.place else translate)(words)
     except Stopped as stopped:
+        sys.stdout.flush()
         for line in stopped.lines:
-            sys.stderr.write(line + "\n")
+            sys.stderr.buffer.write((line + "\n").encode("latin-1", "backslashreplace"))
+        sys.stderr.buffer.flush()
         return stopped.status
-    except hierarchy.Unknown:
-        sys.stderr.write("%s: refused: it has more units, or deeper ones, than are read\n" % words.model[0])
-        return COULD_NOT
+    except hierarchy.Unknown as error:
+        raise command.CouldNot("%s: it has more units, or deeper ones, than are read" % command.shown(words.model[0])) from error
     return DONE
-
-

@@ -38,18 +38,30 @@ def unit_of(label):
     return label.split(".")[0]
 
 
-def reached(model, most=99, across=False):
-    """For each order of events up to `most` of which no other order of the same events came first: what `shows` has after it.
-    Orders with events of several parts of the main block are left out, where `across` does not ask for them."""
+def steps(before, order):
+    """The lines that lead from one order of events to the next."""
+    same = len(os.path.commonprefix([before, order]))
+    return ["back"] * (len(before) - same) + ["fire " + label for label in order[same:]]
+
+
+def walked(model, orders):
+    """What `shows` has after each of these orders."""
+    lines, before = [], ()
+    for order in orders:
+        lines += [*steps(before, order), "show", "enabled"]
+        before = order
+    return dict(zip(orders, shows(replayed(model, lines))))
+
+
+def reached(model, most):
+    """The same for each order of events up to `most` of which no other order of the same events came first."""
     level, found = [()], {}
     while level:
-        lines = [line for order in level for line in [*("fire " + label for label in order), "show", "enabled", *["back"] * len(order)]]
-        found.update(zip(level, shows(replayed(model, lines))))
+        found.update(walked(model, level))
         further = {}
         for order in level:
             for label in found[order][2] if len(order) < most else ():
-                if across or not order or unit_of(label) == unit_of(order[0]):
-                    further.setdefault(frozenset((*order, label)), (*order, label))
+                further.setdefault(frozenset((*order, label)), (*order, label))
         level = list(further.values())
     return found
 

@@ -31,7 +31,7 @@ def is_news(order, found):
 
 def slips(model, size):
     """What differs in the table of single events, or of pairs."""
-    found = reached(model, size, True)
+    found = reached(model, size)
     wanted = [row(order, found) for order in found if len(order) == size and (size == 1 or is_news(order, found))]
     got = table(model, *["--pairs"][:size - 1])[1:]
     return [(one, two) for one, two in zip(got, wanted) if one != two][:2] + [len(got)] * (len(got) != len(wanted))

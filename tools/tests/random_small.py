@@ -1,6 +1,7 @@
-"""Random static models of at most seven events, with parts of two classes, two observers and rates, for the tests of the
+"""Random static models of at most six events, with parts of two classes, two observers and rates, for the tests of the
 helpers. Several are written as the parts of one text, so that the program is asked less often: what is true of a part is true of
 the model by itself."""
+import itertools
 import random
 
 PARTS = """domain Mode {OK, WORN, DEAD, STUCK}
@@ -27,7 +28,7 @@ class Model:
     def __init__(self, seed):
         self.draw = random.Random(seed)
         self.pumps = ["p%d" % k for k in range(self.draw.choice((0, 1, 1)))]
-        self.switches = ["s%d" % k for k in range(self.draw.randint(2, 7 - 3 * len(self.pumps)))]
+        self.switches = ["s%d" % k for k in range(self.draw.randint(2, 6 - 3 * len(self.pumps)))]
         self.flows = ["f%d" % k for k in range(self.draw.randint(1, 3))]
         self.members = self.made()
 
@@ -47,6 +48,13 @@ class Model:
             return "count(%s) >= %d" % (", ".join(parts), self.draw.randint(1, len(parts)))
         return "(%s)" % (" %s " % form).join("(%s)" % part for part in parts)
 
+    def orders(self, unit):
+        """Each set of events that can happen in this unit, in one order; what begins an order comes before it."""
+        parts = [[[], ["%s.%s.fail" % (unit, name)]] for name in self.switches]
+        parts += [[[], [name + ".wear"], [name + ".wear", name + ".die"], [name + ".stick"]]
+                  for name in ("%s.%s" % (unit, pump) for pump in self.pumps)]
+        return sorted(tuple(itertools.chain(*one)) for one in itertools.product(*parts))
+
     def made(self):
         lines = [*("  Switch %s;" % name for name in self.switches), *("  Pump %s;" % name for name in self.pumps),
                  "  Boolean %s (reset = false);" % ", ".join(self.flows)]
@@ -59,6 +67,11 @@ def text_of(seeds):
     """A text with a part `mSEED` for each seed."""
     classes = ["class Plant%d\n%s\nend" % (seed, Model(seed).members) for seed in seeds]
     return PARTS + "\n".join([*classes, "block All", *("  Plant%d m%d;" % (seed, seed) for seed in seeds), "end"]) + "\n"
+
+
+def orders_of(seeds):
+    """The orders of all the models of a text."""
+    return [order for seed in seeds for order in Model(seed).orders("m%d" % seed)]
 
 
 def changed(text, seed):

@@ -3,6 +3,7 @@ and the reasons are the program's `replay` and `explain`."""
 import re
 
 import runs
+import texts
 from command import CouldNot
 
 REASON = re.compile(r"(\S+) = (.*?) (?:by reset|round [0-9]+ assignment [0-9]+ at ([0-9]+):[0-9]+(?: from (.*))?)")
@@ -27,20 +28,66 @@ def steps(trace):
     return lines, known
 
 
-def reasons(source, labels, observer):
-    """The lines of `explain` on the flows of the observer, each with its path."""
+def reasons(source, labels):
+    """For each flow what `explain` says of it: the line of its assertion, or None, and the variables that it has its value from."""
     with runs.script_of(["fire " + label for label in labels]) as script:
-        text = source.ask("explain", ["--observer=" + observer], [script.name])
-    return [(found[1], found) for found in map(REASON.fullmatch, text.splitlines()) if found]
+        text = source.ask("explain", [], [script.name])
+    found = [one for one in map(REASON.fullmatch, text.splitlines()) if one]
+    return {one[1]: (one[3], (one[4] or "").split(", ") if one[4] else []) for one in found}
 
 
-def told(reason, known, changed):
-    """A reason in words: the value, the line of the assignment, and the values from which it comes, changed ones with a star."""
-    path, value, line, sources = reason.groups()
-    if line is None:
-        return "  %s = %s: no assertion gives it a value now, so it has its reset" % (path, value)
-    named = ", ".join("%s = %s%s" % (it, known["", it], "*" if it in changed else "") for it in (sources or "").split(", ") if it)
-    return "  %s = %s: line %s%s" % (path, value, line, ", from " + named if named else "")
+def names_of(one):
+    """What an assignment names in its value and its conditions."""
+    return texts.words(one.set.value).union(*(texts.words(expression) for expression, _ in one.set.conditions))
+
+
+class Reasons:
+    """Why the flows have their values at the end of a run."""
+
+    def __init__(self, source, labels, known, changed):
+        self.flat, self.known, self.changed = source.flat, known, changed
+        self.said = reasons(source, labels)
+        self.asserts = {}
+        for one in self.flat.asserts:
+            self.asserts.setdefault(one.set.target, []).append(one)
+
+    def named(self, path):
+        return "%s = %s%s" % (path, self.known["", path], "*" if path in self.changed else "")
+
+    def sources(self, path):
+        """The variables from which a flow has its value; of one with its reset all that its assertions name."""
+        line, found = self.said.get(path, (None, []))
+        if line is not None:
+            return found
+        names = {name for one in self.asserts.get(path, ()) for name in names_of(one)}
+        return [it for it in self.flat.variables if it in names]
+
+    def told(self, path):
+        """The line on a flow."""
+        line = self.said.get(path, (None, []))[0]
+        named = ", ".join(map(self.named, self.sources(path)))
+        if line is not None:
+            return "  %s: line %s%s" % (self.named(path), line, ", from " + named if named else "")
+        lines = sorted({one.line for one in self.asserts.get(path, ())})
+        if not lines:
+            return "  %s: no assertion sets it, so it has its reset" % self.named(path)
+        return "  %s: no value comes from line %s, so it has its reset; there %s" % (
+            self.named(path), " or ".join(map(str, lines)), named or "nothing is read")
+
+    def lines(self, observer):
+        """The lines on each flow that has changed and that the observer reads, itself or by other flows that have changed."""
+        expression = next(one.value for one in self.flat.observers if one.path == observer)
+        todo = [path for path in self.flat.variables if path in texts.words(expression)]
+        seen, found = set(todo), []
+        while todo:
+            path = todo.pop(0)
+            if path not in self.changed or self.flat.variables[path].state:
+                continue
+            found.append(self.told(path))
+            further = [it for it in self.sources(path) if it not in seen]
+            seen.update(further)
+            todo += further
+        return found
 
 
 def story(source, labels, observer):
@@ -54,7 +101,7 @@ def story(source, labels, observer):
         raise CouldNot("there is no observer %s" % observer)
     lines, known = steps(trace)
     changed = {path for path, value in start.values.items() if known["", path] != value}
-    why = [told(reason, known, changed) for path, reason in reasons(source, labels, observer) if path in changed]
+    why = Reasons(source, labels, known, changed).lines(observer)
     return ["{%s}" % ", ".join(labels), "", "At the start %s = %s." % (observer, start.observers[observer]), *lines,
-            "", "At the end %s = %s. Of the flows that it reads these have changed:" % (observer, known["observer ", observer]),
-            *(why or ["  none: it reads states alone"])]
+            "", "At the end %s = %s. A star is on what has changed:" % (observer, known["observer ", observer]),
+            *(why or ["  it reads no flow that has changed"])]

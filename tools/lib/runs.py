@@ -64,6 +64,14 @@ def start(source):
     return found.steps[0], list(found.steps[1].values)
 
 
+def enabled(source, events=()):
+    """The labels that can be fired after these events, in the order of the program; CouldNot where they meet a fault."""
+    found = trace(source, ["fire " + label for label in events] + ["enabled"])
+    if found.fault:
+        raise CouldNot("fault: %s" % found.fault)
+    return list(found.steps[-1].values)
+
+
 def bundles(runs):
     """The runs in bundles, of each of which a script has few bytes."""
     found, size = [], MOST_BYTES

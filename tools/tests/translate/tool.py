@@ -1,16 +1,41 @@
-"""`from_altarica`, called without a process of its own."""
+"""Runs `from_altarica` in this process."""
+import contextlib
 import io
 import sys
 
-from translate import command
+import command
+from translate import command as translation
+
+
+class Kept(io.StringIO):
+    """A stream of which the bytes are kept as text too."""
+
+    @property
+    def buffer(self):
+        kept = self
+
+        class Bytes:
+            @staticmethod
+            def write(piece):
+                kept.write(piece.decode("latin-1"))
+
+            @staticmethod
+            def flush():
+                pass
+
+        return Bytes
 
 
 def tool(*words):
-    """The status, the output and the messages of `from_altarica` on these words."""
-    kept, sys.stdout, sys.stderr = (sys.stdout, sys.stderr), io.TextIOWrapper(io.BytesIO()), io.StringIO()
-    try:
-        status = command.main(list(words))
-        sys.stdout.flush()
-        return status, sys.stdout.buffer.getvalue().decode("latin-1"), sys.stderr.getvalue()
-    finally:
-        sys.stdout, sys.stderr = kept
+    """The status and what it writes to the two outputs."""
+    out, err = Kept(), Kept()
+    with contextlib.redirect_stdout(out), contextlib.redirect_stderr(err):
+        try:
+            status = translation.work(translation.declare(command.Words()).parse_args(list(words)))
+        except command.NoUse as error:
+            status = command.NO_USE
+            sys.stderr.write("%s\n" % error)
+        except Exception as error:
+            status = command.COULD_NOT
+            sys.stderr.write("%s\n" % command.reason_of(error))
+    return status, out.getvalue(), err.getvalue()

@@ -130,8 +130,9 @@ class Listing:
         sets = sorted(least(lines), key=lambda one: sorted(self.number[event] for event in one))
         if len(sets) < len(lines):
             left_out = len(texts.cuts(self.text)) - len(sets)
-            self.notes.append("%d lines are left out: in the names of the first model they are the same as others, or have "
-                              "others in them" % left_out)
+            said = "1 line is" if left_out == 1 else "%d lines are" % left_out
+            self.notes.append("%s left out: in the names of the first model %s the same as others, or with others in them"
+                              % (said, "it is" if left_out == 1 else "they are"))
         orders = Orders(self.system, goal)
         written = ["{%s}" % ", ".join(self._labels(orders, one, lines[one])) for one in sets]
         return "\n".join([*written, "count %d" % len(sets)]) + "\n"
@@ -152,7 +153,8 @@ class Listing:
         """The line of a fault, with old events and the place in the first text."""
         labels, what = FAULT.fullmatch(line).groups()
         events = dict.fromkeys(event for label in labels.split(", ") if label for event in old_events(self.map["events"], label))
-        self.notes.append("after these events the flows contradict each other; this set need not be the first or a least one")
+        self.notes.append("after these events the flows contradict each other, or one is outside its domain (a wider --range may help); "
+                          "this set need not be the first or a least one")
         return "fault: {%s}: %s\n" % (", ".join(events), ASSIGNMENT.sub(self._assignment, what))
 
     def _assignment(self, found):

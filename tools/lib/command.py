@@ -130,6 +130,13 @@ def put(name, content):
         raise
 
 
+def apart(written, *read):
+    """NoUse where the file that is to be written is one of those that are read."""
+    for name in read:
+        if written is not None and name != "-" and os.path.isfile(written) and os.path.exists(name) and os.path.samefile(written, name):
+            raise NoUse("%s is read, so it is not written too" % written)
+
+
 def version():
     """The helper's name with the date of the newest change."""
     try:

@@ -5,7 +5,7 @@ A question is written `[BLOCK:]OBSERVER[=VALUE]`, several with commas between th
 from collections import namedtuple
 
 import texts
-from command import Refused, shown
+from command import NoUse, Refused, shown
 from model import Source
 
 Question = namedtuple("Question", "name block observer value")
@@ -20,8 +20,13 @@ def read(text, block=None):
 
 
 def read_all(text, block=None):
-    """The questions of a word, which has commas between them."""
-    return [read(one, block) for one in (text or "").split(",") if one]
+    """The questions of a word, which has commas between them; none where there is no word."""
+    if text is None:
+        return []
+    found = [read(one, block) for one in text.split(",")]
+    if not all(question.observer for question in found):
+        raise NoUse("`%s` does not name an observer in each place" % text)
+    return found
 
 
 def boolean_observers(source):

@@ -76,8 +76,10 @@ class Reader:
         return self.tree.bodies.members(self.nodes[path].scope.unit) if path in self.nodes else ()
 
     def setting(self, above, name, rest):
-        """The setting that a unit gives to a parameter below one of its parts, or None."""
+        """The setting that a unit gives to a parameter below one of its parts, or None. Those of a clone are not read."""
         for member in self.members(above):
+            if member.kind == "clones" and member.name.text == name:
+                raise Unknown(name)
             if member.kind == "variables" and name in [it.text for it in member.parts[1]]:
                 return next((it for it in member.parts[2] if [word.text for word in it.words] == rest), None)
         return None
@@ -163,7 +165,7 @@ def of(source, events, time):
         name, value = law
         if name.text == "exponential" and time is None:
             reader.fail(name, "this rate needs a mission time: --time HOURS")
-        if value < 0 or name.text == "constant" and value > 1:
+        if not (value >= 0 and math.isfinite(value)) or name.text == "constant" and value > 1:
             reader.fail(name, "the delay of `%s` has the number %g" % (event, value))
         found[event] = chance(name.text, value, time)
     return found

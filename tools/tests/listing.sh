@@ -84,3 +84,33 @@ if have scram; then
 else
   skipped "the numbers with scram" scram
 fi
+
+# A rate of a clone is not read: it has the settings of what it copies. A list is a set of cut sets. A model is not written over.
+cat >"$work/clone.alt" <<'END'
+class P
+  parameter Real r = 1.0e-3;
+  Boolean ok (init = true);
+  event fail (delay = exponential(r));
+  transition
+    fail: ok -> ok := false;
+end
+block M
+  P a (r = 5.0e-1);
+  clones a as b;
+  observer Boolean lost = not a.ok and not b.ok;
+end
+END
+"$ALTARICA" cuts "$work/clone.alt" --observer lost >"$work/clone.cuts"
+equal "the rate of a clone is asked for" "4 quantify: the delay of \`b.fail\` cannot be read from the text: give a number in a file" \
+  "$(said=$(tools/quantify "$work/clone.cuts" --model "$work/clone.alt" --time 1 2>&1); echo "$? $said")"
+printf '%s\n' '{a, b}' '{b, a}' '{c}' '{c}' 'count 4' >"$work/twice.cuts"
+printf '%s\n' 'a 0.1' 'b 0.1' 'c 0.01' >"$work/numbers"
+equal "a cut set that a list has twice counts once" "rare-event sum           0.02" "$(tools/quantify "$work/twice.cuts" "$work/numbers" 2>&1 | head -n 1)"
+cp "$work/clone.alt" "$work/kept.alt"
+statuses=$(tools/report "$work/kept.alt" --observer lost --out "$work/kept.alt" >/dev/null 2>&1; echo -n "$? "
+  tools/draw units "$work/kept.alt" --out "$work/kept.alt" >/dev/null 2>&1; echo -n "$? "
+  tools/from_altarica "$work/kept.alt" --map "$work/kept.alt" >/dev/null 2>&1; echo -n "$? "
+  tools/compare_models "$work/kept.alt" "$work/kept.alt" --observer '' >/dev/null 2>&1; echo -n "$? "
+  tools/effects "$work/kept.alt" --no-single , >/dev/null 2>&1; echo -n "$? "
+  cmp -s "$work/kept.alt" "$work/clone.alt" && echo kept)
+equal "a model that is read is not written over, and a question names an observer" '2 2 2 2 2 kept' "$statuses"

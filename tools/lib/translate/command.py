@@ -38,6 +38,7 @@ def settled(words):
         raise command.NoUse("--back and --place are not given together")
     if (words.back or words.place) and len(words.model) != 2:
         raise command.NoUse("--back takes a listing and a map, --place a map and LINE:COLUMN")
+    command.apart(words.map, *words.model)
     words.drop, words.leave_out = words.drop or "", words.leave_out or ""
     words.value = "true" if words.value is None else words.value
     words.scale = 1 if words.scale is None else words.scale

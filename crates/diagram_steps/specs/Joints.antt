@@ -2,11 +2,13 @@
 use Rattle.std.specs.Prelude.{◌≡◌, ℕ, Bool, true, false, cond, not, ◌&&◌, ◌||◌, List, [], ◌∷◌}
 use Rattle.ar_base.specs.Lists.{Stands}
 use Rattle.mode_nodes.specs.Diagrams.{DiagramId, Stored, value, IsNumber}
+use Rattle.mode_nodes.specs.Bounds.{Bounded, Allows}
 
--- r is n, or its opposite where the sign is false
-pub record IsSigned (s : Stored) (n : ℕ) (sign : Bool) (t : Stored) (r : ℕ) : Type 0 where
+-- r is n, or its opposite where the sign is false, at the modes that cost no more than is enough
+pub record IsSigned (s : Bounded) (n : ℕ) (sign : Bool) (t : Stored) (r : ℕ) : Type 0 where
   pub number : IsNumber t r
-  pub same : (modes : List ℕ) → value t modes r ≡ cond sign (value s modes n) (not (value s modes n))
+  pub same : (modes : List ℕ) → Allows s modes
+      → value t modes r ≡ cond sign (value s.store modes n) (not (value s.store modes n))
 
 -- the table has numbers of the store
 pub record AreTabled (table : List DiagramId) (s : Stored) : Type 0 where
@@ -18,7 +20,7 @@ joint_value all s modes [] = all
 joint_value true s modes (n ∷ ns) = value s modes n.n && joint_value true s modes ns
 joint_value false s modes (n ∷ ns) = value s modes n.n || joint_value false s modes ns
 
--- r has these values of these diagrams
-pub record IsJoint (all : Bool) (s : Stored) (ns : List DiagramId) (t : Stored) (r : ℕ) : Type 0 where
+-- r has these values of these diagrams, at the modes that cost no more than is enough
+pub record IsJoint (all : Bool) (s : Bounded) (ns : List DiagramId) (t : Stored) (r : ℕ) : Type 0 where
   pub number : IsNumber t r
-  pub same : (modes : List ℕ) → value t modes r ≡ joint_value all s modes ns
+  pub same : (modes : List ℕ) → Allows s modes → value t modes r ≡ joint_value all s.store modes ns

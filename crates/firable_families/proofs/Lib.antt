@@ -5,6 +5,7 @@ pub mod Whole
 pub mod Trees
 pub mod ModePaths
 pub mod Products
+pub mod Few
 pub mod Halving
 pub mod InForests
 pub mod Cutting

@@ -1,5 +1,5 @@
 -- Families that list the sets with a property, and what filters and minimal sets then list.
-use Rattle.std.proofs.Common.{◌≡◌, ℕ, zero, suc, ◌<◌, Bool, true, false, not, ◌&&◌, ◌||◌, List, [], ◌∷◌, Some, filter, refl, sym, ap, ap₂, ◌∙◌, subst, arith, true≢false, Less}
+use Rattle.std.proofs.Common.{◌≡◌, ℕ, zero, suc, ◌<◌, Bool, true, false, not, ◌&&◌, ◌||◌, List, [], ◌∷◌, Option, Some, filter, refl, sym, ap, ap₂, ◌∙◌, subst, arith, true≢false, Less}
 use Rattle.std.specs.List.{AllByRecursion, list_any}
 use Rattle.std.proofs.lemmas.Bool.{and_parts}
 use Rattle.ar_base.specs.Lists.{Stands, IsOneOf}
@@ -15,7 +15,7 @@ use Rattle.zdd_families.proofs.Filters.{IsFamily-filter}
 use Rattle.zdd_families.proofs.Laws.{same-true, same-refl, any_more, has-filter-yes}
 use Rattle.zdd_families.proofs.Members.{within_law, same_law, order_law, has-filter}
 use Rattle.zdd_families.proofs.Minimal.{witness, member_of, any_from}
-use Rattle.firable_families.specs.Firable.{IsFirableOf, IsTrueAt, IsOfMembers, ListsLeast}
+use Rattle.firable_families.specs.Firable.{IsFirableUpTo, IsTrueUpTo, IsOfMembers, ListsLeastUpTo}
 
 -- the family lists the sets with P
 pub record Lists (P : List ℕ → Type 0) (f : Family) : Type 0 where
@@ -163,13 +163,13 @@ minimal_lists {P = P} {f = f} l = record {
             not_true (same u.set t) p.1 ((same_law u.set t).1 e)
 
 -- ---- the answer
-pub true_lists : (trees : List ModeTree) (test : List ℕ → Bool) → IsOfMembers test → (all : Family)
-    → AreListed (IsFirableOf trees) all → Lists (IsTrueAt trees test) (filter test all)
-true_lists trees test members all l =
+pub true_lists : (order : Option ℕ) (trees : List ModeTree) (test : List ℕ → Bool) → IsOfMembers test → (all : Family)
+    → AreListed (IsFirableUpTo order trees) all → Lists (IsTrueUpTo order trees test) (filter test all)
+true_lists order trees test members all l =
     lists_as (λ s p. record { is_firable = p.0; holds = p.1 }) (λ s q. (q.is_firable, q.holds))
     (filter_lists test members (listed_lists l))
 
 -- the minimal sets of the family of a test are listed as the least firable sets at which it is true
-pub least_listed : (trees : List ModeTree) (test : List ℕ → Bool) → IsOfMembers test → (all : Family)
-    → AreListed (IsFirableOf trees) all → ListsLeast trees test (minimal (filter test all))
-least_listed trees test members all l = lists_listed (minimal_lists (true_lists trees test members all l))
+pub least_listed : (order : Option ℕ) (trees : List ModeTree) (test : List ℕ → Bool) → IsOfMembers test → (all : Family)
+    → AreListed (IsFirableUpTo order trees) all → ListsLeastUpTo order trees test (minimal (filter test all))
+least_listed order trees test members all l = lists_listed (minimal_lists (true_lists order trees test members all l))

@@ -1,11 +1,11 @@
 -- Paths in trees, and the sets of events that are firable in all of them.
-use Rattle.std.specs.Prelude.{◌≡◌, ℕ, Bool, true, List, [], ◌∷◌}
+use Rattle.std.specs.Prelude.{◌≡◌, ℕ, Bool, true, List, [], ◌∷◌, Option, Some, None}
 use Rattle.ar_base.specs.Lists.{Stands, IsOneOf}
 use Rattle.ar_base.specs.Sets.{Within}
 use Rattle.domains.specs.declared.Value.{Value}
 use Rattle.ar_meaning.specs.Runs.{Label}
 use Rattle.ar_firing.specs.Forest.{ModeTree}
-use Rattle.ar_firing.specs.Cuts.{IsLeast}
+use Rattle.ar_firing.specs.Cuts.{IsLeast, HasAtMost}
 use Rattle.ar_firing.specs.Listed.{AreListed}
 
 -- the tree's edges with these labels, the last first, lead from its first mode to this one
@@ -36,15 +36,28 @@ pub record IsFirableOf (trees : List ModeTree) (set : List ℕ) : Type 0 where
   pub whole : (e : ℕ) → IsOneOf set e
       → (k : ℕ) × (tree : ModeTree) × (l : Label) × Stands trees k tree × IsOneOf (path k) l × (l.event ≡ e)
 
--- the set is firable in the trees, and the test is true of it
-pub record IsTrueAt (trees : List ModeTree) (test : List ℕ → Bool) (set : List ℕ) : Type 0 where
-  pub is_firable : IsFirableOf trees set
+-- the set is firable in the trees, and has at most as many events as are asked for; where no number is given, it is firable
+abbrev pub IsFirableUpTo : Option ℕ → List ModeTree → List ℕ → Type 0
+IsFirableUpTo None trees = IsFirableOf trees
+IsFirableUpTo (Some k) trees = λ set. IsFirableOf trees set × HasAtMost k set
+
+-- the set is one of those, and the test is true of it
+pub record IsTrueUpTo (order : Option ℕ) (trees : List ModeTree) (test : List ℕ → Bool) (set : List ℕ) : Type 0 where
+  pub is_firable : IsFirableUpTo order trees set
   pub holds : test set ≡ true
+
+-- the set is firable in the trees, and the test is true of it
+abbrev pub IsTrueAt : List ModeTree → (List ℕ → Bool) → List ℕ → Type 0
+IsTrueAt trees test set = IsTrueUpTo None trees test set
 
 -- the test answers by the set's members alone, however its list has them
 pub record IsOfMembers (test : List ℕ → Bool) : Type 0 where
   pub same : (s t : List ℕ) → Within s t → Within t s → test s ≡ test t
 
+-- the list has the least firable sets of at most as many events as are asked for at which the test is true
+abbrev pub ListsLeastUpTo : Option ℕ → List ModeTree → (List ℕ → Bool) → List (List ℕ) → Type 0
+ListsLeastUpTo order trees test sets = AreListed (IsLeast (IsTrueUpTo order trees test)) sets
+
 -- the list has the least firable sets at which the test is true
 abbrev pub ListsLeast : List ModeTree → (List ℕ → Bool) → List (List ℕ) → Type 0
-ListsLeast trees test sets = AreListed (IsLeast (IsTrueAt trees test)) sets
+ListsLeast trees test sets = ListsLeastUpTo None trees test sets

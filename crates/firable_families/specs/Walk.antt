@@ -1,6 +1,6 @@
 -- The walk through the events by number, with the paths that are still possible in each tree.
-use Rattle.std.specs.Prelude.{◌≡◌, ◌<◌, ℕ, zero, suc, Bool, cond, ◌&&◌, eqb, true, List, [], ◌∷◌, map}
-use Rattle.std.specs.List.{list_any, list_all}
+use Rattle.std.specs.Prelude.{◌≡◌, ◌-◌, ◌<◌, ℕ, zero, suc, Bool, cond, ◌&&◌, eqb, leb, true, List, [], ◌∷◌, length, map, Option, Some, None}
+use Rattle.std.specs.List.{filter, list_any, list_all}
 use Rattle.ar_base.specs.Lists.{Stands, Along}
 use Rattle.ar_firing.specs.Forest.{ModeTree}
 use Rattle.ar_firing.specs.Listed.{AreListed}
@@ -35,6 +35,16 @@ abbrev pub left : ℕ → ℕ → List Family → Family
 left zero i fs = cond (list_all (λ f. has f []) fs) ([] ∷ []) []
 left (suc k) i fs = node i (left k (suc i) (all_lower i fs))
     (cond (some_occurs i fs) (left k (suc i) (all_taken i fs)) [])
+
+-- the sets of the family that have at most as many members as are asked for; all of them where no number is given
+abbrev pub few_of : Option ℕ → Family → Family
+few_of None f = f
+few_of (Some k) f = filter (λ s. leb (length s) k) f
+
+-- one event fewer
+abbrev pub one_fewer : Option ℕ → Option ℕ
+one_fewer None = None
+one_fewer (Some k) = Some (k - 1)
 
 -- the sets still possible in each tree after so many events from number i on, of which exactly those of the set were
 -- taken

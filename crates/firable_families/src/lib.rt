@@ -3,7 +3,7 @@
 //! The definitions stand in `specs/`. Each function here has an empty body and states a law of them.
 #![tactic(auto)]
 
-ghost use Rattle.std.specs.Prelude.{◌≡◌, ◌+◌, ◌<◌, ◌↔◌, ℕ, Bool, List, [], cond};
+ghost use Rattle.std.specs.Prelude.{◌≡◌, ◌+◌, ◌<◌, ◌↔◌, ℕ, Bool, List, [], cond, Option};
 ghost use Rattle.std.specs.List.{AllByRecursion, filter};
 ghost use Rattle.ar_base.specs.Sets.{Ascends};
 ghost use Rattle.domains.specs.declared.Value.{Value};
@@ -18,9 +18,9 @@ ghost use Rattle.mode_trees.specs.declared.forests.Forest.{Forest};
 ghost use Rattle.mode_trees.specs.Views.{trees_of};
 ghost use Rattle.zdd_families.specs.Families.{Family, IsFamily, minimal};
 ghost use Rattle.zdd_families.specs.Sections.{section};
-ghost use Rattle.firable_families.specs.Firable.{IsPathSet, IsFirableOf, IsOfMembers, ListsLeast};
+ghost use Rattle.firable_families.specs.Firable.{IsPathSet, IsFirableOf, IsFirableUpTo, IsOfMembers, ListsLeast, ListsLeastUpTo};
 ghost use Rattle.firable_families.specs.Entries.{AreEntries, HasEntries};
-ghost use Rattle.firable_families.specs.Walk.{left, after, could, AreTreeFamilies, AreEventsBelow};
+ghost use Rattle.firable_families.specs.Walk.{left, after, could, few_of, AreTreeFamilies, AreEventsBelow};
 
 /// Laws of the families of firable sets.
 ///
@@ -28,7 +28,9 @@ ghost use Rattle.firable_families.specs.Walk.{left, after, could, AreTreeFamilie
 ///   left after some of them is a section of their family.
 /// - `tree_families`: The family of a tree's modes, each with the events of a path to it, lists the tree's
 ///   paths.
-/// - `least_sets`: The minimal sets of the firable ones at which a test is true are the least such sets.
+/// - `small_sets`: Of the firable sets that are listed, those of at most so many events are listed.
+/// - `least_sets`: The minimal sets of the firable ones at which a test is true are the least such sets; also where only
+///   sets of at most so many events are asked for.
 /// - `firable_in_forests`, `least_in_forests`: In the trees of its forest the sets are firable that are so in a
 ///   static system, and the least of them at which a test is true are the system's.
 /// - `firable_by_ways`, `trees_by_ways`: How the ways of a forest are numbered changes nothing in what is
@@ -43,8 +45,11 @@ pub fn firable_laws<V>()
     ensures tree_families { (tree : ModeTree) → IsTree tree → (entries : List (Value × List ℕ))
         → AreEntries tree entries
         → (f : Family) → IsFamily f → HasEntries entries f → AreListed (IsPathSet tree) f }
-    ensures least_sets { (trees : List ModeTree) (test : List ℕ → Bool) → IsOfMembers test → (all : Family)
-        → AreListed (IsFirableOf trees) all → ListsLeast trees test (minimal (filter test all)) }
+    ensures small_sets { (order : Option ℕ) (trees : List ModeTree) (all : Family)
+        → AreListed (IsFirableOf trees) all → AreListed (IsFirableUpTo order trees) (few_of order all) }
+    ensures least_sets { (order : Option ℕ) (trees : List ModeTree) (test : List ℕ → Bool)
+        → IsOfMembers test → (all : Family) → AreListed (IsFirableUpTo order trees) all
+        → ListsLeastUpTo order trees test (minimal (filter test all)) }
     ensures firable_in_forests { (sys : System V) (dropped : List ℕ) → IsKeyedStatic sys dropped
         → (trees : List ModeTree) → IsForest sys dropped trees
         → (set : List ℕ) → (IsFirableOf trees set

@@ -4,6 +4,7 @@ use Rattle.zdd_families.proofs.Ascending.{is_ascending}
 use Rattle.firable_families.proofs.Trees.{walk_lists}
 use Rattle.firable_families.proofs.Walking.{left_section}
 use Rattle.firable_families.proofs.ModePaths.{entries_listed}
+use Rattle.firable_families.proofs.Few.{few_listed}
 use Rattle.firable_families.proofs.Listing.{least_listed}
 use Rattle.firable_families.proofs.InForests.{firable_in_system, firable_in_trees}
 use Rattle.firable_families.proofs.Cutting.{in_system}
@@ -23,6 +24,9 @@ returns-clause-sections_of_walk g c = λ m k p fs a u. left_section m _ k 0 m p 
 
 pub returns-clause-tree_families : goal.returns-clause-tree_families
 returns-clause-tree_families g c = entries_listed
+
+pub returns-clause-small_sets : goal.returns-clause-small_sets
+returns-clause-small_sets g c = few_listed
 
 pub returns-clause-least_sets : goal.returns-clause-least_sets
 returns-clause-least_sets g c = least_listed

@@ -96,6 +96,9 @@ by_modes_moved trees ns more p ascend b =
         each = λ k n st. let o = to n (one_here more k n st) in b.numbered.each o.place n o.stands;
       };
       apart = apart;
+      different = record {
+        each = λ k n st. let o = to n (one_here more k n st) in b.different.each o.place n o.stands;
+      };
       modes = λ set f. let m = b.modes set f in set_moved ns m.0 more set to back b.apart m.1;
       firable = λ modes set s. let m = set_moved more modes ns set back to apart s in b.firable m.0 set m.1;
     }

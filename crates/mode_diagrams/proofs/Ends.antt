@@ -12,6 +12,7 @@ use Rattle.diagram_steps.specs.declared.trees.NumberedEdge.{NumberedEdge}
 use Rattle.diagram_steps.specs.declared.trees.NumberedTree.{NumberedTree}
 use Rattle.diagram_steps.specs.Trees.{edges_of}
 use Rattle.mode_diagrams.specs.Trees.{IsOnPath, last, earlier, IsNumbered}
+use Rattle.mode_diagrams.specs.Costs.{HasDifferentEvents}
 use Rattle.mode_diagrams.specs.Numbers.{modes_in, IsNumberOf}
 
 -- an edge of this event is one of these labels'
@@ -141,4 +142,12 @@ module _ (tree : ModeTree) (t : IsTree tree) (n : NumberedTree) (is : IsNumberOf
     each = λ m x st.
         let row = stands_some tree.edges m (omega (arith, is.long, stands_within (edges_of n) m x st)) in
         (is.from m row.0 x row.1 st).early;
+  }
+
+  pub has_different : HasDifferentEvents n
+  has_different = record {
+    one = λ j k a b sa sb e.
+        let p = stands_some tree.edges j (omega (arith, is.long, stands_within (edges_of n) j a sa)) in
+        let q = stands_some tree.edges k (omega (arith, is.long, stands_within (edges_of n) k b sb)) in
+        t.event j k p.0 q.0 p.1 q.1 (sym (is.event j p.0 a p.1 sa) ∙ e ∙ is.event k q.0 b q.1 sb);
   }

@@ -12,7 +12,7 @@ use Rattle.diagram_steps.specs.declared.trees.NumberedTree.{NumberedTree}
 use Rattle.diagram_steps.specs.Trees.{edges_of, HasEvent}
 use Rattle.mode_diagrams.specs.Trees.{IsSetFrom}
 use Rattle.mode_diagrams.specs.Numbers.{AreNumbersOf, none, passed, one_and, IsNumberOf, IsByModes}
-use Rattle.mode_diagrams.proofs.Ends.{IsPathTo, number_of, path_of, number_within, is_numbered}
+use Rattle.mode_diagrams.proofs.Ends.{IsPathTo, number_of, path_of, number_within, is_numbered, has_different}
 
 abbrev AreTreesEach : List ModeTree → Type 0
 AreTreesEach trees = (k : ℕ) (tree : ModeTree) → Stands trees k tree → IsTree tree
@@ -271,6 +271,9 @@ module _ (trees : List ModeTree) (ns : List NumberedTree) (t : AreTrees trees) (
           let a = row_of j n e st hn in
           let b = row_of k m e so hm in
           place_once are j k (t.apart.one (place_of are j) (place_of are k) a.0 b.0 a.1.from a.1.to b.1.from b.1.to a.1.label b.1.label a.2 b.2 a.3 b.3 (a.4 ∙ sym b.4));
+    };
+    different = record {
+      each = λ k n st. let b = stands_at are k n st in has_different b.0 (t.each (place_of are k) b.0 b.1) n b.2;
     };
     modes = modes_of;
     firable = firable_of;

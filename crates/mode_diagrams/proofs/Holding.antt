@@ -9,18 +9,19 @@ use Rattle.zdd_nodes.specs.Nodes.{NodeId, Stored, family, Grows}
 use Rattle.zdd_nodes.specs.declared.NodeFault.{NodeFault}
 use Rattle.zdd_nodes.specs.declared.NodeFault.TheVariants.{Memory as OutOfMemory}
 use Rattle.zdd_nodes.proofs.Growing.{kept, still}
-use Rattle.mode_nodes.specs.Diagrams as modes
+use Rattle.mode_nodes.specs.Diagrams.{DiagramId}
+use Rattle.mode_nodes.specs.Bounds.{Bounded}
 use Rattle.diagram_steps.specs.declared.trees.NumberedTree.{NumberedTree}
 use Rattle.mode_diagrams.specs.declared.held.State.{State}
-use Rattle.mode_diagrams.specs.Sets.{HasSets, IsTrueFrom}
-use Rattle.mode_diagrams.specs.Kept.{state_eq, Remembers, IsFamilyOf, AreHeld}
+use Rattle.mode_diagrams.specs.Sets.{HasSets}
+use Rattle.mode_diagrams.specs.Kept.{state_eq, Remembers, IsTrueIn, IsFamilyOf, AreHeld}
 
 -- ---- the derived `==` of states
 abbrev pub derived_eq : State → State → Bool
-derived_eq a b = eqb a.place b.place && (eqb a.diagram.n b.diagram.n && true)
+derived_eq a b = eqb a.place b.place && (eqb a.most b.most && (eqb a.diagram.n b.diagram.n && true))
 
 same_states : (a b : State) → derived_eq a b ≡ state_eq a b
-same_states a b = ap (λ x. eqb a.place b.place && x) (and-true (eqb a.diagram.n b.diagram.n))
+same_states a b = ap (λ x. eqb a.place b.place && (eqb a.most b.most && x)) (and-true (eqb a.diagram.n b.diagram.n))
 
 lookup_alike : (p q : State → Bool) → ((k : State) → p k ≡ q k) → (es : List (State × NodeId)) → lookup p es ≡ lookup q es
 lookup_alike p q h [] = refl
@@ -57,25 +58,27 @@ remember_after U (Err x) k n old new u e f =
     record { each = λ q m h. inl (ap (lookup (state_eq q)) (sym e) ∙ h) }
 
 -- ---- what is held
-pub held_none : (trees : List NumberedTree) (s : modes.Stored) (made : Stored) → AreHeld trees s made []
+pub held_none : (trees : List NumberedTree) (s : Bounded) (made : Stored) → AreHeld trees s made []
 held_none trees s made = record { each = λ k n h. let wrong : ⊥ = cc in absurd wrong }
 
-pub held_grow : (P : Family → Type 0) (trees : List NumberedTree) (s : modes.Stored) (made more : Stored)
+pub held_grow : (P : Family → Type 0) (trees : List NumberedTree) (s : Bounded) (made more : Stored)
     (es : List (State × NodeId)) → Grows P made more → AreHeld trees s made es → AreHeld trees s more es
 held_grow P trees s made more es g a = record {
   each = λ k n h. let x = a.each k n h in record {
     in_store = still P made more n.n g x.in_store;
-    sets = subst (HasSets (IsTrueFrom trees k.place s k.diagram.n)) (sym (kept P made more n.n g x.in_store)) x.sets;
+    sets = subst (HasSets (IsTrueIn trees s k)) (sym (kept P made more n.n g x.in_store)) x.sets;
   };
 }
 
 state_same : (k q : State) → state_eq k q ≡ true → k ≡ q
 state_same k q e =
-    let p = and_parts (eqb k.place q.place) (eqb k.diagram.n q.diagram.n) e in
-    ap₂ (λ (x : ℕ) (y : modes.DiagramId). record { place = x; diagram = y }) (eqb-true k.place q.place p.0)
-    (id_from k.diagram q.diagram (eqb-true k.diagram.n q.diagram.n p.1))
+    let p = and_parts (eqb k.place q.place) (eqb k.most q.most && eqb k.diagram.n q.diagram.n) e in
+    let r = and_parts (eqb k.most q.most) (eqb k.diagram.n q.diagram.n) p.1 in
+    ap₂ (λ (x : ℕ) (y : ℕ × DiagramId). record { place = x; most = y.0; diagram = y.1 }) (eqb-true k.place q.place p.0)
+    (ap₂ (λ (x : ℕ) (y : DiagramId). (x, y)) (eqb-true k.most q.most r.0)
+    (id_from k.diagram q.diagram (eqb-true k.diagram.n q.diagram.n r.1)))
 
-pub held_more : (trees : List NumberedTree) (s : modes.Stored) (made : Stored) (k : State) (n : NodeId)
+pub held_more : (trees : List NumberedTree) (s : Bounded) (made : Stored) (k : State) (n : NodeId)
     (old new : List (State × NodeId)) → AreHeld trees s made old → IsFamilyOf trees s made k n.n
     → Remembers k n old new → AreHeld trees s made new
 held_more trees s made k n old new a f r = record {

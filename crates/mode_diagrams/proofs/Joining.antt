@@ -5,8 +5,9 @@ use Rattle.ar_base.specs.Lists.{Stands}
 use Rattle.ar_base.proofs.Standing.{stands_one, stands_none, stands_split, stands_within}
 use Rattle.eq_core.specs.Gates.{Operand, Gate}
 use Rattle.eq_core.specs.Values.{operand_at, joint_at, values_at}
-use Rattle.mode_nodes.specs.Diagrams.{DiagramId, Stored, value, IsNumber, Grows}
-use Rattle.mode_nodes.proofs.Growing.{Grows-then}
+use Rattle.mode_nodes.specs.Diagrams.{DiagramId, Stored, value, IsNumber}
+use Rattle.mode_nodes.specs.Bounds.{Bounded, GrowsWithin}
+use Rattle.mode_nodes.proofs.Allowed.{GrowsWithin-then, allowed_before}
 use Rattle.diagram_steps.specs.declared.trees.NumberedTree.{NumberedTree}
 use Rattle.diagram_steps.specs.Joints.{joint_value, AreTabled, IsJoint}
 use Rattle.mode_diagrams.specs.Agreement.{Agrees, AgreesJoint, IsReady, AreReady}
@@ -14,24 +15,24 @@ use Rattle.mode_diagrams.specs.Lacking.{Lacks, LacksOne}
 use Rattle.mode_diagrams.proofs.Laws.{agrees_kept, ready_kept, tabled_kept}
 
 -- the first operands have these diagrams, and none of them is an event without a tree
-pub record AreDrawn (trees : List NumberedTree) (table : List DiagramId) (old : Stored) (os : List Operand)
-    (ns : List DiagramId) (s : Stored) : Type 0 where
-  pub grows : Grows old s
-  pub numbers : AreTabled ns s
+pub record AreDrawn (trees : List NumberedTree) (table : List DiagramId) (old : Bounded) (os : List Operand)
+    (ns : List DiagramId) (s : Bounded) : Type 0 where
+  pub grows : GrowsWithin old s
+  pub numbers : AreTabled ns s.store
   pub agrees : (gates : List Gate) (k : ℕ) (o : Operand) (n : DiagramId) → Stands os k o → Stands ns k n
       → IsReady trees gates table old o → Agrees trees gates o s n.n
   pub known : (k : ℕ) (o : Operand) → k < length ns → Stands os k o → Lacks trees o → ⊥
 
-pub drawn_more : (trees : List NumberedTree) (table : List DiagramId) (old : Stored) (os : List Operand)
-    (ns : List DiagramId) (s t : Stored) (o : Operand) (n : DiagramId) → Stands os (length ns) o
-    → AreDrawn trees table old os ns s → Grows s t → IsNumber t n.n
+pub drawn_more : (trees : List NumberedTree) (table : List DiagramId) (old : Bounded) (os : List Operand)
+    (ns : List DiagramId) (s t : Bounded) (o : Operand) (n : DiagramId) → Stands os (length ns) o
+    → AreDrawn trees table old os ns s → GrowsWithin s t → IsNumber t.store n.n
     → ((gates : List Gate) → IsReady trees gates table s o → Agrees trees gates o t n.n) → (Lacks trees o → ⊥)
     → AreDrawn trees table old os (ns ++ n ∷ []) t
 drawn_more trees table old os ns s t o n so d g number agrees known = record {
-  grows = Grows-then old s t d.grows g;
+  grows = GrowsWithin-then old s t d.grows g;
   numbers = record {
     each = λ k m st. ⊎_elim
-        (λ a. (tabled_kept ns s t g d.numbers).each k m a)
+        (λ a. (tabled_kept ns s.store t.store g.store d.numbers).each k m a)
         (λ b. at_end k m b.0 b.1 b.2)
         (stands_split ns (n ∷ []) k m st);
   };
@@ -42,8 +43,8 @@ drawn_more trees table old os ns s t o n so d g number agrees known = record {
   known = λ k p h sp l. none k p h sp l;
 }
   where
-    at_end : (k : ℕ) (m : DiagramId) (j : ℕ) → k ≡ length ns + j → Stands (n ∷ []) j m → IsNumber t m.n
-    at_end k m zero e st = let same : n ≡ m = cc in subst (λ (x : DiagramId). IsNumber t x.n) same number
+    at_end : (k : ℕ) (m : DiagramId) (j : ℕ) → k ≡ length ns + j → Stands (n ∷ []) j m → IsNumber t.store m.n
+    at_end k m zero e st = let same : n ≡ m = cc in subst (λ (x : DiagramId). IsNumber t.store x.n) same number
     at_end k m (suc j) e st = absurd (stands_none j m st)
 
     last : (gates : List Gate) (k : ℕ) (p : Operand) (m : DiagramId) → Stands os k p → IsReady trees gates table old p
@@ -80,18 +81,21 @@ joint_same true set values s modes (n ∷ ns) (o ∷ os) e f = ap₂ (λ x y. x 
 joint_same false set values s modes (n ∷ ns) (o ∷ os) e f = ap₂ (λ x y. x || y) (f 0 o n refl refl)
     (joint_same false set values s modes ns os (omega (arith, e)) (λ k p m a b. f (suc k) p m a b))
 
-pub drawn_joint : (trees : List NumberedTree) (table : List DiagramId) (old : Stored) (both : Bool) (os : List Operand)
-    (ns : List DiagramId) (s t : Stored) (r : ℕ) → length ns ≡ length os → AreDrawn trees table old os ns s
-    → IsJoint both s ns t r → (gates : List Gate) → AreReady trees gates table old os
+pub drawn_joint : (trees : List NumberedTree) (table : List DiagramId) (old : Bounded) (both : Bool) (os : List Operand)
+    (ns : List DiagramId) (s t : Bounded) (r : ℕ) → length ns ≡ length os → AreDrawn trees table old os ns s
+    → GrowsWithin s t → IsJoint both s ns t.store r → (gates : List Gate) → AreReady trees gates table old os
     → AgreesJoint trees gates both os t r
-drawn_joint trees table old both os ns s t r e d j gates ready = record {
+drawn_joint trees table old both os ns s t r e d g j gates ready = record {
   number = j.number;
-  same = λ modes set is. j.same modes ∙ joint_same both set (values_at set gates) s modes ns os e
-      (λ k o n so sn. (d.agrees gates k o n so sn (ready.each o (record { place = k; stands = so }))).same modes set is);
+  same = λ modes set is h.
+      let before = allowed_before s t modes g h in
+      j.same modes before ∙ joint_same both set (values_at set gates) s.store modes ns os e
+      (λ k o n so sn.
+      (d.agrees gates k o n so sn (ready.each o (record { place = k; stands = so }))).same modes set is before);
 }
 
-pub drawn_known : (trees : List NumberedTree) (table : List DiagramId) (old : Stored) (os : List Operand)
-    (ns : List DiagramId) (s : Stored) → length ns ≡ length os → AreDrawn trees table old os ns s → LacksOne trees os → ⊥
+pub drawn_known : (trees : List NumberedTree) (table : List DiagramId) (old : Bounded) (os : List Operand)
+    (ns : List DiagramId) (s : Bounded) → length ns ≡ length os → AreDrawn trees table old os ns s → LacksOne trees os → ⊥
 drawn_known trees table old os ns s e d l =
     let inside = stands_within os l.one.place l.operand l.one.stands in
     d.known l.one.place l.operand (omega (arith, inside, e)) l.one.stands l.lacks

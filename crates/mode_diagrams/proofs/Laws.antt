@@ -8,6 +8,8 @@ use Rattle.eq_core.specs.Values.{has_event}
 use Rattle.eq_core.specs.Ordered.{AreBelow}
 use Rattle.eq_core.proofs.Telling.{gate_value}
 use Rattle.mode_nodes.specs.Diagrams.{DiagramId, Stored, mode_of, value, choice, child, IsNumber, AreChildren, Grows}
+use Rattle.mode_nodes.specs.Bounds.{Bounded, GrowsWithin}
+use Rattle.mode_nodes.proofs.Allowed.{allowed_before}
 use Rattle.mode_nodes.proofs.Growing.{kept, still, from_small}
 use Rattle.mode_nodes.proofs.Values.{value-false, value-true, small_value}
 use Rattle.diagram_steps.specs.declared.trees.NumberedEdge.{NumberedEdge}
@@ -18,15 +20,16 @@ use Rattle.mode_diagrams.specs.Trees.{IsOnPath, last, earlier, IsNumbered, AreAp
 use Rattle.mode_diagrams.specs.Agreement.{Agrees, AgreesJoint, IsReady, IsTold, AreTold, IsToldAt}
 
 -- ---- as the store grows
-pub agrees_kept : (trees : List NumberedTree) (gates : List Gate) (o : Operand) (s t : Stored) (n : ℕ) → Grows s t
+pub agrees_kept : (trees : List NumberedTree) (gates : List Gate) (o : Operand) (s t : Bounded) (n : ℕ) → GrowsWithin s t
     → Agrees trees gates o s n → Agrees trees gates o t n
 agrees_kept trees gates o s t n g a = record {
-  number = still s t n g a.number;
-  same = λ modes set is. kept s t modes n g a.number ∙ a.same modes set is;
+  number = still s.store t.store n g.store a.number;
+  same = λ modes set is h. kept s.store t.store modes n g.store a.number
+      ∙ a.same modes set is (allowed_before s t modes g h);
 }
 
-pub ready_kept : (trees : List NumberedTree) (gates : List Gate) (table : List DiagramId) (s t : Stored) (o : Operand)
-    → Grows s t → IsReady trees gates table s o → IsReady trees gates table t o
+pub ready_kept : (trees : List NumberedTree) (gates : List Gate) (table : List DiagramId) (s t : Bounded) (o : Operand)
+    → GrowsWithin s t → IsReady trees gates table s o → IsReady trees gates table t o
 ready_kept trees gates table s t o g r =
     record { gate = λ h sign n e st. agrees_kept trees gates (GateIs h true) s t n.n g (r.gate h sign n e st) }
 
@@ -34,42 +37,52 @@ pub tabled_kept : (table : List DiagramId) (s t : Stored) → Grows s t → AreT
 tabled_kept table s t g a = record { each = λ k n st. still s t n.n g (a.each k n st) }
 
 -- ---- constants
-pub agrees_always : (trees : List NumberedTree) (gates : List Gate) (s : Stored) (n : ℕ) → n ≡ 1
+pub agrees_always : (trees : List NumberedTree) (gates : List Gate) (s : Bounded) (n : ℕ) → n ≡ 1
     → Agrees trees gates Always s n
 agrees_always trees gates s n e = record {
   number = omega (arith, e);
-  same = λ modes set is. ap (value s modes) e ∙ value-true s.nodes modes;
+  same = λ modes set is h. ap (value s.store modes) e ∙ value-true s.store.nodes modes;
 }
 
-pub agrees_never : (trees : List NumberedTree) (gates : List Gate) (s : Stored) (n : ℕ) → n ≡ 0
+pub agrees_never : (trees : List NumberedTree) (gates : List Gate) (s : Bounded) (n : ℕ) → n ≡ 0
     → Agrees trees gates Never s n
 agrees_never trees gates s n e = record {
   number = omega (arith, e);
-  same = λ modes set is. ap (value s modes) e ∙ value-false s.nodes modes;
+  same = λ modes set is h. ap (value s.store modes) e ∙ value-false s.store.nodes modes;
 }
 
 -- ---- signs
-pub agrees_event : (trees : List NumberedTree) (gates : List Gate) (e : ℕ) (sign : Bool) (s t : Stored) (n r : ℕ)
-    → Agrees trees gates (EventIs e true) s n → IsSigned s n sign t r → Agrees trees gates (EventIs e sign) t r
-agrees_event trees gates e true s t n r a i =
-    record { number = i.number; same = λ modes set is. i.same modes ∙ a.same modes set is }
-agrees_event trees gates e false s t n r a i =
-    record { number = i.number; same = λ modes set is. i.same modes ∙ ap not (a.same modes set is) }
+pub agrees_event : (trees : List NumberedTree) (gates : List Gate) (e : ℕ) (sign : Bool) (s t : Bounded) (n r : ℕ)
+    → GrowsWithin s t → Agrees trees gates (EventIs e true) s n → IsSigned s n sign t.store r
+    → Agrees trees gates (EventIs e sign) t r
+agrees_event trees gates e true s t n r g a i = record {
+  number = i.number;
+  same = λ modes set is h. let k = allowed_before s t modes g h in i.same modes k ∙ a.same modes set is k;
+}
+agrees_event trees gates e false s t n r g a i = record {
+  number = i.number;
+  same = λ modes set is h. let k = allowed_before s t modes g h in i.same modes k ∙ ap not (a.same modes set is k);
+}
 
-pub agrees_gate : (trees : List NumberedTree) (gates : List Gate) (g : ℕ) (sign : Bool) (s t : Stored) (n r : ℕ)
-    → Agrees trees gates (GateIs g true) s n → IsSigned s n sign t r → Agrees trees gates (GateIs g sign) t r
-agrees_gate trees gates g true s t n r a i =
-    record { number = i.number; same = λ modes set is. i.same modes ∙ a.same modes set is }
-agrees_gate trees gates g false s t n r a i =
-    record { number = i.number; same = λ modes set is. i.same modes ∙ ap not (a.same modes set is) }
+pub agrees_gate : (trees : List NumberedTree) (gates : List Gate) (g : ℕ) (sign : Bool) (s t : Bounded) (n r : ℕ)
+    → GrowsWithin s t → Agrees trees gates (GateIs g true) s n → IsSigned s n sign t.store r
+    → Agrees trees gates (GateIs g sign) t r
+agrees_gate trees gates g true s t n r grows a i = record {
+  number = i.number;
+  same = λ modes set is h. let k = allowed_before s t modes grows h in i.same modes k ∙ a.same modes set is k;
+}
+agrees_gate trees gates g false s t n r grows a i = record {
+  number = i.number;
+  same = λ modes set is h. let k = allowed_before s t modes grows h in i.same modes k ∙ ap not (a.same modes set is k);
+}
 
 -- ---- joints
-pub gate_agrees : (trees : List NumberedTree) (gates : List Gate) (g : ℕ) (gate : Gate) (s : Stored) (n : ℕ)
+pub gate_agrees : (trees : List NumberedTree) (gates : List Gate) (g : ℕ) (gate : Gate) (s : Bounded) (n : ℕ)
     → Stands gates g gate → AreBelow g gate.operands → AgreesJoint trees gates gate.both gate.operands s n
     → Agrees trees gates (GateIs g true) s n
 gate_agrees trees gates g gate s n st below a = record {
   number = a.number;
-  same = λ modes set is. a.same modes set is ∙ sym (gate_value set gates g gate st below);
+  same = λ modes set is h. a.same modes set is h ∙ sym (gate_value set gates g gate st below);
 }
 
 -- ---- events
@@ -101,13 +114,13 @@ path_event tree e m (earlier {edge = edge} n st p) = path_event tree e edge.from
 -- the children of the modes tell the event
 pub told_agrees : (trees : List NumberedTree) (gates : List Gate) (k e : ℕ) (tree : NumberedTree)
     → Stands trees k tree → AreApart trees → HasEvent tree e → (ns : List DiagramId) → AreTold tree e ns
-    → (s : Stored) (n : ℕ) → IsNumber s n
-    → ((modes : List ℕ) (m : DiagramId) → Stands ns (mode_of modes k) m → value s modes n ≡ nat_eq m.n 1)
+    → (s : Bounded) (n : ℕ) → IsNumber s.store n
+    → ((modes : List ℕ) (m : DiagramId) → Stands ns (mode_of modes k) m → value s.store modes n ≡ nat_eq m.n 1)
     → Agrees trees gates (EventIs e true) s n
 told_agrees trees gates k e tree stands apart has ns told s n number tells =
-    record { number = number; same = λ modes set is. agree modes set is }
+    record { number = number; same = λ modes set is h. agree modes set is }
   where
-    agree : (modes set : List ℕ) → IsSetFrom trees 0 modes set → value s modes n ≡ has_event set e
+    agree : (modes set : List ℕ) → IsSetFrom trees 0 modes set → value s.store modes n ≡ has_event set e
     agree modes set is =
         let m = mode_of modes k in
         let low : m < length ns = omega (arith, told.long, is.within k tree (omega arith) stands) in

@@ -7,6 +7,8 @@ pub mod Joining
 pub mod Laws
 pub mod Making
 pub mod Pathing
+pub mod Paying
 pub mod Placing
+pub mod Sizes
 pub mod Stepping
 pub mod Tabling

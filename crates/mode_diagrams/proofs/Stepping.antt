@@ -1,5 +1,5 @@
 -- One step of the family of a diagram, and its ends.
-use Rattle.std.proofs.Common.{◌≡◌, ◌⊎◌, ⊎_elim, inl, inr, ℕ, zero, suc, ◌+◌, ◌<◌, ◌≤◌, Bool, true, false, cond, ◌||◌, List, [], ◌∷◌, ◌++◌, length, refl, sym, ap, ◌∙◌, subst, arith, true≢false}
+use Rattle.std.proofs.Common.{◌≡◌, ◌⊎◌, ⊎_elim, inl, inr, ℕ, zero, suc, ◌+◌, ◌-◌, ◌<◌, ◌≤◌, Bool, true, false, cond, ◌||◌, List, [], ◌∷◌, ◌++◌, length, refl, sym, ap, ◌∙◌, subst, arith, true≢false}
 use Rattle.std.specs.Int.{from_bool}
 use Rattle.ar_base.specs.Lists.{Stands, IsOneOf}
 use Rattle.ar_base.specs.Sets.{Within}
@@ -8,15 +8,17 @@ use Rattle.ar_base.proofs.Standing.{stands_one, stands_within, stands_some, stan
 use Rattle.zdd_families.specs.Families.{Family, has, union}
 use Rattle.zdd_families.proofs.Members.{has-union}
 use Rattle.zdd_nodes.specs.Nodes as nodes
-use Rattle.mode_nodes.specs.Diagrams.{Stored, mode_of, value, IsNumber, IsFrom, IsSoundStore}
+use Rattle.mode_nodes.specs.Diagrams.{mode_of, value, IsNumber, IsFrom, IsSoundStore}
 use Rattle.mode_nodes.specs.Cuts.{IsTaken}
 use Rattle.mode_nodes.proofs.Values.{value-false}
+use Rattle.mode_nodes.specs.Bounds.{Bounded, cost}
 use Rattle.mode_nodes.proofs.Asking.{asks}
+use Rattle.mode_nodes.proofs.Totals.{one, total_none, total_same, left_enough, too_much}
 use Rattle.diagram_steps.specs.declared.trees.NumberedEdge.{NumberedEdge}
 use Rattle.diagram_steps.specs.declared.trees.NumberedTree.{NumberedTree}
 use Rattle.diagram_steps.specs.Trees.{edges_of}
 use Rattle.mode_diagrams.specs.Trees.{IsOnPath, last, earlier, IsNumbered, AreNumbered, IsSetFrom}
-use Rattle.mode_diagrams.specs.Sets.{HasSets, HasPath, IsWithPath, IsTrueFrom, IsTrueAtMode, IsTrueBelow}
+use Rattle.mode_diagrams.specs.Sets.{HasSets, HasPath, IsWithPath, with_most, IsTrueFrom, IsTrueAtMode, IsTrueBelow}
 
 -- ---- a list of modes with another mode of one tree
 pub put_mode : List ℕ → ℕ → ℕ → List ℕ
@@ -205,9 +207,11 @@ set_from trees i modes numbered ends within =
 
 -- ---- one step
 module _ (trees : List NumberedTree) (numbered : AreNumbered trees) (i : ℕ) (tree : NumberedTree)
-    (stands : Stands trees i tree) (s : Stored) (sound : IsSoundStore s) (n m r : ℕ)
-    (taken : IsTaken s i m n r) (from : IsFrom s.nodes (i + 1) r) (m_in : m ≤ length (edges_of tree))
-    (f g : Family) (later : HasSets (IsTrueFrom trees (i + 1) s r) f) (here : HasPath (edges_of tree) m f g) where
+    (stands : Stands trees i tree) (s : Bounded) (sound : IsSoundStore s.store) (n m r : ℕ)
+    (taken : IsTaken s.store i m n r) (from : IsFrom s.store.nodes (i + 1) r) (m_in : m ≤ length (edges_of tree))
+    (paid : cost s.costs i m ≤ s.most) (f g : Family)
+    (later : HasSets (IsTrueFrom trees (i + 1) (with_most s (s.most - cost s.costs i m)) r) f)
+    (here : HasPath (edges_of tree) m f g) where
   step_sound : (t : List ℕ) → has g t ≡ true → IsTrueAtMode trees i s n m t
   step_sound t h =
       let x = here.sound t h in
@@ -217,7 +221,9 @@ module _ (trees : List NumberedTree) (numbered : AreNumbered trees) (i : ℕ) (t
       let other : (k : ℕ) → (k ≡ i → ⊥) → mode_of modes k ≡ mode_of y.modes k = λ k d. mode_other y.modes i m k d in
       let i_in = stands_within trees i tree stands in
       let alike : (u : ℕ) → i + 1 ≤ u → mode_of modes u ≡ mode_of y.modes u = λ u l. other u (λ e. omega (arith, l, e)) in
-      let kept = asks s (i + 1) modes y.modes sound alike r taken.number from in
+      let kept = asks s.store (i + 1) modes y.modes sound alike r taken.number from in
+      let here_is : cost s.costs i (mode_of modes i) ≡ cost s.costs i m = ap (cost s.costs i) at_i in
+      let later_is = total_same s.costs (i + 1) modes y.modes alike in
       record {
         modes = modes;
         mode = at_i;
@@ -248,6 +254,7 @@ module _ (trees : List NumberedTree) (numbered : AreNumbered trees) (i : ℕ) (t
               (subst (IsOnPath (edges_of other_tree) e) (ap (mode_of modes) (sym same) ∙ at_i) p))))
               (lt_or_same i k l);
         };
+        cheap = omega (arith, one s.costs i modes, here_is, later_is, y.cheap, paid);
         holds = taken.value modes at_i ∙ kept ∙ y.holds;
       }
 
@@ -261,6 +268,7 @@ module _ (trees : List NumberedTree) (numbered : AreNumbered trees) (i : ℕ) (t
       let y = later.whole rest (record {
         modes = x.modes;
         are = is_rest;
+        cheap = left_enough s.costs s.most i i x.modes (omega arith) x.cheap m x.mode;
         holds = sym (taken.value x.modes x.mode) ∙ x.holds;
       }) in
       let z = here.whole y.0 y.1 in
@@ -288,14 +296,25 @@ module _ (trees : List NumberedTree) (numbered : AreNumbered trees) (i : ℕ) (t
   step = record { sound = step_sound; whole = step_whole }
 
 -- ---- mode after mode
-pub below_none : (trees : List NumberedTree) (i : ℕ) (s : Stored) (n : ℕ) (f : Family) → f ≡ []
+pub below_none : (trees : List NumberedTree) (i : ℕ) (s : Bounded) (n : ℕ) (f : Family) → f ≡ []
     → HasSets (IsTrueBelow trees i s n 0) f
 below_none trees i s n f z = record {
   sound = λ t h. absurd (true≢false (sym h ∙ ap (λ g. has g t) z));
   whole = λ t x. absurd (omega (arith, x.1));
 }
 
-pub below_more : (trees : List NumberedTree) (i : ℕ) (s : Stored) (n mode : ℕ) (f g h : Family)
+-- a mode that costs more than there is
+pub below_dear : (trees : List NumberedTree) (i : ℕ) (s : Bounded) (n m : ℕ) (f : Family) → s.most < cost s.costs i m
+    → HasSets (IsTrueBelow trees i s n m) f → HasSets (IsTrueBelow trees i s n (m + 1)) f
+below_dear trees i s n m f dear a = record {
+  sound = λ t o. let x = a.sound t o in (x.0, omega (arith, x.1), x.2);
+  whole = λ t x. ⊎_elim
+      (λ lt. a.whole t (x.0, lt, x.2))
+      (λ same. absurd (too_much s.costs s.most i i x.2.modes (omega arith) x.2.cheap m dear (x.2.mode ∙ same)))
+      (lt_or_same x.0 m (omega (arith, x.1)));
+}
+
+pub below_more : (trees : List NumberedTree) (i : ℕ) (s : Bounded) (n mode : ℕ) (f g h : Family)
     → HasSets (IsTrueBelow trees i s n mode) f → HasSets (IsTrueAtMode trees i s n mode) g → h ≡ union f g
     → HasSets (IsTrueBelow trees i s n (mode + 1)) h
 below_more trees i s n mode f g h a b is = record {
@@ -325,23 +344,23 @@ below_more trees i s n mode f g h a b is = record {
         (λ q. (mode, omega arith, b.sound t q))
         c
 
-pub below_all : (trees : List NumberedTree) (i : ℕ) (tree : NumberedTree) (s : Stored) (n mode : ℕ) (f : Family)
+pub below_all : (trees : List NumberedTree) (i : ℕ) (tree : NumberedTree) (s : Bounded) (n mode : ℕ) (f : Family)
     → Stands trees i tree → mode ≡ length (edges_of tree) + 1 → HasSets (IsTrueBelow trees i s n mode) f
     → HasSets (IsTrueFrom trees i s n) f
 below_all trees i tree s n mode f st e a = record {
-  sound = λ t h. let x = a.sound t h in record { modes = x.2.modes; are = x.2.are; holds = x.2.holds };
+  sound = λ t h. let x = a.sound t h in record { modes = x.2.modes; are = x.2.are; cheap = x.2.cheap; holds = x.2.holds };
   whole = λ t x. a.whole t (
     mode_of x.modes i,
     omega (arith, e, x.are.within i tree (omega arith) st),
-    record { modes = x.modes; mode = refl; are = x.are; holds = x.holds },
+    record { modes = x.modes; mode = refl; are = x.are; cheap = x.cheap; holds = x.holds },
   );
 }
 
 -- ---- where no tree is left, and where the diagram is false
-pub no_tree : (trees : List NumberedTree) (i : ℕ) (s : Stored) (sound : IsSoundStore s) (n : ℕ) (f : Family)
-    → i ≡ length trees → IsNumber s n → IsFrom s.nodes i n → (holds : Bool) → holds ≡ value s [] n
-    → f ≡ cond holds ([] ∷ []) [] → HasSets (IsTrueFrom trees i s n) f
-no_tree trees i s sound n f e number from true h is = record {
+pub no_tree : (trees : List NumberedTree) (i : ℕ) (s : Bounded) (sound : IsSoundStore s.store) (n : ℕ) (f : Family)
+    → i ≡ length trees → length s.costs ≤ length trees → IsNumber s.store n → IsFrom s.store.nodes i n → (holds : Bool)
+    → holds ≡ value s.store [] n → f ≡ cond holds ([] ∷ []) [] → HasSets (IsTrueFrom trees i s n) f
+no_tree trees i s sound n f e short number from true h is = record {
   sound = λ t p.
       let nil : t ≡ [] = empty t (ap (λ z. has z t) (sym is) ∙ p) in
       subst (IsTrueFrom trees i s n) (sym nil) (record {
@@ -352,6 +371,7 @@ no_tree trees i s sound n f e number from true h is = record {
           sound = λ x o. absurd (one_none x o);
           whole = λ k tree x l st q. absurd (omega (arith, l, e, stands_within trees k tree st));
         };
+        cheap = (let nothing = total_none s.costs i [] (omega (arith, short, e)) in omega (arith, nothing));
         holds = sym h;
       });
   whole = λ t x. (
@@ -365,18 +385,18 @@ no_tree trees i s sound n f e number from true h is = record {
     empty : (t : List ℕ) → has ([] ∷ []) t ≡ true → t ≡ []
     empty [] h = refl
     empty (x ∷ t) h = absurd (true≢false (sym h))
-no_tree trees i s sound n f e number from false h is = record {
+no_tree trees i s sound n f e short number from false h is = record {
   sound = λ t p. absurd (true≢false (sym p ∙ ap (λ z. has z t) is));
   whole = λ t x.
-      let same = asks s i x.modes [] sound (λ u l. x.are.ends u (omega (arith, l, e))) n number from in
+      let same = asks s.store i x.modes [] sound (λ u l. x.are.ends u (omega (arith, l, e))) n number from in
       absurd (true≢false (sym x.holds ∙ same ∙ sym h));
 }
 
-pub never : (trees : List NumberedTree) (i : ℕ) (s : Stored) (n : ℕ) (f : Family) → n ≡ 0 → f ≡ []
+pub never : (trees : List NumberedTree) (i : ℕ) (s : Bounded) (n : ℕ) (f : Family) → n ≡ 0 → f ≡ []
     → HasSets (IsTrueFrom trees i s n) f
 never trees i s n f z is = record {
   sound = λ t p. absurd (true≢false (sym p ∙ ap (λ g. has g t) is));
-  whole = λ t x. absurd (true≢false (sym x.holds ∙ ap (value s x.modes) z ∙ value-false s.nodes x.modes));
+  whole = λ t x. absurd (true≢false (sym x.holds ∙ ap (value s.store x.modes) z ∙ value-false s.store.nodes x.modes));
 }
 
 -- a truth as a number

@@ -5,7 +5,8 @@ use Rattle.ar_base.proofs.Standing.{stands_none, stands_split}
 use Rattle.eq_core.specs.Gates.{Operand, GateIs, Gate}
 use Rattle.eq_core.specs.Ordered.{AreOrdered}
 use Rattle.eq_core.proofs.Telling.{place_below}
-use Rattle.mode_nodes.specs.Diagrams.{DiagramId, Stored, IsNumber, Grows}
+use Rattle.mode_nodes.specs.Diagrams.{DiagramId, IsNumber}
+use Rattle.mode_nodes.specs.Bounds.{Bounded, GrowsWithin}
 use Rattle.mode_nodes.proofs.Growing.{still}
 use Rattle.diagram_steps.specs.declared.trees.NumberedTree.{NumberedTree}
 use Rattle.diagram_steps.specs.Joints.{AreTabled}
@@ -14,12 +15,12 @@ use Rattle.mode_diagrams.proofs.Laws.{agrees_kept, gate_agrees}
 
 -- the first k gates have their places in the table, and each that is marked has its diagram there
 pub record IsDrawing (trees : List NumberedTree) (gates : List Gate) (marks : List Bool) (k : ℕ)
-    (table : List DiagramId) (s : Stored) : Type 0 where
+    (table : List DiagramId) (s : Bounded) : Type 0 where
   pub long : length table ≡ k
-  pub numbers : AreTabled table s
+  pub numbers : AreTabled table s.store
   pub drawn : (g : ℕ) (n : DiagramId) → Stands table g n → Stands marks g true → Agrees trees gates (GateIs g true) s n.n
 
-pub drawing_begins : (trees : List NumberedTree) (gates : List Gate) (marks : List Bool) (s : Stored)
+pub drawing_begins : (trees : List NumberedTree) (gates : List Gate) (marks : List Bool) (s : Bounded)
     → IsDrawing trees gates marks 0 [] s
 drawing_begins trees gates marks s = record {
   long = refl;
@@ -30,7 +31,7 @@ drawing_begins trees gates marks s = record {
 module _ (trees : List NumberedTree) (gates : List Gate) (root : Operand) (marks : List Bool)
     (closed : AreClosed gates root marks) where
   -- what a marked gate's operands name is drawn
-  pub gate_ready : (k : ℕ) (gate : Gate) (table : List DiagramId) (s : Stored) → Stands gates k gate
+  pub gate_ready : (k : ℕ) (gate : Gate) (table : List DiagramId) (s : Bounded) → Stands gates k gate
       → Stands marks k true → IsDrawing trees gates marks k table s → AreReady trees gates table s gate.operands
   gate_ready k gate table s st m d = record {
     each = λ o one. record {
@@ -38,19 +39,19 @@ module _ (trees : List NumberedTree) (gates : List Gate) (root : Operand) (marks
     };
   }
 
-  pub root_ready : (k : ℕ) (table : List DiagramId) (s : Stored) → IsDrawing trees gates marks k table s
+  pub root_ready : (k : ℕ) (table : List DiagramId) (s : Bounded) → IsDrawing trees gates marks k table s
       → IsReady trees gates table s root
   root_ready k table s d = record { gate = λ g sign n e at. d.drawn g n at (closed.own g sign e) }
 
-  pub drawing_next : (k : ℕ) (gate : Gate) (table : List DiagramId) (s t : Stored) (n : DiagramId)
-      → Stands gates k gate → AreOrdered gates → IsDrawing trees gates marks k table s → Grows s t
-      → IsNumber t n.n → (Stands marks k true → AgreesJoint trees gates gate.both gate.operands t n.n)
+  pub drawing_next : (k : ℕ) (gate : Gate) (table : List DiagramId) (s t : Bounded) (n : DiagramId)
+      → Stands gates k gate → AreOrdered gates → IsDrawing trees gates marks k table s → GrowsWithin s t
+      → IsNumber t.store n.n → (Stands marks k true → AgreesJoint trees gates gate.both gate.operands t n.n)
       → IsDrawing trees gates marks (k + 1) (table ++ n ∷ []) t
   drawing_next k gate table s t n st ordered d grows number agrees = record {
     long = omega (arith, d.long, length-append table (n ∷ []));
     numbers = record {
       each = λ g x at. ⊎_elim
-          (λ p. still s t x.n grows (d.numbers.each g x p))
+          (λ p. still s.store t.store x.n grows.store (d.numbers.each g x p))
           (λ r. last_number g x r.0 r.2)
           (stands_split table (n ∷ []) g x at);
     };
@@ -60,8 +61,8 @@ module _ (trees : List NumberedTree) (gates : List Gate) (root : Operand) (marks
         (stands_split table (n ∷ []) g x at);
   }
     where
-      last_number : (g : ℕ) (x : DiagramId) (j : ℕ) → Stands (n ∷ []) j x → IsNumber t x.n
-      last_number g x zero so = let same : n ≡ x = cc in subst (λ (y : DiagramId). IsNumber t y.n) same number
+      last_number : (g : ℕ) (x : DiagramId) (j : ℕ) → Stands (n ∷ []) j x → IsNumber t.store x.n
+      last_number g x zero so = let same : n ≡ x = cc in subst (λ (y : DiagramId). IsNumber t.store y.n) same number
       last_number g x (suc j) so = absurd (stands_none j x so)
 
       new : (g : ℕ) (x : DiagramId) (j : ℕ) → g ≡ length table + j → Stands (n ∷ []) j x → Stands marks g true

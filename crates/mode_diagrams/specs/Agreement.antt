@@ -3,32 +3,35 @@ use Rattle.std.specs.Prelude.{◌≡◌, ◌⊎◌, ℕ, suc, Bool, true, List, 
 use Rattle.ar_base.specs.Lists.{Stands, IsOneOf}
 use Rattle.eq_core.specs.Gates.{Operand, GateIs, Gate}
 use Rattle.eq_core.specs.Values.{joint_at, values_at, value_at}
-use Rattle.mode_nodes.specs.Diagrams.{DiagramId, Stored, value, IsNumber}
+use Rattle.mode_nodes.specs.Diagrams.{DiagramId, value, IsNumber}
+use Rattle.mode_nodes.specs.Bounds.{Bounded, Allows}
 use Rattle.diagram_steps.specs.declared.trees.NumberedEdge.{NumberedEdge}
 use Rattle.diagram_steps.specs.declared.trees.NumberedTree.{NumberedTree}
 use Rattle.diagram_steps.specs.Trees.{edges_of}
 use Rattle.mode_diagrams.specs.Trees.{IsOnPath, IsSetFrom}
 
--- the diagram agrees with the operand: at the modes of each set of events on paths it has the operand's value at the set
-pub record Agrees (trees : List NumberedTree) (gates : List Gate) (o : Operand) (s : Stored) (n : ℕ) : Type 0 where
-  pub number : IsNumber s n
-  pub same : (modes set : List ℕ) → IsSetFrom trees 0 modes set → value s modes n ≡ value_at gates o set
+-- the diagram agrees with the operand: at the modes of each set of events on paths, where they cost no more than is enough,
+-- it has the operand's value at the set
+pub record Agrees (trees : List NumberedTree) (gates : List Gate) (o : Operand) (s : Bounded) (n : ℕ) : Type 0 where
+  pub number : IsNumber s.store n
+  pub same : (modes set : List ℕ) → IsSetFrom trees 0 modes set → Allows s modes
+      → value s.store modes n ≡ value_at gates o set
 
 -- the same of a joint of operands
-pub record AgreesJoint (trees : List NumberedTree) (gates : List Gate) (both : Bool) (os : List Operand) (s : Stored)
+pub record AgreesJoint (trees : List NumberedTree) (gates : List Gate) (both : Bool) (os : List Operand) (s : Bounded)
     (n : ℕ) : Type 0 where
-  pub number : IsNumber s n
-  pub same : (modes set : List ℕ) → IsSetFrom trees 0 modes set
-      → value s modes n ≡ joint_at both set (values_at set gates) os
+  pub number : IsNumber s.store n
+  pub same : (modes set : List ℕ) → IsSetFrom trees 0 modes set → Allows s modes
+      → value s.store modes n ≡ joint_at both set (values_at set gates) os
 
 -- the table has a diagram that agrees with the gate that the operand names
-pub record IsReady (trees : List NumberedTree) (gates : List Gate) (table : List DiagramId) (s : Stored) (o : Operand)
+pub record IsReady (trees : List NumberedTree) (gates : List Gate) (table : List DiagramId) (s : Bounded) (o : Operand)
     : Type 0 where
   pub gate : (g : ℕ) (sign : Bool) (n : DiagramId) → o ≡ GateIs g sign → Stands table g n
       → Agrees trees gates (GateIs g true) s n.n
 
 -- the same of each of these operands
-pub record AreReady (trees : List NumberedTree) (gates : List Gate) (table : List DiagramId) (s : Stored)
+pub record AreReady (trees : List NumberedTree) (gates : List Gate) (table : List DiagramId) (s : Bounded)
     (os : List Operand) : Type 0 where
   pub each : (o : Operand) → IsOneOf os o → IsReady trees gates table s o
 

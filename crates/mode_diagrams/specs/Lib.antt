@@ -1,4 +1,5 @@
 pub mod Agreement
+pub mod Costs
 pub mod Kept
 pub mod Lacking
 pub mod Numbers

@@ -10,6 +10,7 @@ use Rattle.diagram_steps.specs.declared.trees.NumberedEdge.{NumberedEdge}
 use Rattle.diagram_steps.specs.declared.trees.NumberedTree.{NumberedTree}
 use Rattle.diagram_steps.specs.Order.{Ascend}
 use Rattle.diagram_steps.specs.Trees.{edges_of}
+use Rattle.mode_diagrams.specs.Costs.{HaveDifferentEvents}
 use Rattle.mode_diagrams.specs.Trees.{AreNumbered, AreApart, IsSetFrom}
 
 -- a tree's modes by number: its first is 0, and then come those that its edges enter
@@ -60,6 +61,7 @@ pub data AreNumbersOf : List ModeTree → List NumberedTree → Type 0 where
 pub record IsByModes (trees : List ModeTree) (ns : List NumberedTree) : Type 0 where
   pub numbered : AreNumbered ns
   pub apart : AreApart ns
+  pub different : HaveDifferentEvents ns
   pub modes : (set : List ℕ) → IsFirableOf trees set → (modes : List ℕ) × IsSetFrom ns 0 modes set
   pub firable : (modes set : List ℕ) → IsSetFrom ns 0 modes set → IsFirableOf trees set
 

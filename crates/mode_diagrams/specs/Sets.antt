@@ -3,7 +3,8 @@ use Rattle.std.specs.Prelude.{◌≡◌, ◌↔◌, ◌⊎◌, ◌≤◌, ◌<�
 use Rattle.ar_base.specs.Lists.{Stands, IsOneOf}
 use Rattle.ar_base.specs.Sets.{Within}
 use Rattle.zdd_families.specs.Families.{Family, has}
-use Rattle.mode_nodes.specs.Diagrams.{Stored, mode_of, value}
+use Rattle.mode_nodes.specs.Diagrams.{mode_of, value}
+use Rattle.mode_nodes.specs.Bounds.{Bounded, total}
 use Rattle.diagram_steps.specs.declared.trees.NumberedEdge.{NumberedEdge}
 use Rattle.diagram_steps.specs.declared.trees.NumberedTree.{NumberedTree}
 use Rattle.diagram_steps.specs.Trees.{edges_of}
@@ -27,19 +28,26 @@ pub record HasPath (edges : List NumberedEdge) (m : ℕ) (f g : Family) : Type 0
   pub sound : (t : List ℕ) → has g t ≡ true → (s : List ℕ) × (has f s ≡ true) × IsWithPath edges m s t
   pub whole : (s : List ℕ) → has f s ≡ true → (t : List ℕ) × (has g t ≡ true) × IsWithPath edges m s t
 
--- the set has the events on paths in the trees from place i on, and the diagram is true at their modes
-pub record IsTrueFrom (trees : List NumberedTree) (i : ℕ) (s : Stored) (n : ℕ) (set : List ℕ) : Type 0 where
+-- the same store, where so much is enough
+abbrev pub with_most : Bounded → ℕ → Bounded
+with_most s most = record { store = s.store; costs = s.costs; most = most }
+
+-- the set has the events on paths in the trees from place i on, the modes of these trees cost no more than is enough, and the
+-- diagram is true at them
+pub record IsTrueFrom (trees : List NumberedTree) (i : ℕ) (s : Bounded) (n : ℕ) (set : List ℕ) : Type 0 where
   pub modes : List ℕ
   pub are : IsSetFrom trees i modes set
-  pub holds : value s modes n ≡ true
+  pub cheap : total s.costs i modes ≤ s.most
+  pub holds : value s.store modes n ≡ true
 
 -- such a set, where tree i is at mode m
-pub record IsTrueAtMode (trees : List NumberedTree) (i : ℕ) (s : Stored) (n m : ℕ) (set : List ℕ) : Type 0 where
+pub record IsTrueAtMode (trees : List NumberedTree) (i : ℕ) (s : Bounded) (n m : ℕ) (set : List ℕ) : Type 0 where
   pub modes : List ℕ
   pub mode : mode_of modes i ≡ m
   pub are : IsSetFrom trees i modes set
-  pub holds : value s modes n ≡ true
+  pub cheap : total s.costs i modes ≤ s.most
+  pub holds : value s.store modes n ≡ true
 
 -- such a set, where tree i is at one of its first so many modes
-abbrev pub IsTrueBelow : List NumberedTree → ℕ → Stored → ℕ → ℕ → List ℕ → Type 0
+abbrev pub IsTrueBelow : List NumberedTree → ℕ → Bounded → ℕ → ℕ → List ℕ → Type 0
 IsTrueBelow trees i s n mode set = (m : ℕ) × (m < mode) × IsTrueAtMode trees i s n m set

@@ -4,6 +4,8 @@ ghost use Rattle.std.specs.Prelude.{◌≡◌, ◌⊎◌, ◌≤◌, IfOk, lengt
 ghost use Rattle.eq_core.specs.Ordered.{AreOrdered};
 ghost use Rattle.eq_core.specs.Values.{IsBelow};
 ghost use Rattle.eq_core.specs.Views.{gate_of, operand_of};
+ghost use Rattle.mode_nodes.specs.Diagrams.{IsNumber};
+ghost use Rattle.mode_nodes.specs.Bounds.{GrowsWithin};
 ghost use Rattle.mode_diagrams.specs.Trees.{AreNumbered, AreApart};
 ghost use Rattle.mode_diagrams.specs.Agreement.{Agrees, AreClosed};
 ghost use Rattle.mode_diagrams.specs.Lacking.{IsFull, LacksSome};
@@ -72,7 +74,7 @@ impl<T: Drop> From<AllocFailed<T>> for Undrawn {
     }
 }
 
-/// The diagram of an operand. Of the gates those with a mark are drawn, each once: the operand's own and those that a
+/// The diagram of an operand, right where the modes cost no more than is enough. Of the gates those with a mark are drawn, each once: the operand's own and those that a
 /// marked gate's operands name have to be marked. Beyond comes where the store is full, or where no tree has an event that
 /// the operand or a marked gate names, and there it comes always, if memory is not refused before.
 pub fn draw(
@@ -90,9 +92,11 @@ pub fn draw(
     requires ordered { AreOrdered (map gate_of gates.now) }
     requires root_in { IsBelow (length gates.now) (operand_of root) }
     requires closed { AreClosed (map gate_of gates.now) (operand_of root) marks.now }
+    ensures grows { GrowsWithin store.old store.new }
+    ensures number { IfOk result (λ n. IsNumber store.new.store n.n) }
     ensures agrees { IfOk result (λ n. Agrees trees.now (map gate_of gates.now) (operand_of root)
         store.new n.n) }
-    ensures beyond { result ≡ Err Undrawn.Beyond → IsFull store.new
+    ensures beyond { result ≡ Err Undrawn.Beyond → IsFull store.new.store
         ⊎ LacksSome trees.now (map gate_of gates.now) (operand_of root) marks.now }
     ensures known { IfOk result
         (λ _. LacksSome trees.now (map gate_of gates.now) (operand_of root) marks.now → ⊥) }

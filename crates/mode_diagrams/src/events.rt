@@ -2,7 +2,7 @@
 
 ghost use Rattle.std.specs.Prelude.{◌≡◌, ◌⊎◌, ◌≤◌, ◌<◌, List, IfOk, OnOk, length, true};
 ghost use Rattle.eq_core.specs.Gates.{Gate, EventIs};
-ghost use Rattle.mode_nodes.specs.Diagrams.{Grows};
+ghost use Rattle.mode_nodes.specs.Bounds.{GrowsWithin};
 ghost use Rattle.mode_diagrams.specs.Trees.{AreNumbered, AreApart, IsNumbered};
 ghost use Rattle.mode_diagrams.specs.Agreement.{Agrees, AreTold};
 ghost use Rattle.mode_diagrams.specs.Lacking.{ArePlaced, Puts, HasNoTree, IsFull};
@@ -70,11 +70,11 @@ pub(crate) fn event_diagram(
     requires apart { AreApart trees.now }
     requires small { AreSmall trees.now }
     requires placed { ArePlaced trees.now (length trees.now) places.now }
-    ensures grows { Grows store.old store.new }
+    ensures grows { GrowsWithin store.old store.new }
     ensures agrees { IfOk result (λ n. (gates : List Gate)
         → Agrees trees.now gates (EventIs event.n true) store.new n.n) }
     ensures beyond { result ≡ Err Undrawn.Beyond
-        → IsFull store.new ⊎ HasNoTree trees.now event.n }
+        → IsFull store.new.store ⊎ HasNoTree trees.now event.n }
     ensures known { IfOk result (λ _. HasNoTree trees.now event.n → ⊥) }
 {
     let Some(place) = places.get(&event).copied() else {

@@ -5,7 +5,8 @@ ghost use Rattle.eq_core.specs.Gates.{Gate as GateOf};
 ghost use Rattle.eq_core.specs.Ordered.{AreBelow};
 ghost use Rattle.eq_core.specs.Values.{IsBelow};
 ghost use Rattle.eq_core.specs.Views.{all_needed, gate_of, operand_of};
-ghost use Rattle.mode_nodes.specs.Diagrams.{IsNumber, Grows};
+ghost use Rattle.mode_nodes.specs.Diagrams.{IsNumber};
+ghost use Rattle.mode_nodes.specs.Bounds.{GrowsWithin};
 ghost use Rattle.diagram_steps.specs.Joints.{AreTabled};
 ghost use Rattle.mode_diagrams.specs.Trees.{AreNumbered, AreApart};
 ghost use Rattle.mode_diagrams.specs.Agreement.{Agrees, AgreesJoint, IsReady, AreReady};
@@ -32,15 +33,15 @@ pub(crate) fn operand_diagram(
     requires apart { AreApart trees.now }
     requires small { AreSmall trees.now }
     requires placed { ArePlaced trees.now (length trees.now) places.now }
-    requires table { AreTabled table.now store.old }
+    requires table { AreTabled table.now store.old.store }
     requires below { IsBelow (length table.now) (operand_of operand) }
-    ensures grows { Grows store.old store.new }
-    ensures number { IfOk result (λ n. IsNumber store.new n.n) }
+    ensures grows { GrowsWithin store.old store.new }
+    ensures number { IfOk result (λ n. IsNumber store.new.store n.n) }
     ensures agrees { IfOk result (λ n. (gates : List GateOf)
         → IsReady trees.now gates table.now store.old (operand_of operand)
         → Agrees trees.now gates (operand_of operand) store.new n.n) }
     ensures beyond { result ≡ Err Undrawn.Beyond
-        → IsFull store.new ⊎ Lacks trees.now (operand_of operand) }
+        → IsFull store.new.store ⊎ Lacks trees.now (operand_of operand) }
     ensures known { IfOk result (λ _. Lacks trees.now (operand_of operand) → ⊥) }
 {
     match operand {
@@ -71,16 +72,16 @@ pub(crate) fn gate_diagram(
     requires apart { AreApart trees.now }
     requires small { AreSmall trees.now }
     requires placed { ArePlaced trees.now (length trees.now) places.now }
-    requires table { AreTabled table.now store.old }
+    requires table { AreTabled table.now store.old.store }
     requires below { AreBelow (length table.now) (map operand_of gate.now.operands.items) }
-    ensures grows { Grows store.old store.new }
-    ensures number { IfOk result (λ n. IsNumber store.new n.n) }
+    ensures grows { GrowsWithin store.old store.new }
+    ensures number { IfOk result (λ n. IsNumber store.new.store n.n) }
     ensures agrees { IfOk result (λ n. marked ≡ true → (gates : List GateOf)
         → AreReady trees.now gates table.now store.old (map operand_of gate.now.operands.items)
         → AgreesJoint trees.now gates (all_needed gate.now.joint)
         (map operand_of gate.now.operands.items) store.new n.n) }
     ensures beyond { result ≡ Err Undrawn.Beyond → (marked ≡ true)
-        × (IsFull store.new ⊎ LacksOne trees.now (map operand_of gate.now.operands.items)) }
+        × (IsFull store.new.store ⊎ LacksOne trees.now (map operand_of gate.now.operands.items)) }
     ensures known { IfOk result (λ _. marked ≡ true
         → LacksOne trees.now (map operand_of gate.now.operands.items) → ⊥) }
 {

@@ -10,11 +10,13 @@ use std::collections::HashMap;
 use std::marker::Model;
 use zdd_nodes::{NodeFault, NodeId};
 
-/// The place of a tree, and a diagram that asks for this and later trees alone.
+/// The place of a tree, how much is left for it and the later trees, and a diagram that asks for these alone.
 #[derive(Clone, Copy, PartialEq, Eq, Hash)]
 pub(crate) struct State {
     /// The place of the tree.
     pub(crate) place: u32,
+    /// How much the modes may cost from there on.
+    pub(crate) most: u32,
     /// The diagram.
     pub(crate) diagram: DiagramId,
 }

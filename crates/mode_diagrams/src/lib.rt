@@ -7,6 +7,7 @@
 #![tactic(auto)]
 
 mod copies;
+mod costs;
 mod drawing;
 mod events;
 mod firable_sets;
@@ -17,6 +18,7 @@ mod numbering;
 mod paths;
 
 pub use copies::copied;
+pub use costs::diagrams_up_to;
 pub use drawing::{Undrawn, draw};
 pub use firable_sets::firable_by_modes;
 pub use listing::{Listed, list_sets};

@@ -6,7 +6,7 @@ ghost use Rattle.mode_nodes.specs.Diagrams.{IsNumber as IsDiagramNumber, IsFrom}
 ghost use Rattle.diagram_steps.specs.Putting.{Extends};
 ghost use Rattle.mode_diagrams.specs.Trees.{AreNumbered};
 ghost use Rattle.mode_diagrams.specs.Sets.{AreSmall, HasSets, IsTrueFrom};
-ghost use Rattle.mode_diagrams.specs.Kept.{AreHeld};
+ghost use Rattle.mode_diagrams.specs.Kept.{AreHeld, IsTrueIn};
 
 use crate::drawing::Undrawn;
 use crate::held::{Held, State};
@@ -18,48 +18,51 @@ use std::alloc::Global;
 use zdd_nodes::{NodeFault, NodeId, Store};
 use zdd_ops::Ops;
 
-/// The family of the sets of events on paths, in the trees from this place on, at whose modes the diagram is true: for
-/// each mode of the tree those of what is left of the diagram there, in the later trees, with the events on the path to
-/// the mode.
+/// The family of the sets of events on paths, in the trees from the state's place on, whose modes cost no more than is left
+/// and at whose modes the diagram is true: for each mode of the tree that costs no more, those of what is left of the diagram
+/// there, in the later trees and by what is left then, with the events on the path to the mode.
 fn family_from(
     ops: &mut Ops,
     held: &mut Held,
     trees: &[NumberedTree],
     diagrams: &Diagrams,
-    place: usize,
-    f: DiagramId,
+    state: State,
 ) -> Result<NodeId, NodeFault>
     requires few { length trees.now ≤ 4294967295 }
     requires numbered { AreNumbered trees.now }
     requires small { AreSmall trees.now }
-    requires place_in { place ≤ length trees.now }
-    requires number { IsDiagramNumber diagrams.now f.n }
-    requires from { IsFrom diagrams.now.nodes place f.n }
+    requires paid { length diagrams.now.costs ≤ length trees.now }
+    requires place_in { state.place ≤ length trees.now }
+    requires number { IsDiagramNumber diagrams.now.store state.diagram.n }
+    requires from { IsFrom diagrams.now.store.nodes state.place state.diagram.n }
     requires held { AreHeld trees.now diagrams.now ops.old held.old }
     ensures grows { Extends ops.old ops.new }
     ensures held { AreHeld trees.now diagrams.now ops.new held.new }
     ensures in_store { IfOk result (λ n. IsNumber ops.new n.n) }
-    ensures sets { IfOk result (λ n. HasSets (IsTrueFrom trees.now place diagrams.now f.n)
-        (family ops.new n.n)) }
+    ensures sets { IfOk result (λ n. HasSets (IsTrueIn trees.now diagrams.now state) (family ops.new n.n)) }
 {
-    if place == trees.len() {
-        return Ok(NodeId::new(u32::from(diagrams.holds_at_first(f))));
+    if state.place as usize == trees.len() {
+        return Ok(NodeId::new(u32::from(diagrams.holds_at_first(state.diagram))));
     }
-    if f.n == 0 {
+    if state.diagram.n == 0 {
         return Ok(NodeId::new(0));
     }
-    let state = State {
-        place: place as u32,
-        diagram: f,
-    };
     if let Some(number) = held.recall(state) {
         return Ok(number);
     }
-    let tree = &trees[place];
+    let tree = &trees[state.place as usize];
     let mut sets = NodeId::new(0);
     for mode in 0..tree.edges.len() + 1 {
-        let left = diagrams.branch(f, place as u32, mode as u32);
-        let later = family_from(ops, held, trees, diagrams, place + 1, left)?;
+        let cost = diagrams.cost(state.place, mode as u32);
+        if cost > state.most {
+            continue;
+        }
+        let next = State {
+            place: state.place + 1,
+            most: state.most - cost,
+            diagram: diagrams.branch(state.diagram, state.place, mode as u32),
+        };
+        let later = family_from(ops, held, trees, diagrams, next)?;
         let here = with_path(ops, tree, mode as u32, later)?;
         sets = ops.union(sets, here)?;
     }
@@ -75,8 +78,8 @@ pub struct Listed {
     pub root: NodeId,
 }
 
-/// The family of the sets of events on paths at whose modes the diagram is true. Beyond comes where more nodes were made
-/// on the way than a store may have, which says nothing of the family.
+/// The family of the sets of events on paths whose modes cost no more than is enough and at whose modes the diagram is true.
+/// Beyond comes where more nodes were made on the way than a store may have, which says nothing of the family.
 pub fn list_sets(
     alloc: Global,
     trees: &[NumberedTree],
@@ -86,7 +89,8 @@ pub fn list_sets(
     requires few { length trees.now ≤ 4294967295 }
     requires numbered { AreNumbered trees.now }
     requires small { AreSmall trees.now }
-    requires number { IsDiagramNumber diagrams.now f.n }
+    requires paid { length diagrams.now.costs ≤ length trees.now }
+    requires number { IsDiagramNumber diagrams.now.store f.n }
     ensures sound { IfOk result (λ l. IsSoundStore l.store) }
     ensures in_store { IfOk result (λ l. IsNumber l.store l.root.n) }
     ensures sets { IfOk result (λ l. HasSets (IsTrueFrom trees.now 0 diagrams.now f.n)
@@ -94,7 +98,12 @@ pub fn list_sets(
 {
     let mut ops = Ops::new(alloc, MOST_NODES);
     let mut held = Held::new(alloc);
-    let root = family_from(&mut ops, &mut held, trees, diagrams, 0, f)?;
+    let whole = State {
+        place: 0,
+        most: diagrams.most(),
+        diagram: f,
+    };
+    let root = family_from(&mut ops, &mut held, trees, diagrams, whole)?;
     Ok(Listed {
         store: ops.into_store(),
         root,

@@ -9,6 +9,7 @@ use Rattle.eq_core.specs.Ordered.{AreBelow}
 use Rattle.eq_core.specs.Values.{IsBelow}
 use Rattle.eq_core.specs.Views.{gate_of, operand_of}
 use Rattle.eq_core.proofs.Telling.{place_below}
+use Rattle.mode_nodes.proofs.Allowed.{GrowsWithin-none, GrowsWithin-then}
 use Rattle.diagram_steps.specs.Joints.{AreTabled}
 use Rattle.mode_diagrams.specs.Agreement.{IsReady, AreReady}
 use Rattle.mode_diagrams.specs.Lacking.LacksSome.{own, named}
@@ -18,6 +19,7 @@ use Rattle.mode_diagrams.proofs.drawing.draw.Goals as goal
 
 pub loop-number-init : goal.loop-number-init
 loop-number-init c = record {
+  grows = GrowsWithin-none c.args.store.now;
   known = gates_none c.args.trees.now (map gate_of c.args.gates.now) c.args.marks.now;
   drawing = subst (λ z. IsDrawing c.args.trees.now (map gate_of c.args.gates.now) c.args.marks.now 0 z c.args.store.now)
       (sym c.new-table.ensures.items)
@@ -26,7 +28,7 @@ loop-number-init c = record {
 
 pub gate_diagram-requires-clause-table : goal.gate_diagram-requires-clause-table
 gate_diagram-requires-clause-table c =
-    subst (λ z. AreTabled z c.loop-number.store) (sym c.deref.ensures.value) c.loop-number.invariant.drawing.numbers
+    subst (λ z. AreTabled z c.loop-number.store.store) (sym c.deref.ensures.value) c.loop-number.invariant.drawing.numbers
 
 pub gate_diagram-requires-clause-below : goal.gate_diagram-requires-clause-below
 gate_diagram-requires-clause-below c =
@@ -54,6 +56,8 @@ loop-number-preserved c =
     slice_get_read gates (length gates) number gate refl c.loop-number-test.true c.index-gates-number.is in
     let view = stands_map gate_of gates number gate stands in
     record {
+      grows = GrowsWithin-then c.args.store.now c.loop-number.store c.gate_diagram.new.store c.loop-number.invariant.grows
+          c.in_ok-drawn.ensures.grows;
       known = gates_more trees views marks number (gate_of gate) view
           (λ m. c.in_ok-drawn.ensures.known (get_or_from_slice_get marks number true false m)) c.loop-number.invariant.known;
       drawing = subst (λ z. IsDrawing trees views marks (number + 1) z c.gate_diagram.new.store) (sym c.in_ok-push.ensures.items)
@@ -88,7 +92,7 @@ returns-in_err-drawn-clause-beyond c = λ e.
 
 pub operand_diagram-requires-clause-table : goal.operand_diagram-requires-clause-table
 operand_diagram-requires-clause-table c =
-    subst (λ z. AreTabled z c.loop-number.store) (sym c.deref-2.ensures.value) c.loop-number.invariant.drawing.numbers
+    subst (λ z. AreTabled z c.loop-number.store.store) (sym c.deref-2.ensures.value) c.loop-number.invariant.drawing.numbers
 
 pub operand_diagram-requires-clause-below : goal.operand_diagram-requires-clause-below
 operand_diagram-requires-clause-below c =

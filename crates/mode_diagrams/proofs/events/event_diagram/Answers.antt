@@ -54,8 +54,8 @@ returns-clause-agrees c = λ gates.
     told_agrees trees gates k c.args.event.n tree stands c.requires.apart has
     c.in_ok-told.told.items told c.choice.new.self c.in_ok-drawn.drawn.n d.number
     (λ modes n st. d.value modes
-    ∙ ap (λ ns. choice c.args.store.now k ns modes) c.deref.ensures.value
-    ∙ choice_tells tree c.args.event.n c.in_ok-told.told.items told c.args.store.now k modes n st)
+    ∙ ap (λ ns. choice c.args.store.now.store k ns modes) c.deref.ensures.value
+    ∙ choice_tells tree c.args.event.n c.in_ok-told.told.items told c.args.store.now.store k modes n st)
 
 pub returns-clause-known : goal.returns-clause-known
 returns-clause-known c = λ none.

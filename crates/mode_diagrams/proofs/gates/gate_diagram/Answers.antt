@@ -84,9 +84,9 @@ returns-clause-agrees c = λ _ gates ready.
     let t = c.joined.new.store in
     let r = c.in_ok-joined.field-0.n in
     drawn_joint c.args.trees.now c.args.table.now c.args.store.now (all_needed c.args.gate.now.joint)
-    (map operand_of items) ns c.loop-operand.store t r all c.loop-operand.invariant.drawn
-    (subst (λ (b : Bool). IsJoint b c.loop-operand.store ns t r) both
-    (subst (λ z. IsJoint c.eq.result c.loop-operand.store z t r) c.deref.ensures.value c.in_ok-joined.ensures.joint))
+    (map operand_of items) ns c.loop-operand.store t r all c.loop-operand.invariant.drawn c.in_ok-joined.ensures.grows
+    (subst (λ (b : Bool). IsJoint b c.loop-operand.store ns t.store r) both
+    (subst (λ z. IsJoint c.eq.result c.loop-operand.store z t.store r) c.deref.ensures.value c.in_ok-joined.ensures.joint))
     gates ready
 
 pub returns-clause-known : goal.returns-clause-known

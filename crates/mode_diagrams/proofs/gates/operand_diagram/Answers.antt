@@ -30,7 +30,7 @@ returns-in_ok-signed-in-Event-clause-agrees c = λ gates ready.
     subst (λ o. Agrees c.args.trees.now gates (operand_of o) c.signed.new.store c.in_ok-signed-in-Event.field-0.n)
     (sym c.in-Event.is)
     (agrees_event c.args.trees.now gates c.in-Event.event.n c.in-Event.sign c.event_diagram.new.store c.signed.new.store
-    c.in_ok-plain-in-Event.plain.n c.in_ok-signed-in-Event.field-0.n (c.in_ok-plain-in-Event.ensures.agrees gates)
+    c.in_ok-plain-in-Event.plain.n c.in_ok-signed-in-Event.field-0.n c.in_ok-signed-in-Event.ensures.grows (c.in_ok-plain-in-Event.ensures.agrees gates)
     c.in_ok-signed-in-Event.ensures.signed)
 
 pub signed-requires-in-Gate : goal.signed-requires-in-Gate
@@ -50,7 +50,7 @@ returns-in_ok-signed-in-Gate-clause-agrees c = λ gates ready.
     subst (λ o. Agrees c.args.trees.now gates (operand_of o) c.signed-in-Gate.new.store c.in_ok-signed-in-Gate.field-0.n)
     (sym c.in-Gate.is)
     (agrees_gate c.args.trees.now gates g c.in-Gate.sign c.args.store.now c.signed-in-Gate.new.store
-    (get_or table g false_number).n c.in_ok-signed-in-Gate.field-0.n
+    (get_or table g false_number).n c.in_ok-signed-in-Gate.field-0.n c.in_ok-signed-in-Gate.ensures.grows
     (ready.gate g c.in-Gate.sign (get_or table g false_number) (ap operand_of c.in-Gate.is) at)
     c.in_ok-signed-in-Gate.ensures.signed)
 

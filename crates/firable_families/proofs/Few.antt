@@ -13,11 +13,15 @@ use Rattle.zdd_families.specs.Families.{Family, node, IsAbove}
 use Rattle.zdd_families.proofs.Filters.{IsFamily-filter}
 use Rattle.zdd_families.proofs.Laws.{filter-node, filter_alike, filter-none, every, has-filter-yes, IsAbove-filter}
 use Rattle.zdd_families.proofs.Minimal.{member_of}
-use Rattle.firable_families.specs.Firable.{IsFirableOf, IsFirableUpTo}
+use Rattle.firable_families.specs.Firable.{AndUpTo, IsFirableOf, IsFirableUpTo}
 use Rattle.firable_families.specs.Walk.{few_of, one_fewer}
 use Rattle.firable_families.proofs.Listing.{Lists, lists_listed, listed_lists, filter_part}
 
 -- ---- what is firable, and small
+pub and_up_to : (order : Option ℕ) (P : List ℕ → Type 0) (set : List ℕ) → P set → UpTo order set → AndUpTo order P set
+and_up_to None P set p u = p
+and_up_to (Some k) P set p u = (p, u)
+
 pub firable_of : (order : Option ℕ) (trees : List ModeTree) (set : List ℕ) → IsFirableUpTo order trees set
     → IsFirableOf trees set
 firable_of None trees set f = f

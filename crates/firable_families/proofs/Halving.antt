@@ -1,5 +1,5 @@
 -- The step of the walk as its code takes it: the trees' families are nodes or lie above the least event.
-use Rattle.std.proofs.Common.{◌≡◌, ◌≢◌, ℕ, suc, ◌+◌, ◌<◌, true, false, not, cond, ◌||◌, eqb, List, [], ◌∷◌, map, filter, Result, refl, sym, ap, ap₂, ◌∙◌, subst, arith}
+use Rattle.std.proofs.Common.{◌≡◌, ◌≢◌, ℕ, suc, ◌+◌, ◌<◌, true, false, not, cond, ◌||◌, eqb, List, [], ◌∷◌, Option, Some, map, filter, Result, refl, sym, ap, ap₂, ◌∙◌, subst, arith}
 use Rattle.std.specs.List.{list_any}
 use Rattle.zdd_families.specs.Families.{Family, holds, node, IsAbove}
 use Rattle.zdd_families.specs.Sections.{upper, lower, IsCounted}
@@ -10,7 +10,8 @@ use Rattle.zdd_nodes.specs.Nodes.{NodeId, Stored, Draws}
 use Rattle.zdd_nodes.specs.declared.NodeFault.{NodeFault}
 use Rattle.zdd_nodes.proofs.Growing.{Draws-weaker, counted_made}
 use Rattle.zdd_nodes.proofs.Halved.{Halved}
-use Rattle.firable_families.specs.Walk.{left, all_lower, all_taken, some_occurs, occurs, taken}
+use Rattle.firable_families.specs.Walk.{left, all_lower, all_taken, some_occurs, few_of, occurs, taken}
+use Rattle.firable_families.proofs.Few.{few_upper, few_node, few_above, upper_above}
 use Rattle.firable_families.proofs.Products.{Lacks, left_halves, left_skip, lower_lacks, taken_lacks}
 use Rattle.firable_families.proofs.Walking.{left_above}
 
@@ -57,28 +58,31 @@ passed : (v : ℕ) (c n k e : ℕ) (fs : List Family) → n ≡ c + k → e ≡ 
 passed v c n k e fs m q l h = subst (IsAbove v) (sym (left_skip c n k 0 e fs m q (λ x y u. h x u)))
     (left_above v k e fs l)
 
--- a state of the walk at its least event
-module _ (m n v : ℕ) (fs : List Family) (q : n ≡ v + suc m) (h : (x : ℕ) → x < v → Lacks x fs)
+-- a state of the walk at its least event, and of its sets those of at most as many events as are asked for
+module _ (order : Option ℕ) (m n v : ℕ) (fs : List Family) (q : n ≡ v + suc m) (h : (x : ℕ) → x < v → Lacks x fs)
     (o : some_occurs v fs ≡ true) where
   abbrev Made : Family
-  Made = left n 0 fs
+  Made = few_of order (left n 0 fs)
 
   abbrev Without : Family
-  Without = left n 0 (all_lower v fs)
+  Without = few_of order (left n 0 (all_lower v fs))
 
   abbrev With : Family
-  With = left n 0 (all_taken v fs)
+  With = few_upper order (left n 0 (all_taken v fs))
 
   made_is : Made ≡ node v Without With
-  made_is = left_halves m n v fs q h o
+  made_is = ap (few_of order) (left_halves m n v fs q h o)
+      ∙ few_node order v (left n 0 (all_lower v fs)) (left n 0 (all_taken v fs))
 
   without_above : IsAbove v Without
-  without_above = passed v (suc v) n m (suc v) (all_lower v fs) (omega (arith, q)) (omega arith) (omega arith)
-      (λ x u. lower_lacks v x fs (h x) u)
+  without_above = few_above order v (left n 0 (all_lower v fs))
+      (passed v (suc v) n m (suc v) (all_lower v fs) (omega (arith, q)) (omega arith) (omega arith)
+      (λ x u. lower_lacks v x fs (h x) u))
 
   with_above : IsAbove v With
-  with_above = passed v (suc v) n m (suc v) (all_taken v fs) (omega (arith, q)) (omega arith) (omega arith)
-      (λ x u. taken_lacks v x fs (h x) u)
+  with_above = upper_above order v (left n 0 (all_taken v fs))
+      (passed v (suc v) n m (suc v) (all_taken v fs) (omega (arith, q)) (omega arith) (omega arith)
+      (λ x u. taken_lacks v x fs (h x) u))
 
   pub walk_halved : Halved (IsCounted Made) Made v Without With
   walk_halved = record {
@@ -87,6 +91,11 @@ module _ (m n v : ℕ) (fs : List Family) (q : n ≡ v + suc m) (h : (x : ℕ) �
     upper_above = with_above;
     whole = counted_made Made;
   }
+
+  -- where no event is left to take, the whole is the lower half
+  pub walk_only : order ≡ Some 0 → Made ≡ Without
+  walk_only none = made_is
+      ∙ ap (λ z. node v Without (few_upper z (left n 0 (all_taken v fs)))) none
 
   pub walk_lower : (s t : Stored) (r : Result NodeId NodeFault) → Draws (IsCounted Without) Without s t r
       → Draws (IsCounted Made) Without s t r

@@ -36,10 +36,14 @@ pub record IsFirableOf (trees : List ModeTree) (set : List ℕ) : Type 0 where
   pub whole : (e : ℕ) → IsOneOf set e
       → (k : ℕ) × (tree : ModeTree) × (l : Label) × Stands trees k tree × IsOneOf (path k) l × (l.event ≡ e)
 
--- the set is firable in the trees, and has at most as many events as are asked for; where no number is given, it is firable
+-- of the sets with P those of at most as many events as are asked for; where no number is given, all
+abbrev pub AndUpTo : Option ℕ → (List ℕ → Type 0) → List ℕ → Type 0
+AndUpTo None P = P
+AndUpTo (Some k) P = λ set. P set × HasAtMost k set
+
+-- the set is firable in the trees, and has at most as many events as are asked for
 abbrev pub IsFirableUpTo : Option ℕ → List ModeTree → List ℕ → Type 0
-IsFirableUpTo None trees = IsFirableOf trees
-IsFirableUpTo (Some k) trees = λ set. IsFirableOf trees set × HasAtMost k set
+IsFirableUpTo order trees = AndUpTo order (IsFirableOf trees)
 
 -- the set is one of those, and the test is true of it
 pub record IsTrueUpTo (order : Option ℕ) (trees : List ModeTree) (test : List ℕ → Bool) (set : List ℕ) : Type 0 where

@@ -1,5 +1,5 @@
 -- From the minimal sets of the two operands to the answer.
-use Rattle.std.proofs.Common.{◌≡◌, ◌≢◌, inl, inr, ℕ, ◌<◌, ◌||◌, List, [], ◌∷◌, filter, Result, Ok, Err, refl, sym, ap, ◌∙◌, subst, arith, true≢false}
+use Rattle.std.proofs.Common.{◌≡◌, ◌≢◌, inl, inr, ℕ, ◌<◌, ◌||◌, List, [], ◌∷◌, Option, filter, Result, Ok, Err, refl, sym, ap, ◌∙◌, subst, arith, true≢false}
 use Rattle.std.specs.List.{All, list_any}
 use Rattle.std.proofs.lemmas.List.Elements.{All-append, All-weaker}
 use Rattle.ar_firing.specs.Forest.{ModeTree}
@@ -18,10 +18,10 @@ use Rattle.zdd_nodes.proofs.Lists.{some_sets}
 use Rattle.zdd_nodes.proofs.Limits.{full_is_more}
 use Rattle.eq_core.specs.Gates.{Operand, Gate, Table}
 use Rattle.eq_core.specs.Values.{value_at}
-use Rattle.firable_families.specs.Firable.{IsFirableOf, ListsLeast}
+use Rattle.firable_families.specs.Firable.{IsFirableUpTo, ListsLeastUpTo}
 use Rattle.firable_families.proofs.Listing.{true_lists, least_listed}
 use Rattle.gate_diagrams.specs.Needed.{family_at, IsNeeded, IsNeededByBoth}
-use Rattle.gate_diagrams.specs.NodeLimits.{IsConflictAt, NodesMay}
+use Rattle.gate_diagrams.specs.NodeLimits.{IsConflictUpTo, NodesMayUpTo}
 use Rattle.gate_diagrams.specs.Needed.IsNeeded.{of_firable}
 use Rattle.gate_diagrams.proofs.Filters.{of_members}
 use Rattle.gate_diagrams.proofs.Needing.{minimal_drawn}
@@ -53,28 +53,29 @@ at_family : (all : Family) (gates : List Gate) (o : Operand) → IsFamily all �
 unfolding family_at
 at_family all gates o k = IsFamily-filter (value_at gates o) all k
 
-module _ (trees : List ModeTree) (table : Table) (all : Family) (is_all : AreListed (IsFirableOf trees) all) where
-  lists_least : (o : Operand) → ListsLeast trees (value_at table.gates o) (minimal (family_at all table.gates o))
+module _ (order : Option ℕ) (trees : List ModeTree) (table : Table) (all : Family)
+    (is_all : AreListed (IsFirableUpTo order trees) all) where
+  lists_least : (o : Operand) → ListsLeastUpTo order trees (value_at table.gates o) (minimal (family_at all table.gates o))
   unfolding family_at
-  lists_least o = least_listed trees (value_at table.gates o) (of_members table.gates o) all is_all
+  lists_least o = least_listed order trees (value_at table.gates o) (of_members table.gates o) all is_all
 
-  none_so : family_at all table.gates table.conflict ≡ [] → (set : List ℕ) → IsConflictAt trees table set → ⊥
+  none_so : family_at all table.gates table.conflict ≡ [] → (set : List ℕ) → IsConflictUpTo order trees table set → ⊥
   unfolding family_at
   none_so e set t =
-      let w = (true_lists trees (value_at table.gates table.conflict) (of_members table.gates table.conflict) all
+      let w = (true_lists order trees (value_at table.gates table.conflict) (of_members table.gates table.conflict) all
       is_all).whole set t in
       true≢false (sym w.1 ∙ ap (λ z. has z w.0) e)
 
-  some_so : family_at all table.gates table.conflict ≢ [] → (set : List ℕ) × IsConflictAt trees table set
+  some_so : family_at all table.gates table.conflict ≢ [] → (set : List ℕ) × IsConflictUpTo order trees table set
   unfolding family_at
   some_so n = at (filter (value_at table.gates table.conflict) all) refl
     where
       at : (f : Family) → filter (value_at table.gates table.conflict) all ≡ f
-          → (set : List ℕ) × IsConflictAt trees table set
+          → (set : List ℕ) × IsConflictUpTo order trees table set
       at [] e = absurd (n e)
       at (s ∷ f) e = (
         s,
-        (true_lists trees (value_at table.gates table.conflict) (of_members table.gates table.conflict) all
+        (true_lists order trees (value_at table.gates table.conflict) (of_members table.gates table.conflict) all
             is_all).sound s
             (ap (λ z. has z s) e ∙ ap (λ b. b || has f s) (same-refl s)),
       )
@@ -92,9 +93,10 @@ module _ (table : Table) (all : Family) (is_family : IsFamily all) (s0 s1 : Stor
     pub needed_conflict : All NeededConflict s1.families
     needed_conflict = all_stored NeededConflict s0 s1 stored d.grows
 
-    pub full_conflict : (trees : List ModeTree) → AreListed (IsFirableOf trees) all → r ≡ Err Full
-        → NodesMay trees table s0.limit
-    full_conflict trees is_all e =
+    pub full_conflict : (order : Option ℕ) (trees : List ModeTree)
+        → AreListed (IsFirableUpTo order trees) all → r ≡ Err Full
+        → NodesMayUpTo order trees table s0.limit
+    full_conflict order trees is_all e =
         let m = subst (λ z. IsMoreThan z NeededConflict) d.grows.limit
         (full_is_more NeededConflict s1 needed_conflict (d.full e)) in
         record {
@@ -106,17 +108,18 @@ module _ (table : Table) (all : Family) (is_family : IsFamily all) (s0 s1 : Stor
 
   module _ (n : NodeId)
       (d : Draws NeededConflict (minimal (family_at all table.gates table.conflict)) s0 s1 (Ok n)) where
-    pub sets_conflict : IsSoundStore s1 → (n.n ≡ 0 → ⊥) → (trees : List ModeTree) → AreListed (IsFirableOf trees) all
-        → ((set : List ℕ) × IsConflictAt trees table set)
-        × (IsNumber s1 n.n × ListsLeast trees (value_at table.gates table.conflict) (family s1 n.n))
-    sets_conflict k some trees is_all =
+    pub sets_conflict : IsSoundStore s1 → (n.n ≡ 0 → ⊥) → (order : Option ℕ) (trees : List ModeTree)
+        → AreListed (IsFirableUpTo order trees) all
+        → ((set : List ℕ) × IsConflictUpTo order trees table set)
+        × (IsNumber s1 n.n × ListsLeastUpTo order trees (value_at table.gates table.conflict) (family s1 n.n))
+    sets_conflict k some order trees is_all =
         let positive : 0 < n.n = grind (arith, some) in
         let there : family s1 n.n ≢ [] = some_sets s1.families k.different n.n positive d.ok.0 in (
-          some_so trees table all is_all (λ e. there (d.ok.1 ∙ ap minimal e ∙ minimal_of_none)),
+          some_so order trees table all is_all (λ e. there (d.ok.1 ∙ ap minimal e ∙ minimal_of_none)),
           (
             d.ok.0,
-            subst (ListsLeast trees (value_at table.gates table.conflict)) (sym d.ok.1)
-                (lists_least trees table all is_all table.conflict),
+            subst (ListsLeastUpTo order trees (value_at table.gates table.conflict)) (sym d.ok.1)
+                (lists_least order trees table all is_all table.conflict),
           ),
         )
 
@@ -136,12 +139,13 @@ module _ (table : Table) (all : Family) (is_family : IsFamily all) (s0 s1 : Stor
             all = All-weaker (IsNeeded all table.gates table.top) NeededBoth (λ h x. inr x) t.grows.added t.grows.all;
           })
 
-      pub full_both : (trees : List ModeTree) → AreListed (IsFirableOf trees) all → q ≡ Err Full
-          → NodesMay trees table s0.limit
-      full_both trees is_all e = record {
+      pub full_both : (order : Option ℕ) (trees : List ModeTree)
+          → AreListed (IsFirableUpTo order trees) all → q ≡ Err Full
+          → NodesMayUpTo order trees table s0.limit
+      full_both order trees is_all e = record {
         all = all;
         is_all = is_all;
-        where_some = λ set x. absurd (none_so trees table all is_all (none_at none) set x);
+        where_some = λ set x. absurd (none_so order trees table all is_all (none_at none) set x);
         where_none = λ x. subst (λ z. IsMoreThan z NeededBoth) (t.grows.limit ∙ d.grows.limit)
             (full_is_more NeededBoth s2 needed_both
             (full_weaker (IsNeeded all table.gates table.top) NeededBoth s2 (λ h y. inr y) (t.full e)));
@@ -149,15 +153,16 @@ module _ (table : Table) (all : Family) (is_family : IsFamily all) (s0 s1 : Stor
 
     pub sets_top : (s2 : Stored) (m : NodeId) → n.n ≡ 0
         → Draws (IsNeeded all table.gates table.top) (minimal (family_at all table.gates table.top)) s1 s2 (Ok m)
-        → (trees : List ModeTree) → AreListed (IsFirableOf trees) all
-        → ((set : List ℕ) → IsConflictAt trees table set → ⊥)
-        × (IsNumber s2 m.n × ListsLeast trees (value_at table.gates table.top) (family s2 m.n))
-    sets_top s2 m none t trees is_all = (
-      none_so trees table all is_all (none_at none),
+        → (order : Option ℕ) (trees : List ModeTree)
+        → AreListed (IsFirableUpTo order trees) all
+        → ((set : List ℕ) → IsConflictUpTo order trees table set → ⊥)
+        × (IsNumber s2 m.n × ListsLeastUpTo order trees (value_at table.gates table.top) (family s2 m.n))
+    sets_top s2 m none t order trees is_all = (
+      none_so order trees table all is_all (none_at none),
       (
         t.ok.0,
-        subst (ListsLeast trees (value_at table.gates table.top)) (sym t.ok.1)
-            (lists_least trees table all is_all table.top),
+        subst (ListsLeastUpTo order trees (value_at table.gates table.top)) (sym t.ok.1)
+            (lists_least order trees table all is_all table.top),
       ),
     )
 
@@ -181,14 +186,16 @@ module _ (table : Table) (f : ℕ) (s0 s1 : Stored) (sound : IsSoundStore s0) (f
     pub conflict_needed : All Conflict s1.families
     conflict_needed = needed_conflict table all (sound.families f f_in) s0 s1 stored_needed r d
 
-    pub conflict_full : (trees : List ModeTree) → AreListed (IsFirableOf trees) all → r ≡ Err Full
-        → NodesMay trees table s0.limit
+    pub conflict_full : (order : Option ℕ) (trees : List ModeTree)
+        → AreListed (IsFirableUpTo order trees) all → r ≡ Err Full
+        → NodesMayUpTo order trees table s0.limit
     conflict_full = full_conflict table all (sound.families f f_in) s0 s1 stored_needed r d
 
   module _ (n : NodeId) (d : Draws Conflict (minimal (family_at all table.gates table.conflict)) s0 s1 (Ok n)) where
-    pub conflict_sets : IsSoundStore s1 → (n.n ≡ 0 → ⊥) → (trees : List ModeTree) → AreListed (IsFirableOf trees) all
-        → ((set : List ℕ) × IsConflictAt trees table set)
-        × (IsNumber s1 n.n × ListsLeast trees (value_at table.gates table.conflict) (family s1 n.n))
+    pub conflict_sets : IsSoundStore s1 → (n.n ≡ 0 → ⊥) → (order : Option ℕ) (trees : List ModeTree)
+        → AreListed (IsFirableUpTo order trees) all
+        → ((set : List ℕ) × IsConflictUpTo order trees table set)
+        × (IsNumber s1 n.n × ListsLeastUpTo order trees (value_at table.gates table.conflict) (family s1 n.n))
     conflict_sets = sets_conflict table all (sound.families f f_in) s0 s1 stored_needed n d
 
     module _ (s2 : Stored) (q : Result NodeId NodeFault) (none : n.n ≡ 0)
@@ -201,15 +208,17 @@ module _ (table : Table) (f : ℕ) (s0 s1 : Stored) (sound : IsSoundStore s0) (f
       pub both_needed : All Both s2.families
       both_needed = needed_both table all (sound.families f f_in) s0 s1 stored_needed n d s2 q none top_drawn
 
-      pub both_full : (trees : List ModeTree) → AreListed (IsFirableOf trees) all → q ≡ Err Full
-          → NodesMay trees table s0.limit
+      pub both_full : (order : Option ℕ) (trees : List ModeTree)
+          → AreListed (IsFirableUpTo order trees) all → q ≡ Err Full
+          → NodesMayUpTo order trees table s0.limit
       both_full = full_both table all (sound.families f f_in) s0 s1 stored_needed n d s2 q none top_drawn
 
     pub top_sets : (s2 : Stored) (m : NodeId) → n.n ≡ 0
         → Draws (IsNeeded (family s1 f) table.gates table.top) (minimal (family_at (family s1 f) table.gates table.top))
         s1 s2 (Ok m)
-        → (trees : List ModeTree) → AreListed (IsFirableOf trees) all
-        → ((set : List ℕ) → IsConflictAt trees table set → ⊥)
-        × (IsNumber s2 m.n × ListsLeast trees (value_at table.gates table.top) (family s2 m.n))
+        → (order : Option ℕ) (trees : List ModeTree)
+        → AreListed (IsFirableUpTo order trees) all
+        → ((set : List ℕ) → IsConflictUpTo order trees table set → ⊥)
+        × (IsNumber s2 m.n × ListsLeastUpTo order trees (value_at table.gates table.top) (family s2 m.n))
     top_sets s2 m none t = sets_top table all (sound.families f f_in) s0 s1 stored_needed n d s2 m none
         (top_drawn s2 (Ok m) none t)

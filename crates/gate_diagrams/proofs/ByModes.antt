@@ -1,5 +1,5 @@
 -- Families made over modes are those of the operands, and what an answer by them says.
-use Rattle.std.proofs.Common.{◌≡◌, ◌≤◌, ℕ, Bool, List, [], length, get_or, filter, Result, Ok, Err, IfOk, refl, sym, ap, ◌∙◌, subst, arith}
+use Rattle.std.proofs.Common.{◌≡◌, ◌≤◌, ℕ, Bool, List, [], Option, length, get_or, filter, Result, Ok, Err, IfOk, refl, sym, ap, ◌∙◌, subst, arith}
 use Rattle.std.specs.List.{All}
 use Rattle.std.proofs.lemmas.List.Elements.{All-nil, All-get_or}
 use Rattle.ar_base.proofs.Standing.{stands_one, stands_within, stands_get}
@@ -15,19 +15,22 @@ use Rattle.eq_core.specs.Gates.{Operand, GateIs, Gate, Table}
 use Rattle.eq_core.specs.Ordered.{AreOrdered}
 use Rattle.eq_core.specs.Values.{IsBelow, value_at}
 use Rattle.eq_core.proofs.Telling.{place_below}
-use Rattle.firable_families.specs.Firable.{IsFirableOf, IsTrueAt, ListsLeast}
+use Rattle.firable_families.specs.Firable.{IsFirableUpTo, IsTrueUpTo, ListsLeastUpTo}
+use Rattle.firable_families.proofs.Few.{firable_of, small_of, firable_up_to}
 use Rattle.firable_families.proofs.Listing.{Lists, lists_listed, listed_lists, true_lists}
-use Rattle.mode_nodes.specs.Diagrams as modes
+use Rattle.mode_nodes.specs.Bounds.{Bounded, GrowsWithin}
+use Rattle.mode_nodes.proofs.Allowed.{allowed, allowed_before}
 use Rattle.diagram_steps.specs.declared.trees.NumberedTree.{NumberedTree}
 use Rattle.diagram_steps.specs.Trees.{edges_of}
 use Rattle.mode_diagrams.specs.Agreement.{Agrees, AreClosed}
+use Rattle.mode_diagrams.specs.Costs.{IsEnoughFor}
 use Rattle.mode_diagrams.specs.declared.drawing.Undrawn.{Undrawn}
 use Rattle.mode_diagrams.specs.Numbers.{HasFewEdges, IsByModes}
 use Rattle.mode_diagrams.specs.Sets.{AreSmall, HasSets, IsTrueFrom}
 use Rattle.mode_diagrams.specs.declared.listing.Listed.{Listed}
 use Rattle.gate_cones.specs.Cones.{own, named}
 use Rattle.gate_diagrams.specs.Needed.{family_at, IsNeeded, IsNeededByBoth, itself}
-use Rattle.gate_diagrams.specs.NodeLimits.{NodesMay}
+use Rattle.gate_diagrams.specs.NodeLimits.{NodesMayUpTo}
 use Rattle.gate_diagrams.specs.Needed.IsNeeded.{of_signed}
 use Rattle.gate_diagrams.specs.declared.answer.Drawn.{Drawn}
 use Rattle.gate_diagrams.specs.declared.answer.Drawn.TheVariants.{Conflicts, Cuts}
@@ -67,40 +70,55 @@ marks_closed gates o marks a below m = record {
 }
 
 -- ---- the family
-module _ (ns : List NumberedTree) (gates : List Gate) (o : Operand) (s : modes.Stored) (n : ℕ)
-    (a : Agrees ns gates o s n) (f : Family) (k : IsFamily f) (h : HasSets (IsTrueFrom ns 0 s n) f) where
-  lists_true : (forest : List ModeTree) → IsByModes forest ns → Lists (IsTrueAt forest (value_at gates o)) f
+-- what is enough for a store stays so as it grows
+pub enough_kept : (order : Option ℕ) (ns : List NumberedTree) (s t : Bounded) → GrowsWithin s t → IsEnoughFor order ns s
+    → IsEnoughFor order ns t
+enough_kept order ns s t g e = record {
+  short = subst (λ z. length z ≤ length ns) (sym g.costs) e.short;
+  few = λ modes set is h. e.few modes set is (allowed_before s t modes g h);
+  all = λ modes set is u. allowed s t modes g (e.all modes set is u);
+}
+
+module _ (order : Option ℕ) (ns : List NumberedTree) (gates : List Gate) (o : Operand) (s : Bounded) (n : ℕ)
+    (enough : IsEnoughFor order ns s) (a : Agrees ns gates o s n) (f : Family) (k : IsFamily f)
+    (h : HasSets (IsTrueFrom ns 0 s n) f) where
+  lists_true : (forest : List ModeTree) → IsByModes forest ns → Lists (IsTrueUpTo order forest (value_at gates o)) f
   lists_true forest b = record {
     is_family = k;
     sound = λ set i.
         let x = h.sound set i in
-        record { is_firable = b.firable x.modes set x.are; holds = sym (a.same x.modes set x.are) ∙ x.holds };
+        record {
+          is_firable = firable_up_to order forest set (b.firable x.modes set x.are) (enough.few x.modes set x.are x.cheap);
+          holds = sym (a.same x.modes set x.are x.cheap) ∙ x.holds;
+        };
     whole = λ set t.
-        let m = b.modes set t.is_firable in
-        h.whole set (record { modes = m.0; are = m.1; holds = a.same m.0 set m.1 ∙ t.holds });
+        let m = b.modes set (firable_of order forest set t.is_firable) in
+        let cheap = enough.all m.0 set m.1 (small_of order forest set t.is_firable) in
+        h.whole set (record { modes = m.0; are = m.1; cheap = cheap; holds = a.same m.0 set m.1 cheap ∙ t.holds });
   }
 
-  pub family_is : (forest : List ModeTree) → IsByModes forest ns → (all : Family) → AreListed (IsFirableOf forest) all
-      → f ≡ family_at all gates o
+  pub family_is : (forest : List ModeTree) → IsByModes forest ns → (all : Family)
+      → AreListed (IsFirableUpTo order forest) all → f ≡ family_at all gates o
   unfolding family_at
   family_is forest b all l = listed_one f (filter (value_at gates o) all) (lists_listed (lists_true forest b))
-      (lists_listed (true_lists forest (value_at gates o) (of_members gates o) all l))
+      (lists_listed (true_lists order forest (value_at gates o) (of_members gates o) all l))
 
-is_listed : (ns : List NumberedTree) (gates : List Gate) (o : Operand) (s : modes.Stored) (n : ℕ) (l : Listed)
-    → Agrees ns gates o s n → IsSoundStore l.store → IsNumber l.store l.root.n
-    → HasSets (IsTrueFrom ns 0 s n) (family l.store l.root.n) → IsListed ns gates o l
-is_listed ns gates o s n l a sound in_store h = record {
+is_listed : (order : Option ℕ) (ns : List NumberedTree) (gates : List Gate) (o : Operand) (s : Bounded) (n : ℕ)
+    (l : Listed) → IsEnoughFor order ns s → Agrees ns gates o s n → IsSoundStore l.store → IsNumber l.store l.root.n
+    → HasSets (IsTrueFrom ns 0 s n) (family l.store l.root.n) → IsListed order ns gates o l
+is_listed order ns gates o s n l enough a sound in_store h = record {
   sound = sound;
   in_store = in_store;
-  is = family_is ns gates o s n a (family l.store l.root.n) (sound.families l.root.n in_store) h;
+  is = family_is order ns gates o s n enough a (family l.store l.root.n) (sound.families l.root.n in_store) h;
 }
 
-pub listed_or_not : (ns : List NumberedTree) (gates : List Gate) (o : Operand) (s : modes.Stored) (n : ℕ)
-    → Agrees ns gates o s n → (r : Result Listed Undrawn) → IfOk r (λ l. IsSoundStore l.store)
+pub listed_or_not : (order : Option ℕ) (ns : List NumberedTree) (gates : List Gate) (o : Operand) (s : Bounded) (n : ℕ)
+    → IsEnoughFor order ns s → Agrees ns gates o s n → (r : Result Listed Undrawn) → IfOk r (λ l. IsSoundStore l.store)
     → IfOk r (λ l. IsNumber l.store l.root.n) → IfOk r (λ l. HasSets (IsTrueFrom ns 0 s n) (family l.store l.root.n))
-    → IfOk r (λ l. IsListed ns gates o l)
-listed_or_not ns gates o s n a (Ok l) sound in_store h = is_listed ns gates o s n l a sound in_store h
-listed_or_not ns gates o s n a (Err e) sound in_store h = tt
+    → IfOk r (λ l. IsListed order ns gates o l)
+listed_or_not order ns gates o s n enough a (Ok l) sound in_store h =
+    is_listed order ns gates o s n l enough a sound in_store h
+listed_or_not order ns gates o s n enough a (Err e) sound in_store h = tt
 
 -- ---- the minimal sets
 module _ (all : Family) (gates : List Gate) (o : Operand) (whole : Family) (is : whole ≡ family_at all gates o)
@@ -121,10 +139,11 @@ module _ (all : Family) (gates : List Gate) (o : Operand) (whole : Family) (is :
   least_copied u n r d m = least_drawn all gates o s t u n r (copied_needed (Ok n) d) m
 
 -- ---- the answer
-module _ (trees : List ModeTree) (table : Table) (all : Family) (is_all : AreListed (IsFirableOf trees) all) (limit : ℕ)
+module _ (order : Option ℕ) (trees : List ModeTree) (table : Table) (all : Family)
+    (is_all : AreListed (IsFirableUpTo order trees) all) (limit : ℕ)
   where
     abbrev Right : Result Drawn Unanswered → Type 0
-    Right r = AnswersByModes trees table all limit r
+    Right r = AnswersByModes order trees table all limit r
 
     pub beyond_right : Right (Err Beyond)
     beyond_right = record { sets = tt; needed = tt; within = tt; full = λ e. let w : ⊥ = cc in absurd w }
@@ -157,19 +176,19 @@ module _ (trees : List ModeTree) (table : Table) (all : Family) (is_all : AreLis
         within = tt;
         full = λ x.
             let y : e ≡ Full = cc in
-            subst (NodesMay trees table) limited
-            (full_conflict table all is_family s0 s1 stored (Err e) d trees is_all (ap (λ (z : NodeFault). Err z) y));
+            subst (NodesMayUpTo order trees table) limited
+            (full_conflict table all is_family s0 s1 stored (Err e) d order trees is_all (ap (λ (z : NodeFault). Err z) y));
       }
 
       module _ (n : NodeId) (d : DrawsConflict s0 s1 (Ok n)) where
         pub conflicts_right : (f : Answered) → f.store ≡ s1 → f.root ≡ n → IsSoundStore s1 → (n.n ≡ 0 → ⊥)
             → Right (Ok (Conflicts f))
         conflicts_right f e i k some =
-            let x = sets_conflict table all is_family s0 s1 stored n d k some trees is_all in
+            let x = sets_conflict table all is_family s0 s1 stored n d k some order trees is_all in
             let y = subst (λ z. IsNumber z n.n
-            × ListsLeast trees (value_at table.gates table.conflict) (family z n.n)) (sym e) x.1 in
+            × ListsLeastUpTo order trees (value_at table.gates table.conflict) (family z n.n)) (sym e) x.1 in
             let w = subst (λ (m : NodeId). IsNumber f.store m.n
-            × ListsLeast trees (value_at table.gates table.conflict) (family f.store m.n)) (sym i) y in
+            × ListsLeastUpTo order trees (value_at table.gates table.conflict) (family f.store m.n)) (sym i) y in
             record {
               sets = (x.0, w.0, w.1);
               needed = subst (λ z. All (IsNeeded all table.gates table.conflict) z.families) (sym e)
@@ -187,19 +206,19 @@ module _ (trees : List ModeTree) (table : Table) (all : Family) (is_all : AreLis
             within = tt;
             full = λ x.
                 let y : e ≡ Full = cc in
-                subst (NodesMay trees table) limited
-                (full_both table all is_family s0 s1 stored n d s2 (Err e) zero_is t trees is_all
+                subst (NodesMayUpTo order trees table) limited
+                (full_both table all is_family s0 s1 stored n d s2 (Err e) zero_is t order trees is_all
                 (ap (λ (z : NodeFault). Err z) y));
           }
 
           pub cuts_right : (m : NodeId) (f : Answered) → f.store ≡ s2 → f.root ≡ m → IsSoundStore s2 → DrawsTop s1 s2 (Ok m)
               → Right (Ok (Cuts f))
           cuts_right m f e i k t =
-              let x = sets_top table all is_family s0 s1 stored n d s2 m zero_is t trees is_all in
+              let x = sets_top table all is_family s0 s1 stored n d s2 m zero_is t order trees is_all in
               let y = subst (λ z. IsNumber z m.n
-              × ListsLeast trees (value_at table.gates table.top) (family z m.n)) (sym e) x.1 in
+              × ListsLeastUpTo order trees (value_at table.gates table.top) (family z m.n)) (sym e) x.1 in
               let w = subst (λ (q : NodeId). IsNumber f.store q.n
-              × ListsLeast trees (value_at table.gates table.top) (family f.store q.n)) (sym i) y in
+              × ListsLeastUpTo order trees (value_at table.gates table.top) (family f.store q.n)) (sym i) y in
               record {
                 sets = (x.0, w.0, w.1);
                 needed = subst (λ z. All (IsNeededByBoth all table) z.families) (sym e)

@@ -1,5 +1,5 @@
 -- A list of the firable sets is one list: what the walk draws is it.
-use Rattle.std.proofs.Common.{◌≡◌, ℕ, true, List, [], Result, sym, subst}
+use Rattle.std.proofs.Common.{◌≡◌, ℕ, true, List, [], Option, Result, sym, subst}
 use Rattle.ar_base.specs.Sets.{Ascends}
 use Rattle.ar_base.proofs.Truths.{alike}
 use Rattle.ar_firing.specs.Forest.{ModeTree}
@@ -12,8 +12,9 @@ use Rattle.zdd_families.proofs.Minimal.{member_of}
 use Rattle.zdd_families.proofs.OneList.{same_sets}
 use Rattle.zdd_nodes.specs.Nodes.{NodeId, Stored, Draws}
 use Rattle.zdd_nodes.specs.declared.NodeFault.{NodeFault}
-use Rattle.firable_families.specs.Firable.{IsFirableOf}
-use Rattle.firable_families.specs.Walk.{left, AreTreeFamilies}
+use Rattle.firable_families.specs.Firable.{IsFirableUpTo}
+use Rattle.firable_families.specs.Walk.{left, few_of, AreTreeFamilies}
+use Rattle.firable_families.proofs.Few.{few_listed}
 use Rattle.firable_families.proofs.Listing.{Lists, listed_lists}
 use Rattle.firable_families.proofs.Trees.{walk_lists}
 use Rattle.gate_diagrams.specs.Walked.{families_left, AreWalked}
@@ -32,15 +33,16 @@ listed_one f g a b =
     same_sets f g x.is_family.in_order y.is_family.in_order
     (λ s. alike (has f s) (has g s) (of_other f g x y s) (of_other g f y x s))
 
-pub firable_drawn : (trees : Stored) (paths : List NodeId) (s t : Stored) (r : Result NodeId NodeFault)
-    → DrawsLeft trees paths s t r → (forest : List ModeTree)
+pub firable_drawn : (order : Option ℕ) (trees : Stored) (paths : List NodeId) (s t : Stored) (r : Result NodeId NodeFault)
+    → DrawsLeft order trees paths s t r → (forest : List ModeTree)
     → AreTreeFamilies forest (families_left trees paths) → AreApart forest → (all : Family)
-    → AreListed (IsFirableOf forest) all → Draws (IsCounted all) all s t r
-firable_drawn trees paths s t r d forest families apart all listed =
+    → AreListed (IsFirableUpTo order forest) all → Draws (IsCounted all) all s t r
+firable_drawn order trees paths s t r d forest families apart all listed =
     let fs = families_left trees paths in
     let n = bound fs in
     subst (λ z. Draws (IsCounted z) z s t r)
-    (listed_one (left n.0 0 fs) all (walk_lists forest fs families n.0 apart n.1) listed) (d n.0 n.1)
+    (listed_one (few_of order (left n.0 0 fs)) all
+    (few_listed order forest (left n.0 0 fs) (walk_lists forest fs families n.0 apart n.1)) listed) (d n.0 n.1)
 
 -- no state is held in an empty list
 pub none_walked : (trees made : Stored) → AreWalked trees made []

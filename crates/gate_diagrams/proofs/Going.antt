@@ -1,7 +1,6 @@
 -- The walk through the firable sets, step by step.
-use Rattle.std.proofs.Common.{◌≡◌, ◌≢◌, ◌⊎◌, ⊎_elim, ℕ, zero, suc, ◌+◌, ◌-◌, ◌<◌, Bool, true, false, cond, ◌||◌, nat_eq, eqb, eqb-true, List, [], ◌∷◌, Vec, Result, Ok, Err, refl, sym, ap, ap₂, ◌∙◌, subst, arith, true≢false}
+use Rattle.std.proofs.Common.{◌≡◌, ◌≢◌, ⊎_elim, ℕ, zero, suc, ◌+◌, ◌-◌, ◌<◌, Bool, true, false, cond, ◌||◌, nat_eq, eqb, eqb-true, List, [], ◌∷◌, Option, Some, Result, Ok, Err, refl, sym, ap, ap₂, ◌∙◌, subst, arith, true≢false}
 use Rattle.std.specs.List.{list_any, list_all}
-use Rattle.std.specs.Global.{Global}
 use Rattle.ar_base.specs.Lists.{Stands}
 use Rattle.ar_base.proofs.Standing.{stands_map, stands_map_back}
 use Rattle.zdd_families.specs.Families.{Family, has, holds, node, IsAbove}
@@ -13,11 +12,14 @@ use Rattle.zdd_nodes.specs.declared.NodeFault.TheVariants.{Memory}
 use Rattle.zdd_nodes.proofs.Growing.{Draws-refused, Draws-after, kept, still}
 use Rattle.zdd_nodes.proofs.Halved as h
 use Rattle.zdd_nodes.proofs.Lists.{some_sets}
-use Rattle.firable_families.specs.Walk.{left, occurs, some_occurs, all_lower, all_taken, AreEventsBelow}
+use Rattle.firable_families.specs.Walk.{left, occurs, some_occurs, all_lower, all_taken, few_of, one_fewer, AreEventsBelow}
 use Rattle.firable_families.proofs.Merging.{map_stands, lower_occurs, taken_occurs, some_place, all_place, place_all}
 use Rattle.firable_families.proofs.Products.{left_end}
-use Rattle.firable_families.proofs.Halving.{walk_halved, walk_lower, walk_upper}
-use Rattle.gate_diagrams.specs.Walked.{families_left, AreNumbers, AreHalves, IsHeld, IsWalked, AreWalked}
+use Rattle.firable_families.proofs.Few.{few_upper, upper_fewer}
+use Rattle.firable_families.proofs.Halving.{walk_halved, walk_lower, walk_upper, walk_only}
+use Rattle.gate_diagrams.specs.declared.walked.State.{State}
+use Rattle.gate_diagrams.specs.Walked.{families_left, AreNumbers, AreHalves, IsWalked, AreWalked}
+use Rattle.gate_diagrams.proofs.Holding.{Remembers}
 use Rattle.gate_diagrams.proofs.Stepping.{lacks_at}
 use Rattle.gate_diagrams.proofs.Tables.{memory_drawn}
 
@@ -118,103 +120,122 @@ below_taken : (n e : ℕ) (fs : List Family) → AreEventsBelow n fs → AreEven
 below_taken n e fs b = record { each = λ m x f s h. let r = map_stands _ fs m f s in b.each m x r.0 r.1 (taken_occurs e x r.0 (ap (occurs x) (sym r.2) ∙ h)) }
 
 -- what a call of the walk says of a state
-abbrev pub DrawsLeft : Stored → List NodeId → Stored → Stored → Result NodeId NodeFault → Type 0
-DrawsLeft trees state s t r = (n : ℕ) → AreEventsBelow n (families_left trees state)
-    → let made = left n 0 (families_left trees state) in Draws (IsCounted made) made s t r
+abbrev pub DrawsLeft : Option ℕ → Stored → List NodeId → Stored → Stored → Result NodeId NodeFault → Type 0
+DrawsLeft order trees state s t r = (n : ℕ) → AreEventsBelow n (families_left trees state)
+    → let made = few_of order (left n 0 (families_left trees state)) in Draws (IsCounted made) made s t r
 
-pub walked_grows : (P : Family → Type 0) (trees s t : Stored) (state : List NodeId) (n : ℕ) → Grows P s t
-    → IsWalked trees s state n → IsWalked trees t state n
-walked_grows P trees s t state n g w =
+pub walked_grows : (P : Family → Type 0) (trees s t : Stored) (order : Option ℕ) (state : List NodeId) (n : ℕ)
+    → Grows P s t → IsWalked trees s order state n → IsWalked trees t order state n
+walked_grows P trees s t order state n g w =
     record { in_store = still P s t n g w.in_store; is = λ below b. kept P s t n g w.in_store ∙ w.is below b }
 
+-- what is held is right also with a new state
+pub more_walked : (trees s t : Stored) (k : State) (made : NodeId) (P : Family → Type 0) → Grows P s t
+    → IsWalked trees t k.order k.left.items made.n → (old new : List (State × NodeId)) → AreWalked trees s old
+    → Remembers k made old new → AreWalked trees t new
+more_walked trees s t k made P g here old new a r q m x = ⊎_elim
+    (λ y. walked_grows P trees s t q.order q.left.items m.n g (a q m y))
+    (λ y. subst (λ z. IsWalked trees t z q.left.items m.n) (sym y.1)
+    (subst (λ z. IsWalked trees t k.order z m.n) (sym y.0)
+    (subst (λ (z : NodeId). IsWalked trees t k.order k.left.items z.n) (sym y.2) here)))
+    (r q m x)
+
 -- ---- a state at its least event
-module _ (trees : Stored) (state : List NodeId) (e : ℕ) (o : some_occurs e (families_left trees state) ≡ true)
+module _ (order : Option ℕ) (trees : Stored) (state : List NodeId) (e : ℕ)
+    (o : some_occurs e (families_left trees state) ≡ true)
     (least : (x : ℕ) → x < e → some_occurs x (families_left trees state) ≡ false)
     (without : List NodeId) (w : AreHalves trees e false state without) (s0 s1 : Stored) where
   abbrev fs : List Family
   fs = families_left trees state
 
   abbrev Made : ℕ → Family
-  Made n = left n 0 fs
+  Made n = few_of order (left n 0 fs)
 
   rest : (n : ℕ) → AreEventsBelow n fs → n ≡ e + suc (n - suc e)
   rest n b = let p = some_place (occurs e) fs o in let l = b.each p.0 e p.1 p.2 p.3 in omega (arith, l)
 
-  lower_drawn : (n : ℕ) → AreEventsBelow n fs → (r : Result NodeId NodeFault) → DrawsLeft trees without s0 s1 r
-      → Draws (IsCounted (Made n)) (left n 0 (all_lower e fs)) s0 s1 r
+  lower_drawn : (n : ℕ) → AreEventsBelow n fs → (r : Result NodeId NodeFault) → DrawsLeft order trees without s0 s1 r
+      → Draws (IsCounted (Made n)) (few_of order (left n 0 (all_lower e fs))) s0 s1 r
   lower_drawn n b r d =
-      walk_lower (n - suc e) n e fs (rest n b) least o s0 s1 r
-      (subst (λ z. Draws (IsCounted (left n 0 z)) (left n 0 z) s0 s1 r) w.are
+      walk_lower order (n - suc e) n e fs (rest n b) least o s0 s1 r
+      (subst (λ z. Draws (IsCounted (few_of order (left n 0 z))) (few_of order (left n 0 z)) s0 s1 r) w.are
       (d n (subst (AreEventsBelow n) (sym w.are) (below_lower n e fs b))))
 
-  pub lower_refused : (x : NodeFault) → DrawsLeft trees without s0 s1 (Err x) → DrawsLeft trees state s0 s1 (Err x)
-  lower_refused x d n b = Draws-refused (IsCounted (Made n)) (left n 0 (all_lower e fs)) (Made n) s0 s1 x
+  pub lower_refused : (x : NodeFault) → DrawsLeft order trees without s0 s1 (Err x)
+      → DrawsLeft order trees state s0 s1 (Err x)
+  lower_refused x d n b = Draws-refused (IsCounted (Made n)) (few_of order (left n 0 (all_lower e fs))) (Made n) s0 s1 x
       (lower_drawn n b (Err x) d)
 
-  pub lower_memory : (r : Result NodeId NodeFault) → DrawsLeft trees without s0 s1 r
-      → DrawsLeft trees state s0 s1 (Err Memory)
+  pub lower_memory : (r : Result NodeId NodeFault) → DrawsLeft order trees without s0 s1 r
+      → DrawsLeft order trees state s0 s1 (Err Memory)
   lower_memory r d n b = memory_drawn (IsCounted (Made n)) (Made n) s0 s1 (lower_drawn n b r d).grows
 
-  module _ (with_it : List NodeId) (t : AreHalves trees e true state with_it) (lo : NodeId)
-      (dl : DrawsLeft trees without s0 s1 (Ok lo)) (s2 : Stored) where
-    upper_drawn : (n : ℕ) → AreEventsBelow n fs → (r : Result NodeId NodeFault) → DrawsLeft trees with_it s1 s2 r
-        → Draws (IsCounted (Made n)) (left n 0 (all_taken e fs)) s1 s2 r
-    upper_drawn n b r d =
-        walk_upper (n - suc e) n e fs (rest n b) least o s1 s2 r
-        (subst (λ z. Draws (IsCounted (left n 0 z)) (left n 0 z) s1 s2 r) t.are
-        (d n (subst (AreEventsBelow n) (sym t.are) (below_taken n e fs b))))
+  -- where no event is left to take, the lower half is the whole
+  pub lower_whole : order ≡ Some 0 → (r : Result NodeId NodeFault) → DrawsLeft order trees without s0 s1 r
+      → DrawsLeft order trees state s0 s1 r
+  lower_whole none r d n b =
+      subst (λ z. Draws (IsCounted (Made n)) z s0 s1 r)
+      (sym (walk_only order (n - suc e) n e fs (rest n b) least o none)) (lower_drawn n b r d)
 
-    pub upper_refused : (x : NodeFault) → DrawsLeft trees with_it s1 s2 (Err x) → DrawsLeft trees state s0 s2 (Err x)
+  module _ (some : order ≡ Some 0 → ⊥) (with_it : List NodeId) (t : AreHalves trees e true state with_it) (lo : NodeId)
+      (dl : DrawsLeft order trees without s0 s1 (Ok lo)) (s2 : Stored) where
+    upper_drawn : (n : ℕ) → AreEventsBelow n fs → (r : Result NodeId NodeFault)
+        → DrawsLeft (one_fewer order) trees with_it s1 s2 r
+        → Draws (IsCounted (Made n)) (few_upper order (left n 0 (all_taken e fs))) s1 s2 r
+    upper_drawn n b r d =
+        walk_upper order (n - suc e) n e fs (rest n b) least o s1 s2 r
+        (subst (λ z. Draws (IsCounted z) z s1 s2 r) (sym (upper_fewer order (left n 0 (all_taken e fs)) some))
+        (subst (λ z. Draws (IsCounted (few_of (one_fewer order) (left n 0 z))) (few_of (one_fewer order) (left n 0 z))
+        s1 s2 r) t.are (d n (subst (AreEventsBelow n) (sym t.are) (below_taken n e fs b)))))
+
+    pub upper_refused : (x : NodeFault) → DrawsLeft (one_fewer order) trees with_it s1 s2 (Err x)
+        → DrawsLeft order trees state s0 s2 (Err x)
     upper_refused x d n b = Draws-after (IsCounted (Made n)) (Made n) s0 s1 s2 (Err x)
         (lower_drawn n b (Ok lo) dl).grows
-        (Draws-refused (IsCounted (Made n)) (left n 0 (all_taken e fs)) (Made n) s1 s2 x (upper_drawn n b (Err x) d))
+        (Draws-refused (IsCounted (Made n)) (few_upper order (left n 0 (all_taken e fs))) (Made n) s1 s2 x
+        (upper_drawn n b (Err x) d))
 
-    module _ (hi : NodeId) (dh : DrawsLeft trees with_it s1 s2 (Ok hi)) where
+    module _ (hi : NodeId) (dh : DrawsLeft (one_fewer order) trees with_it s1 s2 (Ok hi)) where
       abbrev n0 : ℕ
       n0 = (bound fs).0
 
       abbrev b0 : AreEventsBelow n0 fs
       b0 = (bound fs).1
 
+      abbrev Lower : ℕ → Family
+      Lower n = few_of order (left n 0 (all_lower e fs))
+
+      abbrev Upper : ℕ → Family
+      Upper n = few_upper order (left n 0 (all_taken e fs))
+
       pub lo_in : IsNumber s2 lo.n
-      lo_in = h.lo_in (IsCounted (Made n0)) (Made n0) e (left n0 0 (all_lower e fs)) (left n0 0 (all_taken e fs))
-          (walk_halved (n0 - suc e) n0 e fs (rest n0 b0) least o)
+      lo_in = h.lo_in (IsCounted (Made n0)) (Made n0) e (Lower n0) (Upper n0)
+          (walk_halved order (n0 - suc e) n0 e fs (rest n0 b0) least o)
           s0 s1 s2 lo hi (lower_drawn n0 b0 (Ok lo) dl) (upper_drawn n0 b0 (Ok hi) dh)
 
       pub hi_in : IsNumber s2 hi.n
       hi_in = (upper_drawn n0 b0 (Ok hi) dh).ok.0
 
       pub lo_above : IsAbove e (family s2 lo.n)
-      lo_above = h.lo_above (IsCounted (Made n0)) (Made n0) e (left n0 0 (all_lower e fs)) (left n0 0 (all_taken e fs))
-          (walk_halved (n0 - suc e) n0 e fs (rest n0 b0) least o)
+      lo_above = h.lo_above (IsCounted (Made n0)) (Made n0) e (Lower n0) (Upper n0)
+          (walk_halved order (n0 - suc e) n0 e fs (rest n0 b0) least o)
           s0 s1 s2 lo hi (lower_drawn n0 b0 (Ok lo) dl) (upper_drawn n0 b0 (Ok hi) dh)
 
       pub hi_above : IsAbove e (family s2 hi.n)
-      hi_above = h.hi_above (IsCounted (Made n0)) (Made n0) e (left n0 0 (all_lower e fs)) (left n0 0 (all_taken e fs))
-          (walk_halved (n0 - suc e) n0 e fs (rest n0 b0) least o)
+      hi_above = h.hi_above (IsCounted (Made n0)) (Made n0) e (Lower n0) (Upper n0)
+          (walk_halved order (n0 - suc e) n0 e fs (rest n0 b0) least o)
           s0 s1 s2 lo hi (lower_drawn n0 b0 (Ok lo) dl) (upper_drawn n0 b0 (Ok hi) dh)
 
       pub whole_drawn : (s3 : Stored) (r : Result NodeId NodeFault)
-          → (let m = node e (family s2 lo.n) (family s2 hi.n) in Draws (IsMade m) m s2 s3 r) → DrawsLeft trees state s0 s3 r
-      whole_drawn s3 r d n b = h.done (IsCounted (Made n)) (Made n) e (left n 0 (all_lower e fs))
-          (left n 0 (all_taken e fs)) (walk_halved (n - suc e) n e fs (rest n b) least o)
+          → (let m = node e (family s2 lo.n) (family s2 hi.n) in Draws (IsMade m) m s2 s3 r)
+          → DrawsLeft order trees state s0 s3 r
+      whole_drawn s3 r d n b = h.done (IsCounted (Made n)) (Made n) e (Lower n) (Upper n)
+          (walk_halved order (n - suc e) n e fs (rest n b) least o)
           s0 s1 s2 lo hi (lower_drawn n b (Ok lo) dl) (upper_drawn n b (Ok hi) dh) s3 r d
 
-      -- what is held is right also with the new state
-      pub whole_walked : (s3 : Stored) (made : NodeId) (key : Vec NodeId Global) → key.items ≡ state
-          → (let m = node e (family s2 lo.n) (family s2 hi.n) in Draws (IsMade m) m s2 s3 (Ok made))
-          → (old new : List (Vec NodeId Global × NodeId)) → AreWalked trees s2 old
-          → ((q : Vec NodeId Global) (m : NodeId) → IsHeld new q m
-          → IsHeld old q m ⊎ ((q.items ≡ key.items) × (m ≡ made))) → AreWalked trees s3 new
-      whole_walked s3 made key same d old new a r q m x = ⊎_elim
-          (λ y. walked_grows (IsMade (node e (family s2 lo.n) (family s2 hi.n))) trees s2 s3 q.items m.n d.grows
-          (a q m y))
-          (λ y. subst (λ z. IsWalked trees s3 z m.n) (sym (y.0 ∙ same))
-          (subst (λ (z : NodeId). IsWalked trees s3 state z.n) (sym y.1) here))
-          (r q m x)
-        where
-          here : IsWalked trees s3 state made.n
-          here = record {
-            in_store = (whole_drawn s3 (Ok made) d n0 b0).ok.0;
-            is = λ n b. (whole_drawn s3 (Ok made) d n b).ok.1;
-          }
+-- the number of a state that is drawn
+pub drawn_walked : (order : Option ℕ) (trees s t : Stored) (state : List NodeId) (made : NodeId)
+    → DrawsLeft order trees state s t (Ok made) → IsWalked trees t order state made.n
+drawn_walked order trees s t state made d =
+    let n = bound (families_left trees state) in
+    record { in_store = (d n.0 n.1).ok.0; is = λ m b. (d m b).ok.1 }

@@ -1,11 +1,12 @@
 -- States that are held: what a new one changes.
-use Rattle.std.proofs.Common.{◌≡◌, ◌⊎◌, inl, inr, ℕ, Bool, true, false, cond, ◌&&◌, eqb, List, [], ◌∷◌, Vec, Some, Result, Ok, Err, OnOk, OnErr, refl, sym, ap, ap₂, ◌∙◌, true≢false, eqb-true}
+use Rattle.std.proofs.Common.{◌≡◌, ◌⊎◌, inl, inr, ℕ, Bool, true, false, cond, ◌&&◌, eqb, List, [], ◌∷◌, Option, Some, None, Result, Ok, Err, OnOk, OnErr, refl, sym, ap, ap₂, ◌∙◌, true≢false, eqb-true}
 use Rattle.std.specs.Cmp.Lexicographic.{pointwise}
 use Rattle.std.specs.Map.{lookup}
-use Rattle.std.specs.Global.{Global}
+use Rattle.std.specs.Option.{option_eq}
 use Rattle.std.proofs.lemmas.Bool.{and_parts}
 use Rattle.zdd_nodes.specs.Nodes.{NodeId}
-use Rattle.gate_diagrams.specs.Walked.{same_numbers, IsHeld}
+use Rattle.gate_diagrams.specs.declared.walked.State.{State}
+use Rattle.gate_diagrams.specs.Walked.{same_state, IsHeld}
 
 abbrev numbered : ℕ → NodeId
 numbered n = record { n = n; of = record {} }
@@ -21,26 +22,34 @@ one_state (x ∷ xs) (y ∷ ys) h =
     let p = and_parts (eqb x.n y.n && true) (pointwise (λ (a b : NodeId). eqb a.n b.n && true) xs ys) h in
     ap₂ (λ (z : NodeId) (zs : List NodeId). z ∷ zs) (one_number x y p.0) (one_state xs ys p.1)
 
+one_order : (a b : Option ℕ) → option_eq eqb a b ≡ true → a ≡ b
+one_order None None h = refl
+one_order None (Some m) h = absurd (true≢false (sym h))
+one_order (Some k) None h = absurd (true≢false (sym h))
+one_order (Some k) (Some m) h = ap (λ n. Some n) (eqb-true k m h)
+
 -- each state that is held was held before, or is the new one
-abbrev pub Remembers : Vec NodeId Global → NodeId → List (Vec NodeId Global × NodeId)
-    → List (Vec NodeId Global × NodeId) → Type 0
-Remembers k n old new = (q : Vec NodeId Global) (m : NodeId) → IsHeld new q m
-    → IsHeld old q m ⊎ ((q.items ≡ k.items) × (m ≡ n))
+abbrev pub Remembers : State → NodeId → List (State × NodeId) → List (State × NodeId) → Type 0
+Remembers k n old new = (q : State) (m : NodeId) → IsHeld new q m
+    → IsHeld old q m ⊎ ((q.left.items ≡ k.left.items) × (q.order ≡ k.order) × (m ≡ n))
 
-remembered : (k : Vec NodeId Global) (n : NodeId) (old new : List (Vec NodeId Global × NodeId))
-    → ((q : Vec NodeId Global) → lookup (same_numbers q) new
-    ≡ cond (same_numbers k q) (Some n) (lookup (same_numbers q) old)) → Remembers k n old new
-remembered k n old new u q m h = step (same_numbers k q) refl
+remembered : (k : State) (n : NodeId) (old new : List (State × NodeId))
+    → ((q : State) → lookup (same_state q) new ≡ cond (same_state k q) (Some n) (lookup (same_state q) old))
+    → Remembers k n old new
+remembered k n old new u q m h = step (same_state k q) refl
   where
-    step : (b : Bool) → same_numbers k q ≡ b → IsHeld old q m ⊎ ((q.items ≡ k.items) × (m ≡ n))
+    step : (b : Bool) → same_state k q ≡ b
+        → IsHeld old q m ⊎ ((q.left.items ≡ k.left.items) × (q.order ≡ k.order) × (m ≡ n))
     step true e =
-        let x : Some m ≡ Some n = sym h ∙ u q ∙ ap (λ b. cond b (Some n) (lookup (same_numbers q) old)) e in
-        inr (sym (one_state k.items q.items e), cc)
-    step false e = inl (ap (λ b. cond b (Some n) (lookup (same_numbers q) old)) (sym e) ∙ sym (u q) ∙ h)
+        let x : Some m ≡ Some n = sym h ∙ u q ∙ ap (λ b. cond b (Some n) (lookup (same_state q) old)) e in
+        let p = and_parts (pointwise (λ (a b : NodeId). eqb a.n b.n && true) k.left.items q.left.items)
+        (option_eq eqb k.order q.order) e in
+        inr (sym (one_state k.left.items q.left.items p.0), sym (one_order k.order q.order p.1), cc)
+    step false e = inl (ap (λ b. cond b (Some n) (lookup (same_state q) old)) (sym e) ∙ sym (u q) ∙ h)
 
-pub remembers : {T E : Type 0} (U : Type 0) (r : Result T E) (k : Vec NodeId Global) (n : NodeId)
-    (old new : List (Vec NodeId Global × NodeId)) → OnOk r U → OnErr r (new ≡ old)
-    → (U → (q : Vec NodeId Global) → lookup (same_numbers q) new
-    ≡ cond (same_numbers k q) (Some n) (lookup (same_numbers q) old)) → Remembers k n old new
+pub remembers : {T E : Type 0} (U : Type 0) (r : Result T E) (k : State) (n : NodeId)
+    (old new : List (State × NodeId)) → OnOk r U → OnErr r (new ≡ old)
+    → (U → (q : State) → lookup (same_state q) new ≡ cond (same_state k q) (Some n) (lookup (same_state q) old))
+    → Remembers k n old new
 remembers U (Ok x) k n old new u e f = λ q m h. remembered k n old new (f u) q m h
-remembers U (Err x) k n old new u e f = λ q m h. inl (ap (lookup (same_numbers q)) (sym e) ∙ h)
+remembers U (Err x) k n old new u e f = λ q m h. inl (ap (lookup (same_state q)) (sym e) ∙ h)

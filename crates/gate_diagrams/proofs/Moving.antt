@@ -1,12 +1,12 @@
 -- Trees with the empty path alone: the walk is the same without them.
-use Rattle.std.proofs.Common.{◌≡◌, ℕ, zero, suc, Bool, true, false, not, cond, ◌&&◌, ◌||◌, eqb, eqb-true, List, [], ◌∷◌, Result, refl, sym, ap, ap₂, ◌∙◌, subst}
+use Rattle.std.proofs.Common.{◌≡◌, ℕ, zero, suc, Bool, true, false, not, cond, ◌&&◌, ◌||◌, eqb, eqb-true, List, [], ◌∷◌, Option, Result, refl, sym, ap, ap₂, ◌∙◌, subst}
 use Rattle.std.specs.List.{list_all}
 use Rattle.ar_base.specs.Lists.{Stands}
 use Rattle.zdd_families.specs.Families.{Family, has, node}
 use Rattle.zdd_families.specs.Sections.{IsCounted, lower}
 use Rattle.zdd_nodes.specs.Nodes.{NodeId, Stored, family, Draws}
 use Rattle.zdd_nodes.specs.declared.NodeFault.{NodeFault}
-use Rattle.firable_families.specs.Walk.{occurs, taken, some_occurs, all_lower, all_taken, left, AreEventsBelow}
+use Rattle.firable_families.specs.Walk.{occurs, taken, some_occurs, all_lower, all_taken, left, few_of, AreEventsBelow}
 use Rattle.firable_families.proofs.Halving.{lower_above, taken_above}
 use Rattle.gate_diagrams.specs.Walked.{families_left, moving, AreNumbers}
 use Rattle.gate_diagrams.proofs.Going.{DrawsLeft}
@@ -86,11 +86,12 @@ moving_numbers trees state a = record { each = λ k n s. let w = back state k n 
             let w = ih k (subst (λ b. Stands (cond (not b) (x ∷ moving ns) (moving ns)) (suc k) n) e s) in (suc w.0, w.1)
 
 -- what the walk draws without these trees is what it draws with them
-pub moving_drawn : (trees : Stored) (state : List NodeId) (s t : Stored) (r : Result NodeId NodeFault)
-    → DrawsLeft trees (moving state) s t r → DrawsLeft trees state s t r
-moving_drawn trees state s t r d = λ n b.
+pub moving_drawn : (order : Option ℕ) (trees : Stored) (state : List NodeId) (s t : Stored) (r : Result NodeId NodeFault)
+    → DrawsLeft order trees (moving state) s t r → DrawsLeft order trees state s t r
+moving_drawn order trees state s t r d = λ n b.
     let fs = families_left trees state in
     let gs = families_left trees (moving state) in
     let few : AreEventsBelow n gs = record
     { each = λ m e f st o. let w = thin_stands fs gs (thins trees state) m f st in b.each w.0 e f w.1 o } in
-    subst (λ made. Draws (IsCounted made) made s t r) (sym (thin_left n 0 fs gs (thins trees state))) (d n few)
+    subst (λ made. Draws (IsCounted made) made s t r)
+    (ap (few_of order) (sym (thin_left n 0 fs gs (thins trees state)))) (d n few)

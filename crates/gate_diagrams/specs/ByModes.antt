@@ -1,27 +1,29 @@
 -- What drawing by modes gives.
-use Rattle.std.specs.Prelude.{◌≡◌, ◌≤◌, ℕ, List, length, Result, Err, IfOk}
+use Rattle.std.specs.Prelude.{◌≡◌, ◌≤◌, ℕ, List, length, Option, Result, Err, IfOk}
 use Rattle.ar_firing.specs.Forest.{ModeTree}
 use Rattle.ar_firing.specs.Listed.{AreListed}
 use Rattle.zdd_families.specs.Families.{Family}
 use Rattle.zdd_nodes.specs.Nodes.{family, IsNumber, IsSoundStore}
 use Rattle.zdd_nodes.specs.declared.NodeFault.TheVariants as NodeFault
 use Rattle.eq_core.specs.Gates.{Operand, Gate, Table}
-use Rattle.firable_families.specs.Firable.{IsFirableOf}
+use Rattle.firable_families.specs.Firable.{IsFirableUpTo}
 use Rattle.diagram_steps.specs.declared.trees.NumberedTree.{NumberedTree}
 use Rattle.mode_diagrams.specs.declared.drawing.Undrawn.{Undrawn}
 use Rattle.mode_diagrams.specs.Numbers.{IsByModes}
 use Rattle.mode_diagrams.specs.declared.listing.Listed.{Listed}
 use Rattle.gate_diagrams.specs.Needed.{family_at}
-use Rattle.gate_diagrams.specs.NodeLimits.{NodesMay}
-use Rattle.gate_diagrams.specs.Answers.{IsAnswer, AreNeeded, store_of}
+use Rattle.gate_diagrams.specs.NodeLimits.{NodesMayUpTo}
+use Rattle.gate_diagrams.specs.Answers.{IsAnswerUpTo, AreNeeded, store_of}
 use Rattle.gate_diagrams.specs.declared.answer.Drawn.{Drawn}
 use Rattle.gate_diagrams.specs.declared.by_modes.Unanswered.{Unanswered}
 
--- the family is that of the operand, where the numbered trees are those of a forest
-pub record IsListed (trees : List NumberedTree) (gates : List Gate) (o : Operand) (l : Listed) : Type 0 where
+-- the family is that of the operand over the firable sets of at most as many events as are asked for, where the numbered
+-- trees are those of a forest
+pub record IsListed (order : Option ℕ) (trees : List NumberedTree) (gates : List Gate) (o : Operand) (l : Listed) : Type 0 where
   pub sound : IsSoundStore l.store
   pub in_store : IsNumber l.store l.root.n
-  pub is : (forest : List ModeTree) → IsByModes forest trees → (all : Family) → AreListed (IsFirableOf forest) all
+  pub is : (forest : List ModeTree) → IsByModes forest trees → (all : Family)
+      → AreListed (IsFirableUpTo order forest) all
       → family l.store l.root.n ≡ family_at all gates o
 
 -- why there is no answer, where an operand got no diagram
@@ -31,9 +33,9 @@ unanswered_of Undrawn.Memory = Unanswered.Nodes NodeFault.Memory
 
 -- an answer, where there is one, is right, its store has what is needed alone, in no more nodes than the limit, and Full
 -- is licensed
-pub record AnswersByModes (trees : List ModeTree) (table : Table) (all : Family) (limit : ℕ)
+pub record AnswersByModes (order : Option ℕ) (trees : List ModeTree) (table : Table) (all : Family) (limit : ℕ)
     (r : Result Drawn Unanswered) : Type 0 where
-  pub sets : IfOk r (λ d. IsAnswer trees table d)
+  pub sets : IfOk r (λ d. IsAnswerUpTo order trees table d)
   pub needed : IfOk r (λ d. AreNeeded all table d)
   pub within : IfOk r (λ d. length (store_of d).families ≤ limit)
-  pub full : r ≡ Err (Unanswered.Nodes NodeFault.Full) → NodesMay trees table limit
+  pub full : r ≡ Err (Unanswered.Nodes NodeFault.Full) → NodesMayUpTo order trees table limit

@@ -1,7 +1,7 @@
 -- What the walk through the firable sets keeps.
-use Rattle.std.specs.Prelude.{◌≡◌, ◌+◌, ◌<◌, ◌≤◌, ℕ, Bool, true, false, not, ◌&&◌, eqb, List, [], ◌∷◌, map, Vec, Option, Some, None}
-use Rattle.std.specs.Global.{Global}
+use Rattle.std.specs.Prelude.{◌≡◌, ◌+◌, ◌<◌, ◌≤◌, ℕ, Bool, true, false, not, ◌&&◌, eqb, List, [], ◌∷◌, map, Option, Some, None}
 use Rattle.std.specs.List.{filter}
+use Rattle.std.specs.Option.{option_eq}
 use Rattle.std.specs.Map.{lookup}
 use Rattle.std.specs.Cmp.Lexicographic.{pointwise}
 use Rattle.ar_base.specs.Lists.{Stands}
@@ -9,15 +9,17 @@ use Rattle.ar_base.specs.Numbers.{EventId}
 use Rattle.zdd_families.specs.Families.{Family}
 use Rattle.zdd_families.specs.Sections.{lower}
 use Rattle.zdd_nodes.specs.Nodes.{NodeId, Stored, family, IsNumber}
-use Rattle.firable_families.specs.Walk.{occurs, some_occurs, taken, left, AreEventsBelow}
+use Rattle.firable_families.specs.Walk.{occurs, some_occurs, taken, left, few_of, AreEventsBelow}
+use Rattle.gate_diagrams.specs.declared.walked.State.{State}
 
--- whether two lists have the same numbers
-abbrev pub same_numbers : Vec NodeId Global → Vec NodeId Global → Bool
-same_numbers xs ys = pointwise (λ a b. eqb a.n b.n && true) xs.items ys.items
+-- whether two states have the same numbers, and as many events are left to take
+abbrev pub same_state : State → State → Bool
+same_state a b = pointwise (λ x y. eqb x.n y.n && true) a.left.items b.left.items
+    && option_eq eqb a.order b.order
 
 -- the state is held with this number
-abbrev pub IsHeld : List (Vec NodeId Global × NodeId) → Vec NodeId Global → NodeId → Type 0
-IsHeld entries left n = lookup (same_numbers left) entries ≡ Some n
+abbrev pub IsHeld : List (State × NodeId) → State → NodeId → Type 0
+IsHeld entries state n = lookup (same_state state) entries ≡ Some n
 
 -- a state of the walk has the number of what is left of each tree: these families
 abbrev pub families_left : Stored → List NodeId → List Family
@@ -60,13 +62,13 @@ abbrev pub IsLeastEvent : List Family → Option EventId → Type 0
 IsLeastEvent fs None = (x : ℕ) → some_occurs x fs ≡ false
 IsLeastEvent fs (Some e) = (some_occurs e.n fs ≡ true) × ((x : ℕ) → x < e.n → some_occurs x fs ≡ false)
 
--- n is the number of the family that the walk has left in this state
-pub record IsWalked (trees made : Stored) (state : List NodeId) (n : ℕ) : Type 0 where
+-- n is the number of the family that the walk has left in this state, of the sets of at most as many events as are asked for
+pub record IsWalked (trees made : Stored) (order : Option ℕ) (state : List NodeId) (n : ℕ) : Type 0 where
   pub in_store : IsNumber made n
   pub is : (below : ℕ) → AreEventsBelow below (families_left trees state)
-      → family made n ≡ left below 0 (families_left trees state)
+      → family made n ≡ few_of order (left below 0 (families_left trees state))
 
 -- each state that is held has the number of its family
-abbrev pub AreWalked : Stored → Stored → List (Vec NodeId Global × NodeId) → Type 0
-AreWalked trees made entries = (k : Vec NodeId Global) (n : NodeId) → IsHeld entries k n
-    → IsWalked trees made k.items n.n
+abbrev pub AreWalked : Stored → Stored → List (State × NodeId) → Type 0
+AreWalked trees made entries = (k : State) (n : NodeId) → IsHeld entries k n
+    → IsWalked trees made k.order k.left.items n.n

@@ -1,6 +1,6 @@
 //! The least firable sets at which a table's operands are true.
 
-ghost use Rattle.std.specs.Prelude.{◌≡◌, ◌≤◌, List, IfOk, OnOk, map, length};
+ghost use Rattle.std.specs.Prelude.{◌≡◌, ◌≤◌, ℕ, List, Option, IfOk, OnOk, map, length};
 ghost use Rattle.std.specs.List.{All};
 ghost use Rattle.ar_firing.specs.Forest.{ModeTree};
 ghost use Rattle.ar_firing.specs.Listed.{AreListed};
@@ -10,10 +10,10 @@ ghost use Rattle.zdd_nodes.specs.Nodes.{family, IsNumber, IsSoundStore, Draws};
 ghost use Rattle.eq_core.specs.Ordered.{AreOrdered, IsOrderedTable};
 ghost use Rattle.eq_core.specs.Values.{IsBelow};
 ghost use Rattle.eq_core.specs.Views.{gate_of, operand_of, table_of};
-ghost use Rattle.firable_families.specs.Firable.{IsFirableOf};
+ghost use Rattle.firable_families.specs.Firable.{IsFirableUpTo};
 ghost use Rattle.gate_diagrams.specs.Needed.{family_at, IsNeeded};
-ghost use Rattle.gate_diagrams.specs.NodeLimits.{NodesMay};
-ghost use Rattle.gate_diagrams.specs.Answers.{IsAnswer, AreNeeded, store_of};
+ghost use Rattle.gate_diagrams.specs.NodeLimits.{NodesMayUpTo};
+ghost use Rattle.gate_diagrams.specs.Answers.{IsAnswerUpTo, AreNeeded, store_of};
 
 use crate::draw::draw;
 use eq_core::{Equations, Gate, Operand};
@@ -39,8 +39,8 @@ pub enum Drawn {
     Cuts(Family),
 }
 
-/// The least firable sets at which the conflict operand is true, or, where there are none, those at which the top
-/// operand is. The store has the nodes of the firable sets alone.
+/// Of the firable sets that are given the least at which the conflict operand is true, or, where there are none, those at
+/// which the top operand is. The store has the nodes of the firable sets alone.
 pub(crate) fn answer(
     alloc: Global,
     mut ops: Ops,
@@ -51,13 +51,16 @@ pub(crate) fn answer(
     requires firable_in { IsNumber ops firable.n }
     requires stored { All (IsCounted (family ops firable.n)) ops.families }
     requires table { IsOrderedTable (table_of equations.now) }
-    ensures sets { (trees : List ModeTree) → AreListed (IsFirableOf trees) (family ops firable.n)
-        → IfOk result (λ d. IsAnswer trees (table_of equations.now) d) }
+    ensures sets { (order : Option ℕ) (trees : List ModeTree)
+        → AreListed (IsFirableUpTo order trees) (family ops firable.n)
+        → IfOk result (λ d. IsAnswerUpTo order trees (table_of equations.now) d) }
     ensures needed { IfOk result (λ d.
         AreNeeded (family ops firable.n) (table_of equations.now) d) }
     ensures within { IfOk result (λ d. length (store_of d).families ≤ ops.limit) }
-    ensures full { (trees : List ModeTree) → AreListed (IsFirableOf trees) (family ops firable.n)
-        → result ≡ Err NodeFault.Full → NodesMay trees (table_of equations.now) ops.limit }
+    ensures full { (order : Option ℕ) (trees : List ModeTree)
+        → AreListed (IsFirableUpTo order trees) (family ops firable.n)
+        → result ≡ Err NodeFault.Full
+        → NodesMayUpTo order trees (table_of equations.now) ops.limit }
 {
     let conflict = least(
         alloc,

@@ -9,8 +9,9 @@ ghost use Rattle.mode_trees.specs.Views.{trees_of};
 ghost use Rattle.zdd_families.specs.Families.{Family as Sets};
 ghost use Rattle.eq_core.specs.Ordered.{IsOrderedTable};
 ghost use Rattle.eq_core.specs.Views.{table_of};
-ghost use Rattle.firable_families.specs.Firable.{IsFirableOf};
+ghost use Rattle.firable_families.specs.Firable.{IsFirableUpTo};
 ghost use Rattle.mode_diagrams.specs.Trees.{AreNumbered, AreApart};
+ghost use Rattle.mode_diagrams.specs.Costs.{HaveDifferentEvents};
 ghost use Rattle.mode_diagrams.specs.Numbers.{HasFewEdges, IsByModes};
 ghost use Rattle.gate_diagrams.specs.ByModes.{AnswersByModes};
 
@@ -72,18 +73,20 @@ impl From<Memory> for Unanswered {
     }
 }
 
-/// The answer by mode diagrams, over the trees in the order of their events.
+/// The answer by mode diagrams, over the trees in the order of their events, of the firable sets of at most as many events as
+/// are asked for.
 pub(crate) fn by_modes(
     alloc: Global,
     equations: &Equations,
     forest: &Forest,
+    order: Option<u32>,
     limit: u32,
 ) -> Result<Drawn, Unanswered>
     requires limit { limit ≤ 16777216 }
     requires table { IsOrderedTable (table_of equations.now) }
     requires trees { AreTrees (trees_of (λ n. n) forest.now) }
-    ensures { (all : Sets) → AreListed (IsFirableOf (trees_of (λ n. n) forest.now)) all
-        → AnswersByModes (trees_of (λ n. n) forest.now) (table_of equations.now) all limit
+    ensures { (all : Sets) → AreListed (IsFirableUpTo order (trees_of (λ n. n) forest.now)) all
+        → AnswersByModes order (trees_of (λ n. n) forest.now) (table_of equations.now) all limit
         result }
 {
     let Some(numbers) = numbered(alloc, &forest.trees)? else {
@@ -95,7 +98,7 @@ pub(crate) fn by_modes(
     if trees.len() > u32::MAX as usize {
         return Err(Unanswered::Beyond);
     }
-    answer_by_modes(alloc, equations, &trees, limit)
+    answer_by_modes(alloc, equations, &trees, order, limit)
 }
 
 // The least sets with a conflict, or, where there are none, those that make the value.
@@ -103,6 +106,7 @@ fn answer_by_modes(
     alloc: Global,
     equations: &Equations,
     trees: &[NumberedTree],
+    order: Option<u32>,
     limit: u32,
 ) -> Result<Drawn, Unanswered>
     requires limit { limit ≤ 16777216 }
@@ -110,12 +114,13 @@ fn answer_by_modes(
     requires few { length trees.now ≤ 4294967295 }
     requires numbered { AreNumbered trees.now }
     requires apart { AreApart trees.now }
+    requires different { HaveDifferentEvents trees.now }
     requires small { All HasFewEdges trees.now }
     ensures { (forest : List ModeTree) → IsByModes forest trees.now → (all : Sets)
-        → AreListed (IsFirableOf forest) all
-        → AnswersByModes forest (table_of equations.now) all limit result }
+        → AreListed (IsFirableUpTo order forest) all
+        → AnswersByModes order forest (table_of equations.now) all limit result }
 {
-    let conflicts = listed_at(alloc, trees, &equations.gates, equations.conflict)?;
+    let conflicts = listed_at(alloc, trees, &equations.gates, equations.conflict, order)?;
     let mut ops = Ops::new(alloc, limit);
     let conflict = least_listed(alloc, &mut ops, &conflicts)?;
     if conflict.n != 0 {
@@ -124,7 +129,7 @@ fn answer_by_modes(
             root: conflict,
         }));
     }
-    let cuts = listed_at(alloc, trees, &equations.gates, equations.top)?;
+    let cuts = listed_at(alloc, trees, &equations.gates, equations.top, order)?;
     let top = least_listed(alloc, &mut ops, &cuts)?;
     Ok(Drawn::Cuts(Family {
         store: ops.into_store(),

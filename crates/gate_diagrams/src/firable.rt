@@ -7,23 +7,24 @@ ghost use Rattle.ar_firing.specs.Trees.{AreApart};
 ghost use Rattle.zdd_families.specs.Families.{Family as Sets};
 ghost use Rattle.zdd_families.specs.Sections.{IsCounted};
 ghost use Rattle.zdd_nodes.specs.Nodes.{Draws, IsSoundStore};
-ghost use Rattle.firable_families.specs.Firable.{IsFirableOf};
+ghost use Rattle.firable_families.specs.Firable.{IsFirableUpTo};
 ghost use Rattle.firable_families.specs.Walk.{AreTreeFamilies};
 ghost use Rattle.gate_diagrams.specs.Walked.{families_left, AreNumbers};
 
 use crate::walk::walk;
-use crate::walked::Walked;
+use crate::walked::{State, Walked};
 use std::alloc::Global;
 use zdd_nodes::{NodeFault, NodeId, Store};
 use zdd_ops::Ops;
 
-/// The family of the sets that are firable in the trees of which these are the families of paths. Each node that is
-/// added is a counted section of the result.
+/// The family of the sets of at most as many events as are asked for that are firable in the trees of which these are the
+/// families of paths. Each node that is added is a counted section of the result.
 pub(crate) fn firable_sets(
     alloc: Global,
     ops: &mut Ops,
     trees: &Store,
     paths: Vec<NodeId>,
+    order: Option<u32>,
 ) -> Result<NodeId, NodeFault>
     requires sound { IsSoundStore trees.now }
     requires in_store { AreNumbers trees.now paths.items }
@@ -31,7 +32,7 @@ pub(crate) fn firable_sets(
     ensures sound { OnOk result (IsSoundStore ops.new) }
     ensures drawn { (forest : List ModeTree)
         → AreTreeFamilies forest (families_left trees.now paths.items) → AreApart forest
-        → (all : Sets) → AreListed (IsFirableOf forest) all
+        → (all : Sets) → AreListed (IsFirableUpTo order forest) all
         → Draws (IsCounted all) all ops.old ops.new result }
 {
     let mut walked = Walked::new(alloc);
@@ -42,5 +43,5 @@ pub(crate) fn firable_sets(
             left.push(*tree)?;
         }
     }
-    walk(alloc, ops, &mut walked, trees, left)
+    walk(alloc, ops, &mut walked, trees, State { left, order })
 }

@@ -7,9 +7,9 @@ ghost use Rattle.mode_trees.specs.Views.{trees_of};
 ghost use Rattle.zdd_families.specs.Families.{Family as Sets};
 ghost use Rattle.eq_core.specs.Ordered.{IsOrderedTable};
 ghost use Rattle.eq_core.specs.Views.{table_of};
-ghost use Rattle.firable_families.specs.Firable.{IsFirableOf};
-ghost use Rattle.gate_diagrams.specs.NodeLimits.{NodesMay};
-ghost use Rattle.gate_diagrams.specs.Answers.{IsAnswer, AreNeeded, store_of};
+ghost use Rattle.firable_families.specs.Firable.{IsFirableOf, IsFirableUpTo};
+ghost use Rattle.gate_diagrams.specs.NodeLimits.{NodesMay, NodesMayUpTo};
+ghost use Rattle.gate_diagrams.specs.Answers.{IsAnswer, IsAnswerUpTo, AreNeeded, store_of};
 
 use crate::answer::{Drawn, answer};
 use crate::by_modes::{Unanswered, by_modes};
@@ -45,6 +45,30 @@ pub fn diagrams(
     ensures full { result ≡ Err NodeFault.Full
         → NodesMay (trees_of (λ n. n) forest.now) (table_of equations.now) limit }
 {
+    diagrams_up_to(alloc, equations, forest, None, limit)
+}
+
+/// The same of the sets of at most `order` events alone, where a number is given: the least of these with a conflict, or,
+/// where none of them has one, the least of these at which the top operand is true. Full comes only where more nodes than
+/// `limit` are needed for them.
+pub fn diagrams_up_to(
+    alloc: Global,
+    equations: &Equations,
+    forest: &Forest,
+    order: Option<u32>,
+    limit: u32,
+) -> Result<Drawn, NodeFault>
+    requires limit { limit ≤ 16777216 }
+    requires table { IsOrderedTable (table_of equations.now) }
+    requires trees { AreTrees (trees_of (λ n. n) forest.now) }
+    ensures sets { IfOk result
+        (λ d. IsAnswerUpTo order (trees_of (λ n. n) forest.now) (table_of equations.now) d) }
+    ensures needed { (all : Sets) → AreListed (IsFirableUpTo order (trees_of (λ n. n) forest.now)) all
+        → IfOk result (λ d. AreNeeded all (table_of equations.now) d) }
+    ensures within { IfOk result (λ d. length (store_of d).families ≤ limit) }
+    ensures full { result ≡ Err NodeFault.Full
+        → NodesMayUpTo order (trees_of (λ n. n) forest.now) (table_of equations.now) limit }
+{
     let mut trees = Ops::new(alloc, MOST_NODES);
     let paths = match forest_paths(alloc, &mut trees, &forest.trees) {
         Ok(paths) => paths,
@@ -54,12 +78,12 @@ pub fn diagrams(
         Err(NodeFault::Memory) => return Err(NodeFault::Memory),
     };
     let trees = trees.into_store();
-    match by_modes(alloc, equations, forest, limit) {
+    match by_modes(alloc, equations, forest, order, limit) {
         Ok(drawn) => return Ok(drawn),
         Err(Unanswered::Nodes(fault)) => return Err(fault),
         Err(Unanswered::Beyond) => {}
     }
     let mut ops = Ops::new(alloc, limit);
-    let firable = firable_sets(alloc, &mut ops, &trees, paths)?;
+    let firable = firable_sets(alloc, &mut ops, &trees, paths, order)?;
     answer(alloc, ops, equations, firable)
 }

@@ -15,4 +15,4 @@ mod walk;
 mod walked;
 
 pub use answer::{Drawn, Family};
-pub use from_forest::diagrams;
+pub use from_forest::{diagrams, diagrams_up_to};

@@ -5,6 +5,7 @@ use Rattle.std.proofs.lemmas.List.Sorted.{All-permutation}
 use Rattle.ar_firing.specs.Trees.{AreTrees}
 use Rattle.mode_trees.specs.Views.{tree_of, trees_of}
 use Rattle.mode_diagrams.specs.Trees.{AreNumbered, AreApart}
+use Rattle.mode_diagrams.specs.Costs.{HaveDifferentEvents}
 use Rattle.mode_diagrams.specs.Numbers.{AreNumbersOf, HasFewEdges, IsByModes}
 use Rattle.diagram_steps.specs.Order.{Ascend}
 use Rattle.mode_diagrams.proofs.Arranging.{firable_by_modes}
@@ -40,6 +41,19 @@ answer_by_modes-requires-clause-apart c =
     let by = firable_by_modes (trees_of (λ n. n) c.args.forest.now) c.in-Some.numbers.items c.in-Some-2.trees.items
     c.requires.trees numbers same ascend in
     subst AreApart (sym c.deref-2.ensures.value) by.apart
+
+pub answer_by_modes-requires-clause-different : goal.answer_by_modes-requires-clause-different
+answer_by_modes-requires-clause-different c =
+    let view = tree_of (λ n. n) in
+    let numbers = subst (λ z. AreNumbersOf (map view z) c.in-Some.numbers.items) c.deref.ensures.value
+    (subst (λ o. IfSome o (λ ns. AreNumbersOf (map view c.deref.result.now) ns.items)) c.in-Some.is
+    c.in_ok-numbers.ensures.numbers) in
+    let same = subst (λ o. IfSome o (λ ns. IsPermutation c.in-Some.numbers.items ns.items)) c.in-Some-2.is
+    c.in_ok-trees.ensures.same in
+    let ascend = subst (λ o. IfSome o (λ ns. Ascend ns.items)) c.in-Some-2.is c.in_ok-trees.ensures.ascend in
+    let by = firable_by_modes (trees_of (λ n. n) c.args.forest.now) c.in-Some.numbers.items c.in-Some-2.trees.items
+    c.requires.trees numbers same ascend in
+    subst HaveDifferentEvents (sym c.deref-2.ensures.value) by.different
 
 pub answer_by_modes-requires-clause-small : goal.answer_by_modes-requires-clause-small
 answer_by_modes-requires-clause-small c =

@@ -33,7 +33,7 @@ returns-clause-drawn c =
     let whole : c.loop-tree.left.items ≡ moving c.args.paths.items =
     c.loop-tree.invariant ∙ ap moving (take_all c.loop-tree.tree-index c.args.paths.items
     (subst (λ z. length z ≤ c.loop-tree.tree-index) c.deref-tree-items.ensures.value c.loop-tree-test.false)) in
-    firable_drawn c.args.trees.now c.args.paths.items c.args.ops.now c.walk.new.ops c.walk.result
-    (moving_drawn c.args.trees.now c.args.paths.items c.args.ops.now c.walk.new.ops c.walk.result
-    (subst (λ z. DrawsLeft c.args.trees.now z c.args.ops.now c.walk.new.ops c.walk.result)
+    firable_drawn c.args.order c.args.trees.now c.args.paths.items c.args.ops.now c.walk.new.ops c.walk.result
+    (moving_drawn c.args.order c.args.trees.now c.args.paths.items c.args.ops.now c.walk.new.ops c.walk.result
+    (subst (λ z. DrawsLeft c.args.order c.args.trees.now z c.args.ops.now c.walk.new.ops c.walk.result)
     whole c.walk.ensures.drawn))

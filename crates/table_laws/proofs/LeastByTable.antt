@@ -1,13 +1,16 @@
 -- The conflict sets and the cuts are the least firable sets at which the operands of a table that agrees are true.
-use Rattle.std.proofs.Common.{ℕ, Bool, List}
+use Rattle.std.proofs.Common.{◌≡◌, ℕ, Bool, false, List, Option}
+use Rattle.ar_base.specs.Sets.{Within}
+use Rattle.ar_base.proofs.Sets.{within_self}
 use Rattle.domains.specs.declared.Value.{Value}
 use Rattle.typed_expr.specs.declared.expr.Expr.{Expr}
 use Rattle.ar_meaning.specs.Systems.{System}
 use Rattle.ar_firing.specs.Static.{IsKeyedStatic}
-use Rattle.ar_firing.specs.Cuts.{IsLeast, Makes, MeetsConflict, IsConflictFree}
+use Rattle.ar_firing.specs.Cuts.{IsLeast, Makes, MeetsConflict, IsFirable, UpTo, IsConflictFreeUpTo}
 use Rattle.ar_firing.specs.Operands.{Agrees, IsFirableWith}
 use Rattle.ar_firing.proofs.Meeting.{met_is_conflicting, conflict_is_met}
-use Rattle.ar_firing.proofs.Cutting.{made_is_counted, counted_is_made, no_conflict}
+use Rattle.ar_firing.proofs.Cutting.{made_within, counted_within, calm_within}
+use Rattle.ar_firing.proofs.SmallSets.{part_up_to, free_within}
 use Rattle.ar_firing.proofs.LeastSets.{least_on, least_back}
 use Rattle.eq_core.specs.Gates.{Table}
 use Rattle.eq_core.specs.Values.{value_at}
@@ -27,11 +30,15 @@ module _ (sys : System ℕ) (dropped : List ℕ) (static : IsKeyedStatic sys dro
       λ m. least_back (MeetsConflict sys dropped) (IsFirableWith sys dropped conflict) met back m,
       λ f. least_on (MeetsConflict sys dropped) (IsFirableWith sys dropped conflict) met back f,
     );
-    cuts = λ free set. (
-      λ m. least_on (IsFirableWith sys dropped top) (Makes sys dropped observer wanted) (makes free)
-          (λ s l. made free s l.has) m,
-      λ f. least_on (Makes sys dropped observer wanted) (IsFirableWith sys dropped top) (made free)
-          (λ s l. makes free s l.has) f,
+    cuts = λ order free set u. (
+      λ m. record {
+        has = made order free u set (within_self set) m.has;
+        least = λ part w f. m.least part w (makes order free u part w f);
+      },
+      λ f. record {
+        has = makes order free u set (within_self set) f.has;
+        least = λ part w m. f.least part w (made order free u part w m);
+      },
     );
   }
     where
@@ -42,14 +49,18 @@ module _ (sys : System ℕ) (dropped : List ℕ) (static : IsKeyedStatic sys dro
       back : (s : List ℕ) → IsLeast (IsFirableWith sys dropped conflict) s → MeetsConflict sys dropped s
       back = conflict_is_met sys dropped static.keyed static.static observer wanted conflict top agrees
 
-      made : IsConflictFree sys dropped → (s : List ℕ) → Makes sys dropped observer wanted s
-          → IsFirableWith sys dropped top s
-      made free s m =
-          made_is_counted sys dropped static.keyed static.static observer wanted conflict top agrees
-          (no_conflict sys dropped static.keyed static.static observer wanted conflict top agrees free) {set = s} m
+      calm : (order : Option ℕ) → IsConflictFreeUpTo order sys dropped → {set : List ℕ} → UpTo order set
+          → (s : List ℕ) → Within s set → (part : List ℕ) (t : List Value) → Within part s → IsFirable sys dropped part t
+          → conflict part ≡ false
+      calm order free u s w = calm_within sys dropped static.keyed static.static observer wanted conflict top agrees s
+          (free_within order sys dropped free s (part_up_to order w u))
 
-      makes : IsConflictFree sys dropped → (s : List ℕ) → IsFirableWith sys dropped top s
-          → Makes sys dropped observer wanted s
-      makes free s f =
-          counted_is_made sys dropped static.keyed static.static observer wanted conflict top agrees
-          (no_conflict sys dropped static.keyed static.static observer wanted conflict top agrees free) {set = s} f
+      made : (order : Option ℕ) → IsConflictFreeUpTo order sys dropped → {set : List ℕ} → UpTo order set
+          → (s : List ℕ) → Within s set → Makes sys dropped observer wanted s → IsFirableWith sys dropped top s
+      made order free u s w m = made_within sys dropped static.keyed static.static observer wanted conflict top agrees s
+          (calm order free u s w) m
+
+      makes : (order : Option ℕ) → IsConflictFreeUpTo order sys dropped → {set : List ℕ} → UpTo order set
+          → (s : List ℕ) → Within s set → IsFirableWith sys dropped top s → Makes sys dropped observer wanted s
+      makes order free u s w f = counted_within sys dropped static.keyed static.static observer wanted conflict top agrees
+          s (calm order free u s w) f

@@ -1,12 +1,12 @@
 -- What the table of a static system tells.
-use Rattle.std.specs.Prelude.{◌↔◌, ℕ, List}
+use Rattle.std.specs.Prelude.{◌↔◌, ℕ, List, Option}
 use Rattle.domains.specs.declared.Value.{Value}
 use Rattle.typed_expr.specs.Kinds.{HasKind}
 use Rattle.typed_expr.specs.declared.expr.ValueKind.{ValueKind}
 use Rattle.typed_expr.specs.declared.expr.Expr.{Expr, out-Expr}
 use Rattle.ar_meaning.specs.Systems.{Net, System}
 use Rattle.ar_firing.specs.Static.{IsKeyedStatic}
-use Rattle.ar_firing.specs.Cuts.{IsLeast, Cut, ConflictSet, IsConflictFree}
+use Rattle.ar_firing.specs.Cuts.{IsLeast, Cut, ConflictSet, UpTo, IsConflictFreeUpTo}
 use Rattle.ar_firing.specs.Forest.{ModeTree, IsForest}
 use Rattle.ar_firing.specs.Operands.{Agrees, IsFirableWith}
 use Rattle.gts_core.specs.Lawful.{IsLawful}
@@ -26,13 +26,14 @@ TableAgrees = (sys : System ℕ) (dropped : List ℕ) (kinds : ℕ → ValueKind
     → IsTable sys.net trees observer wanted table
     → Agrees sys dropped observer wanted (value_at table.gates table.conflict) (value_at table.gates table.top)
 
--- the conflict sets are the least firable sets at which the table's conflict operand is true; and where no set meets a
--- conflict, the cuts are the least firable sets at which its top operand is true
+-- the conflict sets are the least firable sets at which the table's conflict operand is true; and where no set of at most as
+-- many events as are asked for meets a conflict, of these the cuts are the least firable sets at which its top operand is true
 pub record ShowsLeast (sys : System ℕ) (dropped : List ℕ) (observer : Expr ℕ) (wanted : Value) (table : Table)
     : Type 0 where
   pub conflict_sets : (set : List ℕ) → (ConflictSet sys dropped set
       ↔ IsLeast (IsFirableWith sys dropped (value_at table.gates table.conflict)) set)
-  pub cuts : IsConflictFree sys dropped → (set : List ℕ) → (Cut sys dropped observer wanted set
+  pub cuts : (order : Option ℕ) → IsConflictFreeUpTo order sys dropped → (set : List ℕ) → UpTo order set
+      → (Cut sys dropped observer wanted set
       ↔ IsLeast (IsFirableWith sys dropped (value_at table.gates table.top)) set)
 
 -- so does the table of a lawful static system with these trees, for a well-typed observer

@@ -1,5 +1,5 @@
 -- A system and its image keep and break the same rules, by the same numbers.
-use Rattle.std.proofs.Common.{◌≡◌, ℕ, List, Contains, refl, sym, ◌∙◌, subst}
+use Rattle.std.proofs.Common.{◌≡◌, ℕ, List, Option, Contains, refl, sym, ◌∙◌, subst}
 use Rattle.ar_base.specs.Lists.{Stands}
 use Rattle.domains.specs.declared.Value.{Value}
 use Rattle.typed_expr.specs.Pairs.{turned}
@@ -14,7 +14,7 @@ use Rattle.ar_meaning.proofs.OneRun.{way_same}
 use Rattle.ar_meaning.proofs.ImageTurned.{image_turned, way_turned}
 use Rattle.ar_meaning.proofs.ImageFlows.{allows_there, partner}
 use Rattle.ar_firing.specs.Fragment.{IsKept, IsModeOf, IsLive}
-use Rattle.ar_firing.specs.Rules.{IsTransition, transition, KeepsS1, BreaksS1, KeepsS2, BreaksS2, HasModeVariable, KeepsS3, BreaksS3, IsLiveAt, GivesOther, nothing, two, outside, KeepsS4, BreaksS4, names, gives, KeepsS5, HasLive, BreaksS5, KeepsS6, BreaksS6, stays, by_events, by_edges, initial, AssignIsWide, by_value, by_condition, KeepsS7, BreaksS7, ObserverBreaksS7, KeepsS8, BreaksS8, Spot, Rule, S1, S2, S3, S4, S5, S6, S7, S8, BreaksStaticRule, s1, s2, s3, s4, s5, s6, s7, s7_observer, s8, KeepsStaticRule, IsFirstBroken, KeepsAll}
+use Rattle.ar_firing.specs.Rules.{IsTransition, transition, KeepsS1, BreaksS1, KeepsS2, BreaksS2, HasModeVariable, KeepsS3, BreaksS3, IsLiveAt, GivesOther, nothing, two, outside, KeepsS4, BreaksS4, names, gives, KeepsS5, HasLive, BreaksS5, KeepsS6, BreaksS6, stays, by_events, by_edges, initial, AssignIsWide, by_value, by_condition, KeepsS7, BreaksS7, ObserverBreaksS7, KeepsS8, BreaksS8, Spot, Rule, S1, S2, S3, S4, S5, S6, S7, S8, BreaksStaticRule, s1, s2, s3, s4, s5, s6, s7, s7_observer, s8, KeepsStaticRule, IsFirstBroken, KeepsAll, KeepsUpTo}
 use Rattle.ar_firing.proofs.Widths.{wide_there}
 use Rattle.ar_firing.proofs.ImageModes.{condition_there, guard_there, action_there, kept_there, transitions_there, is_mode_there, can_at_there, effects_at_there, effects_at_back, reached_there, live_there}
 
@@ -389,3 +389,6 @@ module _ {V W : Type 0} (same : V → W → Type 0) (here : System V) (there : S
 
   pub keeps_all_there : KeepsAll here dropped → KeepsAll there dropped
   keeps_all_there k = record { each = λ r. keeps_there same here there image dropped r (k.each r) }
+
+  pub keeps_asked_there : {order : Option ℕ} → KeepsUpTo order here dropped → KeepsUpTo order there dropped
+  keeps_asked_there k = record { each = λ r asked. keeps_there same here there image dropped r (k.each r asked) }

@@ -1,9 +1,9 @@
 -- It is refuted that a system neither keeps every rule nor has a first one that it breaks.
-use Rattle.std.proofs.Common.{◌≡◌, ◌<◌, ◌⊎◌, inl, inr, ⊎_elim, ℕ, zero, suc, List, sym, ◌∙◌, ap, subst, arith}
+use Rattle.std.proofs.Common.{◌≡◌, ◌<◌, ◌⊎◌, inl, inr, ⊎_elim, ℕ, zero, suc, List, Option, Some, None, sym, ◌∙◌, ap, subst, arith}
 use Rattle.std.proofs.lemmas.Bool.{cases_eq}
 use Rattle.ar_meaning.specs.Systems.{System}
 use Rattle.ar_meaning.specs.Found.{AreTold}
-use Rattle.ar_firing.specs.Rules.{HasTargets, Spot, AtEvent, AtUnit, AtVariable, AtObserver, AtWhole, IsShownBefore, events, units, variables, observers, variable_first, Rule, S1, S2, S3, S4, S5, S6, S7, S8, BreaksStaticRule, KeepsStaticRule, rule_number, IsFirstBroken, KeepsAll}
+use Rattle.ar_firing.specs.Rules.{HasTargets, Spot, AtEvent, AtUnit, AtVariable, AtObserver, AtWhole, IsShownBefore, events, units, variables, observers, variable_first, Rule, S1, S2, S3, S4, S5, S6, S7, S8, BreaksStaticRule, KeepsStaticRule, rule_number, IsFirstBroken, KeepsAll, IsAskedUpTo, KeepsUpTo}
 use Rattle.ar_firing.proofs.RulesHold.{rule_of, numbered}
 use Rattle.ar_firing.proofs.Unbroken.{Unbroken, keeps_s1, keeps_s2, keeps_s3, keeps_s4, keeps_s5, keeps_s6, keeps_s7, keeps_s8}
 
@@ -109,3 +109,36 @@ module _ {V : Type 0} (key_told : AreTold V) (sys : System V) (dropped : List �
   neither_refuted none never =
       by_number (KeepsStaticRule sys dropped) (λ r below k. kept r below (unbroken sys dropped r below (never r)) k) 9
       (λ ks. none (record { each = λ r. ks r (below_nine r) }))
+
+  -- the same of the rules below the last
+  abbrev IsKeptBelow : Rule → Type 0
+  IsKeptBelow r = rule_number r < 8 → KeepsStaticRule sys dropped r
+
+  module _ (k : ℕ) (never : (rule : Rule) (spot : Spot) → IsAskedUpTo (Some k) rule → IsFirstBroken sys dropped rule spot
+      → ⊥) where
+    small : (r : Rule) → rule_number r < 8 → ((l : Rule) → rule_number l < rule_number r → IsKeptBelow l)
+        → (IsKeptBelow r → ⊥) → ⊥
+    small r few below refuted =
+        let lesser : (l : Rule) → rule_number l < rule_number r → KeepsStaticRule sys dropped l
+        = λ l h. below l h (omega (arith, few, h)) in
+        kept r lesser (unbroken sys dropped r lesser (λ spot. never r spot few)) (λ keeps. refuted (λ h. keeps))
+
+    step : (r : Rule) → ((l : Rule) → rule_number l < rule_number r → IsKeptBelow l) → (IsKeptBelow r → ⊥) → ⊥
+    step S1 below refuted = small S1 (omega arith) below refuted
+    step S2 below refuted = small S2 (omega arith) below refuted
+    step S3 below refuted = small S3 (omega arith) below refuted
+    step S4 below refuted = small S4 (omega arith) below refuted
+    step S5 below refuted = small S5 (omega arith) below refuted
+    step S6 below refuted = small S6 (omega arith) below refuted
+    step S7 below refuted = small S7 (omega arith) below refuted
+    step S8 below refuted = refuted (λ h. absurd (omega (arith, h)))
+
+    below_eight : (KeepsUpTo (Some k) sys dropped → ⊥) → ⊥
+    below_eight none = by_number IsKeptBelow step 8 (λ ks. none (record { each = λ r few. ks r few few }))
+
+  -- the same of the rules that are asked
+  pub neither_asked_refuted : (order : Option ℕ) → (KeepsUpTo order sys dropped → ⊥)
+      → ((rule : Rule) (spot : Spot) → IsAskedUpTo order rule → IsFirstBroken sys dropped rule spot → ⊥) → ⊥
+  neither_asked_refuted None none never =
+      neither_refuted (λ all. none (record { each = λ r asked. all.each r })) (λ rule spot. never rule spot tt)
+  neither_asked_refuted (Some k) none never = below_eight k never none

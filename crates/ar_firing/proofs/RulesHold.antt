@@ -1,5 +1,5 @@
 -- A rule that is kept is not broken, and the rules make a system static.
-use Rattle.std.proofs.Common.{◌≡◌, ◌<◌, ℕ, zero, suc, true, List, refl, sym, ◌∙◌, ap, subst, arith, Contains, inl, inr}
+use Rattle.std.proofs.Common.{◌≡◌, ◌<◌, ℕ, zero, suc, true, List, Option, Some, None, refl, sym, ◌∙◌, ap, subst, arith, Contains, inl, inr}
 use Rattle.ar_base.specs.Lists.{Stands}
 use Rattle.ar_base.proofs.Standing.{stands_one}
 use Rattle.domains.specs.declared.Value.{Value}
@@ -10,7 +10,7 @@ use Rattle.ar_meaning.proofs.Dependence.{tests_at}
 use Rattle.ar_firing.specs.Fragment.{GuardNames, guard, ActionNames, action, as_target, as_source, IsModeOf, named, first}
 use Rattle.ar_firing.specs.Static.{IsOf, HasMode, Leads, IsStatic}
 use Rattle.ar_firing.specs.Static as g
-use Rattle.ar_firing.specs.Rules.{IsTransition, transition, KeepsS1, BreaksS1, KeepsS2, BreaksS2, HasModeVariable, KeepsS3, BreaksS3, GivesOne, GivesOther, nothing, two, outside, KeepsS4, BreaksS4, names, gives, AreTwoEdges, ways, variables, modes, KeepsS5, BreaksS5, KeepsS6, BreaksS6, stays, by_events, by_edges, initial, KeepsS7, BreaksS7, ObserverBreaksS7, KeepsS8, BreaksS8, Spot, AtEvent, AtUnit, AtVariable, AtObserver, AtWhole, IsShownBefore, events, units, observers, variable_first, Rule, S1, S2, S3, S4, S5, S6, S7, S8, BreaksStaticRule, s1, s2, s3, s4, s5, s6, s7, s7_observer, s8, KeepsStaticRule, rule_number, IsFirstBroken, KeepsAll}
+use Rattle.ar_firing.specs.Rules.{IsTransition, transition, KeepsS1, BreaksS1, KeepsS2, BreaksS2, HasModeVariable, KeepsS3, BreaksS3, GivesOne, GivesOther, nothing, two, outside, KeepsS4, BreaksS4, names, gives, AreTwoEdges, ways, variables, modes, KeepsS5, BreaksS5, KeepsS6, BreaksS6, stays, by_events, by_edges, initial, KeepsS7, BreaksS7, ObserverBreaksS7, KeepsS8, BreaksS8, Spot, AtEvent, AtUnit, AtVariable, AtObserver, AtWhole, IsShownBefore, events, units, observers, variable_first, Rule, S1, S2, S3, S4, S5, S6, S7, S8, BreaksStaticRule, s1, s2, s3, s4, s5, s6, s7, s7_observer, s8, KeepsStaticRule, rule_number, IsFirstBroken, KeepsAll, IsAskedUpTo, KeepsUpTo}
 use Rattle.ar_firing.specs.Rules as rules
 use Rattle.ar_firing.proofs.Without.{no_more}
 
@@ -230,3 +230,15 @@ module _ {V : Type 0} (sys : System V) where
 
     pub all_static : KeepsAll sys dropped → IsStatic sys dropped
     all_static k = static (k.each S1) (k.each S3) (k.each S4) (k.each S5) (k.each S6)
+
+-- a rule below the last is asked, whatever the number of events
+pub asked_below : (order : Option ℕ) (rule : Rule) → rule_number rule < 8 → IsAskedUpTo order rule
+asked_below None rule l = tt
+asked_below (Some k) rule l = l
+
+pub asked_static : {V : Type 0} (order : Option ℕ) (sys : System V) (dropped : List ℕ) → KeepsUpTo order sys dropped
+    → IsStatic sys dropped
+asked_static order sys dropped k =
+    let of : (rule : Rule) → rule_number rule < 8 → KeepsStaticRule sys dropped rule
+    = λ rule l. k.each rule (asked_below order rule l) in
+    static sys dropped (of S1 (omega arith)) (of S3 (omega arith)) (of S4 (omega arith)) (of S5 (omega arith)) (of S6 (omega arith))

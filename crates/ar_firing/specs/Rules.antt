@@ -1,5 +1,5 @@
 -- The rules of the static fragment, each in two ways: that it is kept, and that it is broken by what it is shown with.
-use Rattle.std.specs.Prelude.{◌≡◌, ◌<◌, ◌≤◌, ℕ, Bool, List, Contains, length}
+use Rattle.std.specs.Prelude.{◌≡◌, ◌<◌, ◌≤◌, ℕ, Bool, List, Contains, length, Option, Some, None}
 use Rattle.ar_base.specs.Lists.{Stands, IsOneOf, HasNo, AreDifferent}
 use Rattle.domains.specs.declared.Value.{Value}
 use Rattle.typed_expr.specs.Possible.{IsWide}
@@ -289,3 +289,13 @@ pub record IsFirstBroken {V : Type 0} (sys : System V) (dropped : List ℕ) (rul
 -- every rule is kept
 pub record KeepsAll {V : Type 0} (sys : System V) (dropped : List ℕ) : Type 0 where
   pub each : (rule : Rule) → KeepsStaticRule sys dropped rule
+
+-- the rule is one of those that are asked of a system: every rule, and where the cuts of at most so many events are asked for
+-- every one but the last, which says how many events may have a live edge
+abbrev pub IsAskedUpTo : Option ℕ → Rule → Type 0
+IsAskedUpTo None rule = Unit {0}
+IsAskedUpTo (Some k) rule = rule_number rule < 8
+
+-- every rule that is asked is kept
+pub record KeepsUpTo {V : Type 0} (order : Option ℕ) (sys : System V) (dropped : List ℕ) : Type 0 where
+  pub each : (rule : Rule) → IsAskedUpTo order rule → KeepsStaticRule sys dropped rule

@@ -1,6 +1,6 @@
 //! A flat system has the firing orders, cuts, forests and broken rules of its system.
 
-ghost use Rattle.std.specs.Prelude.{ℕ, List, ◌↔◌};
+ghost use Rattle.std.specs.Prelude.{ℕ, List, Option, ◌↔◌};
 ghost use Rattle.domains.specs.declared.Value.{Value};
 ghost use Rattle.typed_expr.specs.declared.expr.Expr.{Expr};
 ghost use Rattle.ar_meaning.specs.Systems.{System};
@@ -10,7 +10,7 @@ ghost use Rattle.ar_meaning.specs.Image.{Expr_renames};
 ghost use Rattle.ar_meaning.specs.FlatOf.{IsNumber, IsFlatOf};
 ghost use Rattle.ar_firing.specs.Cuts.{Reaches, Conflicts, Makes, MeetsConflict, Cut, ConflictSet, IsFirable};
 ghost use Rattle.ar_firing.specs.Forest.{ModeTree, IsModeTree, IsForest, IsLine};
-ghost use Rattle.ar_firing.specs.Rules.{Rule, Spot, KeepsStaticRule, BreaksStaticRule, IsFirstBroken, KeepsAll};
+ghost use Rattle.ar_firing.specs.Rules.{Rule, Spot, KeepsStaticRule, BreaksStaticRule, IsFirstBroken, KeepsAll, KeepsUpTo};
 
 /// Laws of a flat system and the system that it is of.
 ///
@@ -18,7 +18,7 @@ ghost use Rattle.ar_firing.specs.Rules.{Rule, Spot, KeepsStaticRule, BreaksStati
 ///   the same firing orders, conflicts, cuts and conflict sets.
 /// - `firable`, `lines`, `trees`, `forests`: A system and a flat system of it have the same firable sets,
 ///   lines, trees and forest.
-/// - `keeps`, `breaks`, `first_broken`, `all`: A system and a flat system of it keep and break the same rules
+/// - `keeps`, `breaks`, `first_broken`, `all`, `all_asked`: A system and a flat system of it keep and break the same rules
 ///   of the static fragment, by the same numbers.
 pub fn flat_systems<V>()
     ensures reaches { (things : List V) (sys : System V) (flat : System ℕ)
@@ -63,4 +63,7 @@ pub fn flat_systems<V>()
         → (IsFirstBroken sys dropped rule spot ↔ IsFirstBroken flat dropped rule spot) }
     ensures all { (things : List V) (sys : System V) (flat : System ℕ) → IsFlatOf things sys flat
         → (dropped : List ℕ) → (KeepsAll sys dropped ↔ KeepsAll flat dropped) }
+    ensures all_asked { (things : List V) (sys : System V) (flat : System ℕ)
+        → IsFlatOf things sys flat → (order : Option ℕ) (dropped : List ℕ)
+        → (KeepsUpTo order sys dropped ↔ KeepsUpTo order flat dropped) }
 {}

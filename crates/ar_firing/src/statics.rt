@@ -1,10 +1,10 @@
 //! The rules of the static fragment.
 
-ghost use Rattle.std.specs.Prelude.{ℕ, List, ◌≡◌};
+ghost use Rattle.std.specs.Prelude.{ℕ, List, Option, None, ◌≡◌};
 ghost use Rattle.ar_meaning.specs.Systems.{System};
 ghost use Rattle.ar_meaning.specs.Found.{AreTold};
 ghost use Rattle.ar_firing.specs.Static.{IsStatic};
-ghost use Rattle.ar_firing.specs.Rules.{Rule, Spot, HasTargets, KeepsStaticRule, BreaksStaticRule, IsFirstBroken, KeepsAll};
+ghost use Rattle.ar_firing.specs.Rules.{Rule, Spot, HasTargets, KeepsStaticRule, BreaksStaticRule, IsFirstBroken, KeepsAll, IsAskedUpTo, KeepsUpTo};
 
 /// Laws of systems that keep the rules of the static fragment, and of those that break one.
 ///
@@ -15,6 +15,9 @@ ghost use Rattle.ar_firing.specs.Rules.{Rule, Spot, HasTargets, KeepsStaticRule,
 ///   numbers, a system of which no rule is broken is static; and where each assignment of an assertion has a
 ///   variable as its target, it is refuted that a system neither keeps every rule nor has a first one that it
 ///   breaks.
+/// - `asked_first`, `asked_make_static`, `not_neither_asked`: The same of the rules that are asked.
+/// - `all_are_asked`, `asked_are_all`: A system that keeps every rule keeps those that are asked; and where no number of
+///   events is given these are all.
 pub fn static_rules<V>()
     ensures one_rule { (sys : System V) (dropped : List ℕ) (rule : Rule) (spot : Spot)
         → KeepsStaticRule sys dropped rule → BreaksStaticRule sys dropped rule spot → ⊥ }
@@ -30,4 +33,14 @@ pub fn static_rules<V>()
     ensures not_neither { AreTold V → (sys : System V) (dropped : List ℕ) → HasTargets sys
         → (KeepsAll sys dropped → ⊥)
         → ((rule : Rule) (spot : Spot) → IsFirstBroken sys dropped rule spot → ⊥) → ⊥ }
+    ensures asked_first { (order : Option ℕ) (sys : System V) (dropped : List ℕ) → KeepsUpTo order sys dropped
+        → (rule : Rule) (spot : Spot) → IsAskedUpTo order rule → IsFirstBroken sys dropped rule spot → ⊥ }
+    ensures asked_make_static { (order : Option ℕ) (sys : System V) (dropped : List ℕ)
+        → KeepsUpTo order sys dropped → IsStatic sys dropped }
+    ensures all_are_asked { (order : Option ℕ) (sys : System V) (dropped : List ℕ) → KeepsAll sys dropped
+        → KeepsUpTo order sys dropped }
+    ensures asked_are_all { (sys : System V) (dropped : List ℕ) → KeepsUpTo None sys dropped → KeepsAll sys dropped }
+    ensures not_neither_asked { AreTold V → (order : Option ℕ) (sys : System V) (dropped : List ℕ) → HasTargets sys
+        → (KeepsUpTo order sys dropped → ⊥)
+        → ((rule : Rule) (spot : Spot) → IsAskedUpTo order rule → IsFirstBroken sys dropped rule spot → ⊥) → ⊥ }
 {}

@@ -3,7 +3,7 @@ use Rattle.ar_meaning.specs.FlatOf.{IsNumber}
 use Rattle.ar_meaning.proofs.FlatSystems.{flat_image, flat_back}
 use Rattle.ar_firing.proofs.ImageCuts.{reaches_there, conflicts_there, meets_there, makes_there, makes_back, cut_there, cut_back, conflict_set_there}
 use Rattle.ar_firing.proofs.ImageModes.{firable_there, line_there, mode_tree_there, forest_there}
-use Rattle.ar_firing.proofs.ImageRules.{keeps_there, breaks_there, first_broken_there, keeps_all_there}
+use Rattle.ar_firing.proofs.ImageRules.{keeps_there, breaks_there, first_broken_there, keeps_all_there, keeps_asked_there}
 use Rattle.ar_firing.proofs.images.flat_systems.Goals as goal
 
 pub returns-clause-reaches : goal.returns-clause-reaches
@@ -113,5 +113,13 @@ returns-clause-all g c =
     λ things sys flat f dropped. (
       λ h. keeps_all_there (IsNumber things) sys flat (flat_image things sys flat f) dropped h,
       λ h. keeps_all_there
+          (turned (IsNumber things)) flat sys (flat_back things sys flat f) dropped h,
+    )
+
+pub returns-clause-all_asked : goal.returns-clause-all_asked
+returns-clause-all_asked g c =
+    λ things sys flat f order dropped. (
+      λ h. keeps_asked_there (IsNumber things) sys flat (flat_image things sys flat f) dropped h,
+      λ h. keeps_asked_there
           (turned (IsNumber things)) flat sys (flat_back things sys flat f) dropped h,
     )

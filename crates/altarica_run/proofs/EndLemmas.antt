@@ -2,8 +2,8 @@
 use Rattle.std.proofs.Common.{◌≡◌, ℕ, List, Result, Ok, Err, refl, sym, ◌∙◌, ap, subst}
 use Rattle.ar_io.specs.Outside.{Told}
 use Rattle.ar_io.specs.Writing.{SinkState, Appended, WroteFront}
-use Rattle.run_words.specs.declared.jobs.Job.{Job}
-use Rattle.run_words.specs.Jobs.{IsJob}
+use Rattle.run_words.specs.declared.jobs.Asked.{Asked}
+use Rattle.run_words.specs.Jobs.{IsAsked}
 use Rattle.altarica_run.specs.Answers.{IsUntouched}
 use Rattle.job_stages.specs.Files.{files_of, Loads}
 use Rattle.altarica_run.specs.Doing.{AnswersFor, RefusesWords, no_job, stage, not_read, AnswersWords}
@@ -36,23 +36,23 @@ module _ (files : List ℕ → Told) (rose : List ℕ → Type 0) (words : List 
   said told f s (nothing e) = says.no_memory e
 
   -- the text of the job was written
-  pub job_told : (job : Job) (w : Ready) → IsJob words job → Passes files job (Ok w) → (s : Status)
-      → IsWrittenFor job (Tells job w) old new s
+  pub job_told : (asked : Asked) (w : Ready) → IsAsked words asked → Passes files asked (Ok w) → (s : Status)
+      → IsWrittenFor asked (Tells asked w) old new s
       → EndsSo files rose words old new s
-  job_told job w is p s (written h) = said (Tells job w) (λ text ends t. tells job w is p t) s h
-  job_told job w is p s (stopped e t c k) = says.replay_stopped job is e (tells job w is p t) c k
+  job_told asked w is p s (written h) = said (Tells asked w) (λ text ends t. tells asked w is p t) s h
+  job_told asked w is p s (stopped e t c k) = says.replay_stopped asked is e (tells asked w is p t) c k
 
   -- the line of a file that was not read was written
-  not_read_told : (kind : FileKind) (name : List ℕ) (job : Job) → IsJob words job
-      → Loads files (files_of job) kind name → rose name → (s : Status)
+  not_read_told : (kind : FileKind) (name : List ℕ) (asked : Asked) → IsAsked words asked
+      → Loads files (files_of asked) kind name → rose name → (s : Status)
       → IsWritten (λ text ends. (text ≡ line_of (NotRead kind)) × (ends ≡ status.Read)) old new s
       → EndsSo files rose words old new s
-  not_read_told kind name job is l k s (whole t a same) =
+  not_read_told kind name asked is l k s (whole t a same) =
       subst (λ (z : Status). EndsSo files rose words old new z) (sym t.1)
-      (says.not_read job is l k (subst (λ (z : List ℕ). Appended old.bytes new.bytes z) t.0 a) same)
-  not_read_told kind name job is l k s (cut t c r) =
-      says.not_written (says.not_read job is l k) r (subst (λ (z : List ℕ). WroteFront old.bytes new.bytes z) t.0 c)
-  not_read_told kind name job is l k s (nothing e) = says.no_memory e
+      (says.not_read asked is l k (subst (λ (z : List ℕ). Appended old.bytes new.bytes z) t.0 a) same)
+  not_read_told kind name asked is l k s (cut t c r) =
+      says.not_written (says.not_read asked is l k) r (subst (λ (z : List ℕ). WroteFront old.bytes new.bytes z) t.0 c)
+  not_read_told kind name asked is l k s (nothing e) = says.no_memory e
 
   -- the line of what the words say was written
   line_told : (r : Refusal) → Says files words (line_of r) (status_of r) → (s : Status)
@@ -68,8 +68,8 @@ module _ (files : List ℕ → Told) (rose : List ℕ → Type 0) (words : List 
       → IsWritten (λ text ends. (text ≡ line_of r) × (ends ≡ status_of r)) old new s
       → EndsSo files rose words old new s
   refusal_told r (no_job h) s k = line_told r (usage h) s k
-  refusal_told r (stage job is p) s k = line_told r (refuses job r is p) s k
-  refusal_told r (not_read {kind} {name} job is l m) s k = not_read_told kind name job is l m s k
+  refusal_told r (stage asked is p) s k = line_told r (refuses asked r is p) s k
+  refusal_told r (not_read {kind} {name} asked is l m) s k = not_read_told kind name asked is l m s k
 
   -- the same, where nothing was written before
   pub refused_first : (mid : SinkState) → mid ≡ old → (r : Refusal) → RefusesWords files rose words r → (s : Status)
@@ -99,24 +99,24 @@ module _ (files : List ℕ → Told) (rose : List ℕ → Type 0) (words : List 
       go (Refused r) h = (subst (λ (z : Refusal). RefusesWords files rose words z) (sym h.0) (no_job h.1), refl)
       go Memory h = refl
 
-  module _ (job : Job) (is : IsJob words job) where
+  module _ (asked : Asked) (is : IsAsked words asked) where
     pub files_stop : (r : Result Status Stop) (d e : Stop) → r ≡ Err d → d ≡ e
-        → AnswersTexts files rose job (Err e) → AnswersWords files rose words old old r
+        → AnswersTexts files rose asked (Err e) → AnswersWords files rose words old old r
     files_stop r d e i j h = at_stop r d e i j (go e h)
       where
-        refused : (r : Refusal) → RefusesFiles files rose (files_of job) r → RefusesWords files rose words r
-        refused r (loading.limited l) = stage job is (not_loaded l)
-        refused r (loading.not_read l k) = not_read job is l k
+        refused : (r : Refusal) → RefusesFiles files rose (files_of asked) r → RefusesWords files rose words r
+        refused r (loading.limited l) = stage asked is (not_loaded l)
+        refused r (loading.not_read l k) = not_read asked is l k
 
-        go : (e : Stop) → AnswersTexts files rose job (Err e) → AnswersWords files rose words old old (Err e)
+        go : (e : Stop) → AnswersTexts files rose asked (Err e) → AnswersWords files rose words old old (Err e)
         go (Refused r) h = (refused r h, refl)
         go Memory h = refl
 
-    pub job_done : (new : SinkState) (t : Texts) → AreTexts files job t → (r : Result Status Stop)
-        → AnswersFor job t old new r → AnswersWords files rose words old new r
+    pub job_done : (new : SinkState) (t : Texts) → AreTexts files asked t → (r : Result Status Stop)
+        → AnswersFor asked t old new r → AnswersWords files rose words old new r
     job_done new t l (Ok s) h =
-        job_told files rose words old new job h.0 is (loaded (texts_of job t) l.loaded l.is_text h.1) s h.2
-    job_done new t l (Err (Refused r)) h = (stage job is (loaded (texts_of job t) l.loaded l.is_text h.0), h.1)
+        job_told files rose words old new asked h.0 is (loaded (texts_of asked t) l.loaded l.is_text h.1) s h.2
+    job_done new t l (Err (Refused r)) h = (stage asked is (loaded (texts_of asked t) l.loaded l.is_text h.0), h.1)
     job_done new t l (Err Memory) h = h
 
 -- The shelf

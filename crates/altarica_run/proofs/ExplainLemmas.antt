@@ -32,7 +32,7 @@ use Rattle.replayer.specs.Settles.{last_standing, Settles, IsFaultLine, AnswersS
 use Rattle.job_inputs.specs.declared.commands.Command.{Command as Given}
 use Rattle.replayer.specs.declared.replaying.ReplayFault.{ReplayFault}
 use Rattle.replayer.specs.declared.replaying.ReplayFault.TheVariants as fault
-use Rattle.run_words.specs.declared.jobs.Job.{Job}
+use Rattle.run_words.specs.declared.jobs.Asked.{Asked}
 use Rattle.run_words.specs.declared.verbs.Verb.TheVariants.{Explain}
 use Rattle.job_stages.specs.Stages.{Ready}
 use Rattle.job_stages.specs.Telling.{status_explained, IsWritten, whole, cut, nothing}
@@ -76,7 +76,7 @@ module _ {V : Type 0} (sys : System V)
 
 -- The text
 
-module _ (job : Job) (w : Ready) (p : GtsParts) (is : IsFlat w.source p) (e : job.command ≡ Explain)
+module _ (asked : Asked) (w : Ready) (p : GtsParts) (is : IsFlat w.source p) (e : asked.job.command ≡ Explain)
     (given_commands : List Given) (same_commands : w.commands ≡ map (command_of p) given_commands) where
   abbrev flat : System ℕ
   flat = is.flat
@@ -94,14 +94,14 @@ module _ (job : Job) (w : Ready) (p : GtsParts) (is : IsFlat w.source p) (e : jo
   module _
       (there : (text : List ℕ) → IsFaultLine (naming_of_parts p) flat commands text
       → IsFaultLine (naming_of w.source.declarations) w.source.system commands text) where
-    fault_told : (text : List ℕ) → IsFaultLine (naming_of_parts p) flat commands text → Tells job w text Fault
+    fault_told : (text : List ℕ) → IsFaultLine (naming_of_parts p) flat commands text → Tells asked w text Fault
     fault_told text h =
         unsettled e
         (subst (λ (z : List Command). IsFaultLine (naming_of w.source.declarations) w.source.system z text) commands_are
         (there text h))
 
     pub fault_told_whole : {old new : SinkState} (o : Option Valuation) → o ≡ None
-        → AnswersSettle (naming_of_parts p) flat commands old new (Ok o) → IsWritten (Tells job w) old new Fault
+        → AnswersSettle (naming_of_parts p) flat commands old new (Ok o) → IsWritten (Tells asked w) old new Fault
     fault_told_whole {old} {new} o i h =
         let k = subst (λ (z : Option Valuation). AnswersSettle (naming_of_parts p) flat commands old new (Ok z))
         i h in
@@ -111,13 +111,13 @@ module _ (job : Job) (w : Ready) (p : GtsParts) (is : IsFlat w.source p) (e : jo
     pub settle_stops : {old new : SinkState} (f : ReplayFault)
         → AnswersSettle (naming_of_parts p) flat commands old new (Err f)
         → (r : Result Status ReplayFault) (d : ReplayFault) → r ≡ Err d → d ≡ f
-        → IsWritten (Tells job w) old new (status_explained r)
+        → IsWritten (Tells asked w) old new (status_explained r)
     settle_stops {old} {new} f h r d i j =
-        subst (λ (z : Result Status ReplayFault). IsWritten (Tells job w) old new (status_explained z))
+        subst (λ (z : Result Status ReplayFault). IsWritten (Tells asked w) old new (status_explained z))
         (sym (i ∙ ap Err j)) (go f h)
       where
         go : (f : ReplayFault) → AnswersSettle (naming_of_parts p) flat commands old new (Err f)
-            → IsWritten (Tells job w) old new (status_explained (Err f))
+            → IsWritten (Tells asked w) old new (status_explained (Err f))
         go fault.Write h = cut (fault_told h.0 h.1) h.2.front h.2.rose
         go fault.Memory h = nothing h
 
@@ -156,7 +156,7 @@ module _ (job : Job) (w : Ready) (p : GtsParts) (is : IsFlat w.source p) (e : jo
         → IsReasonText (naming_of w.source.declarations) w.source.system.net values observer text) where
       explained_told : Settles flat commands values → (text : List ℕ)
           → IsReasonText (naming_of_parts p) (net_of p) values (observed p given) text
-          → Tells job w text Done
+          → Tells asked w text Done
       explained_told settles text h =
           let o = source_observer in
           explains e
@@ -184,21 +184,21 @@ module _ (job : Job) (w : Ready) (p : GtsParts) (is : IsFlat w.source p) (e : jo
         Text = IsReasonText (naming_of_parts p) (net_of p) values (observed p given)
 
         pub explained_whole : {new : SinkState} {u : Unit {0}} → Explains mid new Text (Ok u)
-            → IsWritten (Tells job w) old new Done
+            → IsWritten (Tells asked w) old new Done
         explained_whole {new} {u} h =
             let k = subst (λ (z : SinkState). Explains z new Text (Ok u)) settled.1 h in
             whole (explained_told run_settles k.0 k.1) k.2.whole k.2.kept
 
         pub explained_cut : {new : SinkState} (f : ReplayFault) → Explains mid new Text (Err f)
             → (r : Result Status ReplayFault) (d : ReplayFault) → r ≡ Err d → d ≡ f
-            → IsWritten (Tells job w) old new (status_explained r)
+            → IsWritten (Tells asked w) old new (status_explained r)
         explained_cut {new} f h r d i j =
-            subst (λ (z : Result Status ReplayFault). IsWritten (Tells job w) old new (status_explained z))
+            subst (λ (z : Result Status ReplayFault). IsWritten (Tells asked w) old new (status_explained z))
             (sym (i ∙ ap Err j))
             (go f (subst (λ (z : SinkState). Explains z new Text (Err f)) settled.1 h))
           where
             go : (f : ReplayFault) → Explains old new Text (Err f)
-                → IsWritten (Tells job w) old new (status_explained (Err f))
+                → IsWritten (Tells asked w) old new (status_explained (Err f))
             go fault.Write h = cut (explained_told run_settles h.0 h.1) h.2.front h.2.rose
             go fault.Memory h = nothing h
 

@@ -3,12 +3,14 @@ use Rattle.std.proofs.Common.{◌≡◌, ◌<◌, ◌&&◌, ◌⊎◌, inl, inr,
 use Rattle.std.proofs.lemmas.Bool.{cases_order}
 use Rattle.ar_base.specs.Lists.{Stands, IsOneOf}
 use Rattle.ar_base.proofs.Standing.{along_on, along_back}
-use Rattle.ar_firing.specs.Cuts.{AreEvents}
+use Rattle.ar_firing.specs.Cuts.{AreEvents, Cut}
 use Rattle.ar_firing.proofs.OrderedSets.{undropped}
 use Rattle.ar_meaning.specs.Flows.{Flows, Total}
 use Rattle.ar_meaning.specs.Runs.{Label}
 use Rattle.ar_meaning.specs.Systems.{Variable, Net}
 use Rattle.ar_meaning.proofs.StatesAlone.{same_flows}
+use Rattle.cut_check.specs.Verdicts.{IsMissing}
+use Rattle.cut_text.proofs.UpToOrder.{has_it, has_other}
 use Rattle.check_text.specs.Texts.{EndsYes, all_good, is_none}
 use Rattle.check_text.proofs.YesLemmas.{yes_told, told_yes}
 use Rattle.flow_reasons.specs.Reasons.{Reason, IsReason, derived, reset}
@@ -17,10 +19,10 @@ use Rattle.flow_reasons.proofs.Sufficing.{suffices}
 use Rattle.flow_reasons.proofs.RoundTotals.{states_of}
 use Rattle.gts_flatten.specs.Flat.{naming_of}
 use Rattle.hierarchy.specs.Units.{Thing}
-use Rattle.run_words.specs.declared.jobs.Job.{Job}
+use Rattle.run_words.specs.declared.jobs.Asked.{Asked}
 use Rattle.run_words.specs.declared.verbs.Verb.{Verb}
 use Rattle.run_words.specs.declared.verbs.Verb.TheVariants.{Check, Flat, Replay, Fragment, Equations, Cuts, Make, Explain, CheckCuts, Modules}
-use Rattle.run_words.specs.Jobs.{IsJob}
+use Rattle.run_words.specs.Jobs.{IsAsked}
 use Rattle.altarica_run.specs.Findings.{given_lines, GivesTheCuts, IsMissingIn, IsMissingOrder, ReplaysWhole, IsCheckOf, Suffices, IsExplanation}
 use Rattle.altarica_run.specs.Follows.{Call, Gave, Wrote}
 use Rattle.job_stages.specs.Stages.{Ready, Passes}
@@ -43,16 +45,16 @@ is_explain _ = false
 other_command : {A : Type 0} (test : Verb → Bool) (v u w : Verb) → v ≡ u → test u ≡ false → v ≡ w → test w ≡ true → A
 other_command test v u w e i j k = let h : false ≡ true = sym i ∙ ap test (sym e ∙ j) ∙ k in absurd cc
 
-module _ (job : Job) (w : Ready) where
-  no_check : {A : Type 0} (u : Verb) → job.command ≡ CheckCuts → job.command ≡ u → is_checks u ≡ false → A
-  no_check u j e i = other_command is_checks job.command u CheckCuts e i j refl
+module _ (asked : Asked) (w : Ready) where
+  no_check : {A : Type 0} (u : Verb) → asked.job.command ≡ CheckCuts → asked.job.command ≡ u → is_checks u ≡ false → A
+  no_check u j e i = other_command is_checks asked.job.command u CheckCuts e i j refl
 
-  no_explain : {A : Type 0} (u : Verb) → job.command ≡ Explain → job.command ≡ u → is_explain u ≡ false → A
-  no_explain u j e i = other_command is_explain job.command u Explain e i j refl
+  no_explain : {A : Type 0} (u : Verb) → asked.job.command ≡ Explain → asked.job.command ≡ u → is_explain u ≡ false → A
+  no_explain u j e i = other_command is_explain asked.job.command u Explain e i j refl
 
   -- a check that ends well has its text
-  checked_text : job.command ≡ CheckCuts → (text : List ℕ) (s : Status) → s ≡ status.Done → Tells job w text s
-      → IsCheckedText w job.nodes text
+  checked_text : asked.job.command ≡ CheckCuts → (text : List ℕ) (s : Status) → s ≡ status.Done → Tells asked w text s
+      → IsCheckedText w asked.job.nodes text
   checked_text j text s d (check e) = no_check Check j e refl
   checked_text j text s d (flat e h) = no_check Flat j e refl
   checked_text j text s d (replay e h) = no_check Replay j e refl
@@ -68,7 +70,7 @@ module _ (job : Job) (w : Ready) where
   checked_text j text s d (nodes e h) = let k : false ≡ true = ap is_done d in absurd cc
 
   -- so has an explanation
-  explained_text : job.command ≡ Explain → (text : List ℕ) (s : Status) → s ≡ status.Done → Tells job w text s
+  explained_text : asked.job.command ≡ Explain → (text : List ℕ) (s : Status) → s ≡ status.Done → Tells asked w text s
       → IsExplained w text
   explained_text j text s d (check e) = no_explain Check j e refl
   explained_text j text s d (flat e h) = no_explain Flat j e refl
@@ -86,13 +88,19 @@ module _ (job : Job) (w : Ready) where
 
 -- Checks
 
-module _ (c : Call) (job : Job) (w : Ready) (passes : Passes c.files job (Ok w)) (text : List ℕ)
-    (h : IsCheckedText w job.nodes text) where
+module _ (c : Call) (asked : Asked) (w : Ready) (passes : Passes c.files asked (Ok w)) (text : List ℕ)
+    (h : IsCheckedText w asked.job.nodes text) where
   abbrev sys_missing : List (List ℕ)
   sys_missing = h.is_text.missing
 
   abbrev missing_orders : List (List Label)
   missing_orders = h.is_text.lines
+
+  abbrev lacks : List ℕ → Type 0
+  lacks = IsMissing w.source.system w.dropped h.has.observed h.has.wanted.value (given_lines w)
+
+  abbrev is_cut : List ℕ → Type 0
+  is_cut = Cut w.source.system w.dropped h.has.observed h.has.wanted.value
 
   -- the set of a line
   missing_set : (k : ℕ) (ls : List Label) → Stands missing_orders k ls
@@ -106,8 +114,12 @@ module _ (c : Call) (job : Job) (w : Ready) (passes : Passes c.files job (Ok w))
       let g = along_back sys_missing missing_orders h.is_text.are_lines k ls s in
       let m = h.is_text.are_missing.sound k g.0 g.1 in
       record {
-        order = record { set = g.0; is_cut = m.is_cut; replay = h.replay k g.0 ls g.1 s };
-        unlisted = m.unlisted;
+        order = record {
+          set = g.0;
+          is_cut = has_other w.order lacks is_cut (λ t x. x.is_cut) g.0 m;
+          replay = h.replay k g.0 ls g.1 s;
+        };
+        unlisted = (has_it w.order lacks g.0 m).unlisted;
       }
 
   missing_whole : (set : List ℕ) → IsMissingIn w h.has set
@@ -139,23 +151,23 @@ module _ (c : Call) (job : Job) (w : Ready) (passes : Passes c.files job (Ok w))
       go (inr (inl less)) = absurd (two_sets j k ls ms set s r a b less)
       go (inr (inr less)) = absurd (two_sets k j ms ls set r s b a less)
 
-  yes_cuts : EndsYes text → GivesTheCuts w h.has
+  yes_cuts : EndsYes w.order text → GivesTheCuts w h.has
   yes_cuts y =
-      yes_told (naming_of w.source.declarations) w.source.system w.dropped h.has.observed h.has.wanted.value w.lines
+      yes_told w.order (naming_of w.source.declarations) w.source.system w.dropped h.has.observed h.has.wanted.value w.lines
       text h.is_text y
 
-  cuts_yes : GivesTheCuts w h.has → EndsYes text
+  cuts_yes : GivesTheCuts w h.has → EndsYes w.order text
   cuts_yes a =
-      told_yes (naming_of w.source.declarations) w.source.system w.dropped h.has.observed h.has.wanted.value w.lines
+      told_yes w.order (naming_of w.source.declarations) w.source.system w.dropped h.has.observed h.has.wanted.value w.lines
       text h.is_text a
 
   -- the given lines replay
-  given_replay : EndsYes text → (k : ℕ) (ls : List Label) → Stands (given_lines w) k ls → ReplaysWhole w h.has ls
+  given_replay : EndsYes w.order text → (k : ℕ) (ls : List Label) → Stands (given_lines w) k ls → ReplaysWhole w h.has ls
   given_replay y k ls s =
       let t = (yes_cuts y).true_lines k ls s in
       record { values = t.values; reaches = undropped w.source.system w.dropped t.reaches; shows = t.shows }
 
-  check_given : Wrote c text → IsCheckOf c job
+  check_given : Wrote c text → IsCheckOf c asked
   check_given wrote = record {
     ready = w;
     passes = passes;
@@ -176,7 +188,7 @@ module _ (c : Call) (job : Job) (w : Ready) (passes : Passes c.files job (Ok w))
 
 -- Explanations
 
-module _ (c : Call) (job : Job) (w : Ready) (passes : Passes c.files job (Ok w)) (text : List ℕ)
+module _ (c : Call) (asked : Asked) (w : Ready) (passes : Passes c.files asked (Ok w)) (text : List ℕ)
     (h : IsExplained w text) where
   abbrev net : Net Thing
   net = w.source.system.net
@@ -194,7 +206,7 @@ module _ (c : Call) (job : Job) (w : Ready) (passes : Passes c.files job (Ok w))
       go x (derived d) = λ n a i s. suffices net h.values x r d n a i s
       go x (reset d) = λ n a i s. let k : None ≡ Some n = sym d.by ∙ i in absurd cc
 
-  explanation_given : Wrote c text → IsExplanation c job
+  explanation_given : Wrote c text → IsExplanation c asked
   explanation_given wrote = record {
     ready = w;
     passes = passes;
@@ -216,21 +228,21 @@ module _ (c : Call) (job : Job) (w : Ready) (passes : Passes c.files job (Ok w))
 
 -- Calls
 
-module _ (c : Call) (job : Job) (one : (a b : Job) → IsJob c.words a → IsJob c.words b → a ≡ b)
-    (is : IsJob c.words job) (gave : Gave c status.Done) where
-  pub check_of : job.command ≡ CheckCuts → IsCheckOf c job
+module _ (c : Call) (asked : Asked) (one : (a b : Asked) → IsAsked c.words a → IsAsked c.words b → a ≡ b)
+    (is : IsAsked c.words asked) (gave : Gave c status.Done) where
+  pub check_of : asked.job.command ≡ CheckCuts → IsCheckOf c asked
   check_of e =
       let m = meaning_of c status.Done gave in
-      let same = one m.job job m.is_job is in
-      let passes = subst (λ (j : Job). Passes c.files j (Ok m.ready)) same m.passes in
-      let tells = subst (λ (j : Job). Tells j m.ready m.text status.Done) same m.tells in
-      check_given c job m.ready passes m.text (checked_text job m.ready e m.text status.Done refl tells) m.wrote
+      let same = one m.asked asked m.is_job is in
+      let passes = subst (λ (j : Asked). Passes c.files j (Ok m.ready)) same m.passes in
+      let tells = subst (λ (j : Asked). Tells j m.ready m.text status.Done) same m.tells in
+      check_given c asked m.ready passes m.text (checked_text asked m.ready e m.text status.Done refl tells) m.wrote
 
-  pub explanation_of : job.command ≡ Explain → IsExplanation c job
+  pub explanation_of : asked.job.command ≡ Explain → IsExplanation c asked
   explanation_of e =
       let m = meaning_of c status.Done gave in
-      let same = one m.job job m.is_job is in
-      let passes = subst (λ (j : Job). Passes c.files j (Ok m.ready)) same m.passes in
-      let tells = subst (λ (j : Job). Tells j m.ready m.text status.Done) same m.tells in
-      explanation_given c job m.ready passes m.text (explained_text job m.ready e m.text status.Done refl tells)
+      let same = one m.asked asked m.is_job is in
+      let passes = subst (λ (j : Asked). Passes c.files j (Ok m.ready)) same m.passes in
+      let tells = subst (λ (j : Asked). Tells j m.ready m.text status.Done) same m.tells in
+      explanation_given c asked m.ready passes m.text (explained_text asked m.ready e m.text status.Done refl tells)
       m.wrote

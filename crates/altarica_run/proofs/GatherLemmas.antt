@@ -5,7 +5,7 @@ use Rattle.ar_io.specs.Writing.{SinkState, IsFront, Appended, WroteFront, Writes
 use Rattle.ar_io.specs.declared.outside.SinkFailed.{SinkFailed}
 use Rattle.ar_io.proofs.Gathering.{put_whole, put_front, put_nothing, rose_failed}
 use Rattle.ar_io.specs.Gathering.{gathered_state}
-use Rattle.run_words.specs.declared.jobs.Job.{Job}
+use Rattle.run_words.specs.declared.jobs.Asked.{Asked}
 use Rattle.altarica_run.specs.Doing.{AnswersFor}
 use Rattle.job_stages.specs.Telling.{status_written, whole, cut, nothing, IsWrittenFor, written, stopped}
 use Rattle.job_stages.specs.Tells.{Tells}
@@ -26,10 +26,10 @@ front_on : (old new : Option (List ℕ)) (t text : List ℕ) → IsFront t text 
 front_on old new t text i h = subst (λ (z : List ℕ). WroteFront old new z) i.joined (front_longer t i.rest h)
 
 -- what was written to gathered output, of which nothing was told before
-module _ (job : Job) (told : List ℕ → Status → Type 0) {m n : ℕ} {s t : List ℕ} (a b : Bool)
+module _ (asked : Asked) (told : List ℕ → Status → Type 0) {m n : ℕ} {s t : List ℕ} (a b : Bool)
     (none : s ≡ []) where
   -- the reference to the sink stays
-  pub same_reference : (ends : Status) → IsWrittenFor job told (gathered_state m s a) (gathered_state n t b) ends → n ≡ m
+  pub same_reference : (ends : Status) → IsWrittenFor asked told (gathered_state m s a) (gathered_state n t b) ends → n ≡ m
   same_reference ends (written (whole {text = text} is h k)) = (put_whole text none h).0
   same_reference ends (written (cut {text = text} is h k)) = (put_front text none h).0
   same_reference ends (written (nothing e)) = (put_nothing a b none e).0
@@ -38,8 +38,8 @@ module _ (job : Job) (told : List ℕ → Status → Type 0) {m n : ℕ} {s t : 
   -- and the sink has it when it is handed on
   module _ (fresh : a ≡ false) {start now : SinkState} where
     pub handed_on : (r : Result (Unit {0}) SinkFailed) (ends : Status) → IsHandedOn start now t b r
-        → IsWrittenFor job told (gathered_state m s a) (gathered_state n t b) ends
-        → IsWrittenFor job told start now (status_written ends r)
+        → IsWrittenFor asked told (gathered_state m s a) (gathered_state n t b) ends
+        → IsWrittenFor asked told start now (status_written ends r)
     handed_on (Ok x) ends on (written (whole {text = text} is h k)) =
         let same = (put_whole text none h).1 in
         written (whole is (subst (λ (z : List ℕ). Appended start.bytes now.bytes z) same on.writes.whole) on.writes.kept)
@@ -65,18 +65,18 @@ none_handed a b none r on e =
     (put.0, (on.empty put.1).1)
 
 -- what a command answers over gathered output is what it answers over the sink behind
-module _ (job : Job) (texts : Texts) {m n : ℕ} {s t : List ℕ} (a b : Bool) (none : s ≡ []) (fresh : a ≡ false)
+module _ (asked : Asked) (texts : Texts) {m n : ℕ} {s t : List ℕ} (a b : Bool) (none : s ≡ []) (fresh : a ≡ false)
     {start now : SinkState} (r : Result (Unit {0}) SinkFailed) (on : IsHandedOn start now t b r) where
   pub gathered_done : (status : Status)
-      → AnswersFor job texts (gathered_state m s a) (gathered_state n t b) (Ok status)
-      → (n ≡ m) × AnswersFor job texts start now (Ok (status_written status r))
+      → AnswersFor asked texts (gathered_state m s a) (gathered_state n t b) (Ok status)
+      → (n ≡ m) × AnswersFor asked texts start now (Ok (status_written status r))
   gathered_done status h = (
-    same_reference job (Tells job h.0) a b none status h.2,
-    (h.0, h.1, handed_on job (Tells job h.0) a b none fresh r status on h.2),
+    same_reference asked (Tells asked h.0) a b none status h.2,
+    (h.0, h.1, handed_on asked (Tells asked h.0) a b none fresh r status on h.2),
   )
 
-  pub gathered_stops : (e : Stop) → AnswersFor job texts (gathered_state m s a) (gathered_state n t b) (Err e)
-      → (n ≡ m) × AnswersFor job texts start now (Err e)
+  pub gathered_stops : (e : Stop) → AnswersFor asked texts (gathered_state m s a) (gathered_state n t b) (Err e)
+      → (n ≡ m) × AnswersFor asked texts start now (Err e)
   gathered_stops (Refused f) h = let k = none_handed a b none r on h.1 in (k.0, (h.0, k.1))
   gathered_stops Memory h = none_handed a b none r on h
 

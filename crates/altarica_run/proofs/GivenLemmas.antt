@@ -4,14 +4,15 @@ use Rattle.std.specs.Global.{Global}
 use Rattle.ar_base.specs.Counts.{limit_of}
 use Rattle.ar_base.specs.declared.counts.Count.TheVariants.{ModelBytes}
 use Rattle.run_words.specs.Commands.{shape_of, is_second}
-use Rattle.run_words.specs.Jobs.{IsJob, IsJobOf, IsNodes, IsTaken, NamesFiles, OptionsFit, nodes_by_default}
+use Rattle.run_words.specs.Jobs.{IsAsked, IsAskedOf, IsNodes, IsTaken, NamesFiles, OptionsFit, nodes_by_default}
 use Rattle.run_words.specs.Lines.{CommandWords}
-use Rattle.run_words.specs.declared.jobs.Job.{Job}
+use Rattle.run_words.specs.declared.jobs.Asked.{Asked}
 use Rattle.run_words.specs.declared.shapes.Form.{Form}
 use Rattle.run_words.specs.declared.shapes.Form.TheVariants as form
 use Rattle.run_words.specs.declared.shapes.Shape.{Shape}
 use Rattle.run_words.specs.declared.verbs.Verb.{Verb}
 use Rattle.run_words.specs.declared.verbs.Verb.TheVariants.{Check, Flat, Replay, Fragment, Equations, Cuts, Make, Explain, CheckCuts, Modules}
+use Rattle.run_words.proofs.OneJob.{not_taken}
 use Rattle.job_stages.specs.Jobs.{makes_model}
 use Rattle.job_stages.specs.Passing.{IsThere}
 use Rattle.job_stages.specs.Stages.{has_table, path_asked}
@@ -30,8 +31,8 @@ few_given : (s : Shape) (given : Option (List ℕ)) (n : ℕ) → IsNodes s give
 few_given s None n e = let few = few_usual s.files in omega (arith, e, few)
 few_given s (Some text) n h = h.1.at_most
 
-pub few_nodes : (ws : List (List ℕ)) (job : Job) → IsJob ws job → job.nodes ≤ 16777216
-few_nodes ws job b = few_given (shape_of job.command) _ job.nodes b.job_of.nodes
+pub few_nodes : (ws : List (List ℕ)) (asked : Asked) → IsAsked ws asked → asked.job.nodes ≤ 16777216
+few_nodes ws asked b = few_given (shape_of asked.job.command) _ asked.job.nodes b.asked_of.job.nodes
 
 -- the second file is there where a command reads one
 form_asks : (f : Form) (given : List (List ℕ)) (model : List ℕ) (name : Option (List ℕ)) (n : ℕ)
@@ -62,21 +63,22 @@ command_sees CheckCuts line f e = some_given line.observer f.observer
 command_sees Modules line f e = some_given line.observer f.observer
 
 -- what the command of the words is given
-line_gives : (line : CommandWords) (job : Job) → IsJobOf line job → (t : Texts)
-    → length t.model.items ≤ limit_of ModelBytes → IsLoadedScript job.script t.script → job.nodes ≤ 16777216
-    → AreGiven job t
-line_gives line job of t short l few = record {
+line_gives : (line : CommandWords) (asked : Asked) → IsAskedOf line asked → (t : Texts)
+    → length t.model.items ≤ limit_of ModelBytes → IsLoadedScript asked.job.script t.script → asked.job.nodes ≤ 16777216
+    → AreGiven asked t
+line_gives line asked of t short l few = record {
   model = short;
-  second = λ e. form_asks (shape_of job.command).files line.files job.model job.script job.number t.script of.files l e;
+  second = λ e. form_asks (shape_of asked.job.command).files line.files asked.job.model asked.job.script asked.job.number t.script of.job.files l e;
   observer = λ e.
-      let seen = command_sees job.command line of.options e in (
+      let seen = command_sees asked.job.command line of.job.options e in (
         seen.0,
-        ap (λ (z : Option (List ℕ)). path_asked (makes_model job.command) z) of.observer ∙ seen.1,
+        ap (λ (z : Option (List ℕ)). path_asked (makes_model asked.job.command) z) of.job.observer ∙ seen.1,
       );
-  dropped = λ e. of.dropped ∙ subst (λ (b : Bool). IsTaken b line.dropped) e of.options.dropped;
+  dropped = λ e. of.job.dropped ∙ subst (λ (b : Bool). IsTaken b line.dropped) e of.job.options.dropped;
+  order = λ e. not_taken (shape_of asked.job.command) line.order asked.order e of.order;
   nodes = few;
 }
 
-pub gives : (words : List (List ℕ)) (job : Job) → IsJob words job → (t : Texts)
-    → length t.model.items ≤ limit_of ModelBytes → IsLoadedScript job.script t.script → AreGiven job t
-gives words job is t short l = line_gives _ job is.job_of t short l (few_nodes words job is)
+pub gives : (words : List (List ℕ)) (asked : Asked) → IsAsked words asked → (t : Texts)
+    → length t.model.items ≤ limit_of ModelBytes → IsLoadedScript asked.job.script t.script → AreGiven asked t
+gives words asked is t short l = line_gives _ asked is.asked_of t short l (few_nodes words asked is)

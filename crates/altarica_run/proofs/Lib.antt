@@ -7,6 +7,6 @@ pub mod FollowLemmas
 pub mod LawLemmas
 mod ListingLemmas
 pub mod ExplainLemmas
-mod NodeLemmas
+pub mod NodeLemmas
 mod FindingLemmas
 pub mod CheckLemmas

@@ -8,10 +8,10 @@ use Rattle.ar_meaning.specs.Runs.{Label}
 use Rattle.ar_firing.specs.Cuts.{AreEvents}
 use Rattle.cut_text.specs.Texts.{count_line, label_lists}
 use Rattle.gts_flatten.specs.Flat.{naming_of}
-use Rattle.run_words.specs.declared.jobs.Job.{Job}
+use Rattle.run_words.specs.declared.jobs.Asked.{Asked}
 use Rattle.run_words.specs.declared.verbs.Verb.{Verb}
 use Rattle.run_words.specs.declared.verbs.Verb.TheVariants.{Check, Flat, Replay, Fragment, Equations, Cuts, Make, Explain, CheckCuts, Modules}
-use Rattle.run_words.specs.Jobs.{IsJob}
+use Rattle.run_words.specs.Jobs.{IsAsked}
 use Rattle.altarica_run.specs.Follows.{Call, Gave, Wrote}
 use Rattle.altarica_run.specs.Listings.{IsCut, IsCutOrder, IsListing}
 use Rattle.job_stages.specs.Stages.{Ready, Passes}
@@ -34,21 +34,21 @@ is_done status.Done = true
 is_done _ = false
 
 -- a job of `cuts` that ends well has a listing
-cuts_text : (job : Job) (w : Ready) (text : List ℕ) (s : Status) → job.command ≡ Cuts → s ≡ status.Done
-    → Tells job w text s → IsCutsText w job.nodes text
-cuts_text job w text s j d (check e) = other_verb job.command Check e refl j
-cuts_text job w text s j d (flat e h) = other_verb job.command Flat e refl j
-cuts_text job w text s j d (replay e h) = other_verb job.command Replay e refl j
-cuts_text job w text s j d (fragment e h) = other_verb job.command Fragment e refl j
-cuts_text job w text s j d (equations e i h) = other_verb job.command Equations e refl j
-cuts_text job w text s j d (cuts e h) = h
-cuts_text job w text s j d (make e h) = other_verb job.command Make e refl j
-cuts_text job w text s j d (explains e h) = other_verb job.command Explain e refl j
-cuts_text job w text s j d (unsettled e h) = let k : false ≡ true = ap is_done d in absurd cc
-cuts_text job w text s j d (checks e h) = other_verb job.command CheckCuts e refl j
-cuts_text job w text s j d (in_short e h) = other_verb job.command Modules e refl j
-cuts_text job w text s j d (conflict e h) = let k : false ≡ true = ap is_done d in absurd cc
-cuts_text job w text s j d (nodes e h) = let k : false ≡ true = ap is_done d in absurd cc
+cuts_text : (asked : Asked) (w : Ready) (text : List ℕ) (s : Status) → asked.job.command ≡ Cuts → s ≡ status.Done
+    → Tells asked w text s → IsCutsText w asked.job.nodes text
+cuts_text asked w text s j d (check e) = other_verb asked.job.command Check e refl j
+cuts_text asked w text s j d (flat e h) = other_verb asked.job.command Flat e refl j
+cuts_text asked w text s j d (replay e h) = other_verb asked.job.command Replay e refl j
+cuts_text asked w text s j d (fragment e h) = other_verb asked.job.command Fragment e refl j
+cuts_text asked w text s j d (equations e i h) = other_verb asked.job.command Equations e refl j
+cuts_text asked w text s j d (cuts e h) = h
+cuts_text asked w text s j d (make e h) = other_verb asked.job.command Make e refl j
+cuts_text asked w text s j d (explains e h) = other_verb asked.job.command Explain e refl j
+cuts_text asked w text s j d (unsettled e h) = let k : false ≡ true = ap is_done d in absurd cc
+cuts_text asked w text s j d (checks e h) = other_verb asked.job.command CheckCuts e refl j
+cuts_text asked w text s j d (in_short e h) = other_verb asked.job.command Modules e refl j
+cuts_text asked w text s j d (conflict e h) = let k : false ≡ true = ap is_done d in absurd cc
+cuts_text asked w text s j d (nodes e h) = let k : false ≡ true = ap is_done d in absurd cc
 
 -- labels have the events of each set with the same members
 pub events_alike : (ls : List Label) (s t : List ℕ) → AreEvents ls s → Within s t → Within t s → AreEvents ls t
@@ -75,8 +75,8 @@ within_both s t u h k = record { each = λ e o. k.each e (h.each e o) }
 
 -- The listing of a call
 
-module _ (c : Call) (job : Job) (w : Ready) (passes : Passes c.files job (Ok w)) (text : List ℕ)
-    (h : IsCutsText w job.nodes text) where
+module _ (c : Call) (asked : Asked) (w : Ready) (passes : Passes c.files asked (Ok w)) (text : List ℕ)
+    (h : IsCutsText w asked.job.nodes text) where
   abbrev sets : List (List ℕ)
   sets = h.is_text.sets
 
@@ -124,13 +124,15 @@ module _ (c : Call) (job : Job) (w : Ready) (passes : Passes c.files job (Ok w))
       go (inr (inl less)) = absurd (same_sets j k ls ms set s r a b less)
       go (inr (inr less)) = absurd (same_sets k j ms ls set r s b a less)
 
-  text_is : text ≡ label_lists (naming_of w.source.declarations) w.source.system lines ++ count_line (length lines)
+  text_is : text ≡ label_lists (naming_of w.source.declarations) w.source.system lines
+      ++ count_line w.order (length lines)
   text_is =
       h.is_text.is_text
-      ∙ ap (λ (n : ℕ). label_lists (naming_of w.source.declarations) w.source.system lines ++ count_line n)
+      ∙ ap (λ (n : ℕ). label_lists (naming_of w.source.declarations) w.source.system lines
+      ++ count_line w.order n)
       (along_length sets lines h.is_text.are_lines)
 
-  pub listing : Wrote c text → IsListing c job
+  pub listing : Wrote c text → IsListing c asked
   listing wrote = record {
     ready = w;
     passes = passes;
@@ -143,12 +145,12 @@ module _ (c : Call) (job : Job) (w : Ready) (passes : Passes c.files job (Ok w))
   }
 
 -- the job of the words is this one
-pub listing_of : (c : Call) (job : Job)
-    → ((a b : Job) → IsJob c.words a → IsJob c.words b → a ≡ b)
-    → IsJob c.words job → job.command ≡ Cuts → Gave c status.Done → IsListing c job
-listing_of c job one is e gave =
+pub listing_of : (c : Call) (asked : Asked)
+    → ((a b : Asked) → IsAsked c.words a → IsAsked c.words b → a ≡ b)
+    → IsAsked c.words asked → asked.job.command ≡ Cuts → Gave c status.Done → IsListing c asked
+listing_of c asked one is e gave =
     let m = meaning_of c status.Done gave in
-    let same = one m.job job m.is_job is in
-    let passes = subst (λ (j : Job). Passes c.files j (Ok m.ready)) same m.passes in
-    let tells = subst (λ (j : Job). Tells j m.ready m.text status.Done) same m.tells in
-    listing c job m.ready passes m.text (cuts_text job m.ready m.text status.Done e refl tells) m.wrote
+    let same = one m.asked asked m.is_job is in
+    let passes = subst (λ (j : Asked). Passes c.files j (Ok m.ready)) same m.passes in
+    let tells = subst (λ (j : Asked). Tells j m.ready m.text status.Done) same m.tells in
+    listing c asked m.ready passes m.text (cuts_text asked m.ready m.text status.Done e refl tells) m.wrote

@@ -2,8 +2,8 @@
 use Rattle.std.proofs.Common.{◌≡◌, ℕ, List, [], Result, Ok, Err, refl, sym, ◌∙◌, ap, subst, inl, inr, append-nil}
 use Rattle.ar_io.specs.Loads.{Load}
 use Rattle.ar_io.specs.Writing.{SinkState}
-use Rattle.run_words.specs.declared.jobs.Job.{Job}
-use Rattle.run_words.specs.Jobs.{IsJob}
+use Rattle.run_words.specs.declared.jobs.Asked.{Asked}
+use Rattle.run_words.specs.Jobs.{IsAsked}
 use Rattle.job_stages.specs.Files.{files_of, IsText}
 use Rattle.job_stages.specs.Jobs.{AnswersJob}
 use Rattle.job_stages.specs.Loading.{AnswersLoads, texts_of}
@@ -23,16 +23,16 @@ use Rattle.altarica_run.specs.Reading.{SaysBy, usage, refuses, tells, AreLoadsOf
 
 -- Which loads were made
 
-passing_loads : (loads : List Load) (job : Job) (x : Result Ready Refusal) → PassesBy loads job x
-    → AreLoads (files_of job) loads
-passing_loads loads job x (not_come {r = r} c) = (Err (Refused r), c)
-passing_loads loads job x (come texts c is s) = (Ok texts, c)
+passing_loads : (loads : List Load) (asked : Asked) (x : Result Ready Refusal) → PassesBy loads asked x
+    → AreLoads (files_of asked) loads
+passing_loads loads asked x (not_come {r = r} c) = (Err (Refused r), c)
+passing_loads loads asked x (come texts c is s) = (Ok texts, c)
 
 saying_loads : (loads : List Load) (words : List (List ℕ)) (text : List ℕ) (ends : Status)
     → SaysBy loads words text ends → AreLoadsOf words loads
 saying_loads loads words text ends (usage h e) = inl e
-saying_loads loads words text ends (refuses job r is p) = inr (job, is, passing_loads loads job (Err r) p)
-saying_loads loads words text ends (tells job w is p t) = inr (job, is, passing_loads loads job (Ok w) p)
+saying_loads loads words text ends (refuses asked r is p) = inr (asked, is, passing_loads loads asked (Err r) p)
+saying_loads loads words text ends (tells asked w is p t) = inr (asked, is, passing_loads loads asked (Ok w) p)
 
 -- the loads of a call are those of its words' job
 pub ending_loads : (loads : List Load) (words : List (List ℕ)) (old new : SinkState) (s : Status)
@@ -41,8 +41,8 @@ ending_loads loads words old new s (says {text = text} {ends = ends} h a k) = sa
 ending_loads loads words old new s (not_written {text = text} {ends = ends} h r c) =
     saying_loads loads words text ends h
 ending_loads loads words old new s (no_memory are e) = are
-ending_loads loads words old new s (replay_stopped job w is e p t c k) =
-    inr (job, is, passing_loads loads job (Ok w) p)
+ending_loads loads words old new s (replay_stopped asked w is e p t c k) =
+    inr (asked, is, passing_loads loads asked (Ok w) p)
 
 -- What was written
 
@@ -57,12 +57,12 @@ module _ (loads : List Load) (words : List (List ℕ)) (old new : SinkState) whe
   said told f are s (nothing e) = no_memory are e
 
   -- the text of the job was written
-  job_told : (job : Job) (w : Ready) → IsJob words job → PassesBy loads job (Ok w) → (s : Status)
-      → IsWrittenFor job (Tells job w) old new s
+  job_told : (asked : Asked) (w : Ready) → IsAsked words asked → PassesBy loads asked (Ok w) → (s : Status)
+      → IsWrittenFor asked (Tells asked w) old new s
       → EndsBy loads words old new s
-  job_told job w is p s (written h) =
-      said (Tells job w) (λ text ends t. tells job w is p t) (inr (job, is, passing_loads loads job (Ok w) p)) s h
-  job_told job w is p s (stopped e t c k) = replay_stopped job w is e p t c k
+  job_told asked w is p s (written h) =
+      said (Tells asked w) (λ text ends t. tells asked w is p t) (inr (asked, is, passing_loads loads asked (Ok w) p)) s h
+  job_told asked w is p s (stopped e t c k) = replay_stopped asked w is e p t c k
 
   -- the line of a refusal was written
   line_told : (r : Refusal) → SaysBy loads words (line_of r) (status_of r) → (s : Status)
@@ -93,28 +93,28 @@ module _ (words : List (List ℕ)) (old : SinkState) (a b : List Load) where
           (subst (λ (z : Refusal). SaysBy [] words (line_of z) (status_of z)) (sym h.0) (usage h.1 refl), refl)
       go Memory h = (inl refl, refl)
 
-  module _ (job : Job) (is : IsJob words job) where
+  module _ (asked : Asked) (is : IsAsked words asked) where
     -- a file did not come
     pub files_stop : (r : Result Status Stop) (d e : Stop) → r ≡ Err d → d ≡ e
-        → Grew a b (AnswersLoads {X = Texts} (texts_of job) (files_of job) (Err e))
+        → Grew a b (AnswersLoads {X = Texts} (texts_of asked) (files_of asked) (Err e))
         → Grew a b (AnswersReading words old old r)
     files_stop r d e i j g = at_stop old r d e i j (g.0, g.1, go e g.0 g.2)
       where
-        go : (e : Stop) (loads : List Load) → AnswersLoads {X = Texts} (texts_of job) (files_of job) (Err e) loads
+        go : (e : Stop) (loads : List Load) → AnswersLoads {X = Texts} (texts_of asked) (files_of asked) (Err e) loads
             → AnswersReading words old old (Err e) loads
-        go (Refused r) loads c = (refuses job r is (not_come c), refl)
-        go Memory loads c = (inr (job, is, c), refl)
+        go (Refused r) loads c = (refuses asked r is (not_come c), refl)
+        go Memory loads c = (inr (asked, is, c), refl)
 
     -- the files came
-    pub job_done : (new : SinkState) (t : Texts) → Grew a b (AnswersLoads (texts_of job) (files_of job) (Ok t))
-        → IsText job (texts_of job t) t.model.items
-        → (r : Result Status Stop) → AnswersFor job t old new r → Grew a b (AnswersReading words old new r)
+    pub job_done : (new : SinkState) (t : Texts) → Grew a b (AnswersLoads (texts_of asked) (files_of asked) (Ok t))
+        → IsText asked (texts_of asked t) t.model.items
+        → (r : Result Status Stop) → AnswersFor asked t old new r → Grew a b (AnswersReading words old new r)
     job_done new t g text r h = (g.0, g.1, go r h)
       where
-        go : (r : Result Status Stop) → AnswersFor job t old new r → AnswersReading words old new r g.0
-        go (Ok s) h = job_told g.0 words old new job h.0 is (come (texts_of job t) g.2 text h.1) s h.2
-        go (Err (Refused r)) h = (refuses job r is (come (texts_of job t) g.2 text h.0), h.1)
-        go (Err Memory) h = (inr (job, is, (Ok (texts_of job t), g.2)), h)
+        go : (r : Result Status Stop) → AnswersFor asked t old new r → AnswersReading words old new r g.0
+        go (Ok s) h = job_told g.0 words old new asked h.0 is (come (texts_of asked t) g.2 text h.1) s h.2
+        go (Err (Refused r)) h = (refuses asked r is (come (texts_of asked t) g.2 text h.0), h.1)
+        go (Err Memory) h = (inr (asked, is, (Ok (texts_of asked t), g.2)), h)
 
 -- How the call ends
 

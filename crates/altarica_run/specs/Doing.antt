@@ -6,8 +6,8 @@ use Rattle.ar_io.specs.Loads.{Load}
 use Rattle.ar_io.specs.Outside.{Told}
 use Rattle.ar_io.specs.Writing.{SinkState}
 use Rattle.run_words.specs.Commands.{shape_of, is_second}
-use Rattle.run_words.specs.Jobs.{IsJob}
-use Rattle.run_words.specs.declared.jobs.Job.{Job}
+use Rattle.run_words.specs.Jobs.{IsAsked}
+use Rattle.run_words.specs.declared.jobs.Asked.{Asked}
 use Rattle.job_stages.specs.Files.{files_of, Loads}
 use Rattle.job_stages.specs.Jobs.{IsNoJob}
 use Rattle.job_stages.specs.Loading.{texts_of}
@@ -29,31 +29,32 @@ use Rattle.job_stages.specs.declared.stops.Stop.TheVariants.{Refused, Memory}
 -- Commands
 
 -- what a command of the words is given: a model within its limit, a second file where it reads one, an observer where it
--- asks for the value of one, a list of dropped events only where it takes one, and a limit of nodes
-pub record AreGiven (job : Job) (texts : Texts) : Type 0 where
+-- asks for the value of one, a list of dropped events and a number of events only where it takes them, and a limit of nodes
+pub record AreGiven (asked : Asked) (texts : Texts) : Type 0 where
   pub model : length texts.model.items ≤ limit_of ModelBytes
-  pub second : is_second (shape_of job.command).files ≡ true → IsThere texts.script
-  pub observer : has_table job.command ≡ true → (path : List ℕ) × (observer_asked job ≡ Some path)
-  pub dropped : (shape_of job.command).dropped ≡ false → job.dropped ≡ None
-  pub nodes : job.nodes ≤ 16777216
+  pub second : is_second (shape_of asked.job.command).files ≡ true → IsThere texts.script
+  pub observer : has_table asked.job.command ≡ true → (path : List ℕ) × (observer_asked asked ≡ Some path)
+  pub dropped : (shape_of asked.job.command).dropped ≡ false → asked.job.dropped ≡ None
+  pub order : (shape_of asked.job.command).order ≡ false → asked.order ≡ None
+  pub nodes : asked.job.nodes ≤ 16777216
 
 -- the job's text is written once all its stages are passed; or a stage refuses, or memory is refused, and the sink is as
 -- it was
-abbrev pub AnswersFor : Job → Texts → SinkState → SinkState → Result Status Stop → Type 0
-AnswersFor job texts old new (Ok status) =
-    (w : Ready) × Stages job (texts_of job texts) texts.model.items (Ok w)
-    × IsWrittenFor job (Tells job w) old new status
-AnswersFor job texts old new (Err (Refused r)) =
-    Stages job (texts_of job texts) texts.model.items (Err r) × (new ≡ old)
-AnswersFor job texts old new (Err Memory) = new ≡ old
+abbrev pub AnswersFor : Asked → Texts → SinkState → SinkState → Result Status Stop → Type 0
+AnswersFor asked texts old new (Ok status) =
+    (w : Ready) × Stages asked (texts_of asked texts) texts.model.items (Ok w)
+    × IsWrittenFor asked (Tells asked w) old new status
+AnswersFor asked texts old new (Err (Refused r)) =
+    Stages asked (texts_of asked texts) texts.model.items (Err r) × (new ≡ old)
+AnswersFor asked texts old new (Err Memory) = new ≡ old
 
 -- Words
 
 -- the words are refused: they are no job, or a stage of the job refuses, or a file was not read
 pub data RefusesWords (files : List ℕ → Told) (rose : List ℕ → Type 0) (words : List (List ℕ)) : Refusal → Type 0 where
   no_job : IsNoJob words → RefusesWords files rose words Usage
-  stage : {r : Refusal} (job : Job) → IsJob words job → Passes files job (Err r) → RefusesWords files rose words r
-  not_read : {kind : FileKind} {name : List ℕ} (job : Job) → IsJob words job → Loads files (files_of job) kind name
+  stage : {r : Refusal} (asked : Asked) → IsAsked words asked → Passes files asked (Err r) → RefusesWords files rose words r
+  not_read : {kind : FileKind} {name : List ℕ} (asked : Asked) → IsAsked words asked → Loads files (files_of asked) kind name
       → rose name
       → RefusesWords files rose words (NotRead kind)
 

@@ -3,7 +3,7 @@ use Rattle.std.specs.Prelude.{ℕ, List, Option}
 use Rattle.ar_io.specs.Outside.{Told, Bytes, Absent, Untold, Rose}
 use Rattle.ar_io.specs.Writing.{SinkState, Appended, WroteFront}
 use Rattle.altarica_run.specs.Answers.{Answers, IsUntouched}
-use Rattle.run_words.specs.declared.jobs.Job.{Job}
+use Rattle.run_words.specs.declared.jobs.Asked.{Asked}
 use Rattle.job_stages.specs.Refusals.{line_of}
 use Rattle.altarica_run.specs.Says.{Says, Begins}
 use Rattle.job_stages.specs.declared.refusals.FileKind.TheVariants.{Model, Script}
@@ -63,9 +63,9 @@ pub record IsShelfSame (c : Call) : Type 0 where
   pub each : (name : List ℕ) → IsUntouched (c.files name) (c.files_new name) (c.faults_old name) (c.faults_new name)
 
 -- the line says that a file of the job was not read, and that file's count rose: it is the script, or the model before it
-pub data LacksScript (c : Call) (job : Job) (name : List ℕ) : Type 0 where
-  script : RoseAt c name → Wrote c (line_of (NotRead Script)) → LacksScript c job name
-  model : RoseAt c job.model → Wrote c (line_of (NotRead Model)) → LacksScript c job name
+pub data LacksScript (c : Call) (asked : Asked) (name : List ℕ) : Type 0 where
+  script : RoseAt c name → Wrote c (line_of (NotRead Script)) → LacksScript c asked name
+  model : RoseAt c asked.job.model → Wrote c (line_of (NotRead Model)) → LacksScript c asked name
 
 -- the text that the words say was written, and the status is theirs
 pub record IsSaid (c : Call) (status : Status) : Type 0 where

@@ -1,11 +1,11 @@
 -- What words say over the files that a call read, and how the call ends.
-use Rattle.std.specs.Prelude.{◌≡◌, ◌⊎◌, ℕ, List, [], Result, Ok, Err}
+use Rattle.std.specs.Prelude.{◌≡◌, ◌⊎◌, ℕ, List, [], Ok, Err}
 use Rattle.ar_io.specs.Loads.{Load}
 use Rattle.ar_io.specs.Outside.{Rose}
 use Rattle.ar_io.specs.Writing.{SinkState, Appended, WroteFront}
-use Rattle.run_words.specs.declared.jobs.Job.{Job}
+use Rattle.run_words.specs.declared.jobs.Asked.{Asked}
 use Rattle.run_words.specs.declared.verbs.Verb.TheVariants.{Replay}
-use Rattle.run_words.specs.Jobs.{IsJob}
+use Rattle.run_words.specs.Jobs.{IsAsked}
 use Rattle.job_stages.specs.Files.{files_of}
 use Rattle.job_stages.specs.Jobs.{IsNoJob}
 use Rattle.job_stages.specs.Logs.{AreLoads, Grew, PassesBy}
@@ -21,16 +21,16 @@ use Rattle.job_stages.specs.declared.status.Status.TheVariants as status
 -- not come, or a stage of the job refuses; or all stages are passed
 pub data SaysBy (loads : List Load) (words : List (List ℕ)) : List ℕ → Status → Type 0 where
   usage : IsNoJob words → loads ≡ [] → SaysBy loads words (line_of Usage) (status_of Usage)
-  refuses : (job : Job) (r : Refusal) → IsJob words job → PassesBy loads job (Err r)
+  refuses : (asked : Asked) (r : Refusal) → IsAsked words asked → PassesBy loads asked (Err r)
       → SaysBy loads words (line_of r) (status_of r)
-  tells : {text : List ℕ} {ends : Status} (job : Job) (w : Ready) → IsJob words job → PassesBy loads job (Ok w)
-      → Tells job w text ends
+  tells : {text : List ℕ} {ends : Status} (asked : Asked) (w : Ready) → IsAsked words asked → PassesBy loads asked (Ok w)
+      → Tells asked w text ends
       → SaysBy loads words text ends
 
 -- the loads are those of the files of the words' job, in their order, up to the first file that did not come, or there
 -- are none: words that are no job load nothing, and memory may be refused before the first load
 abbrev pub AreLoadsOf : List (List ℕ) → List Load → Type 0
-AreLoadsOf words loads = (loads ≡ []) ⊎ ((job : Job) × IsJob words job × AreLoads (files_of job) loads)
+AreLoadsOf words loads = (loads ≡ []) ⊎ ((asked : Asked) × IsAsked words asked × AreLoads (files_of asked) loads)
 
 -- How a call ends that made these loads: it says what its words say over what they gave; or the sink's count rose, and
 -- it has some first bytes of that.
@@ -45,8 +45,8 @@ pub data EndsBy (loads : List Load) (words : List (List ℕ)) (old new : SinkSta
       → WroteFront old.bytes new.bytes text
       → EndsBy loads words old new status.Write
   no_memory : AreLoadsOf words loads → new ≡ old → EndsBy loads words old new status.Memory
-  replay_stopped : {text : List ℕ} {ends : Status} (job : Job) (w : Ready) → IsJob words job → job.command ≡ Replay
-      → PassesBy loads job (Ok w) → Tells job w text ends
+  replay_stopped : {text : List ℕ} {ends : Status} (asked : Asked) (w : Ready) → IsAsked words asked → asked.job.command ≡ Replay
+      → PassesBy loads asked (Ok w) → Tells asked w text ends
       → WroteFront old.bytes new.bytes text → new.faults ≡ old.faults
       → EndsBy loads words old new status.Memory
 

@@ -2,9 +2,9 @@
 use Rattle.std.specs.Prelude.{◌≡◌, ℕ, List, [], Ok, Err}
 use Rattle.ar_io.specs.Outside.{Told, Rose}
 use Rattle.ar_io.specs.Writing.{SinkState, Appended, WroteFront}
-use Rattle.run_words.specs.declared.jobs.Job.{Job}
+use Rattle.run_words.specs.declared.jobs.Asked.{Asked}
 use Rattle.run_words.specs.declared.verbs.Verb.TheVariants.{Replay}
-use Rattle.run_words.specs.Jobs.{IsJob}
+use Rattle.run_words.specs.Jobs.{IsAsked}
 use Rattle.job_stages.specs.Files.{files_of, Loads}
 use Rattle.job_stages.specs.Jobs.{IsNoJob}
 use Rattle.job_stages.specs.Refusals.{line_of, status_of}
@@ -20,10 +20,10 @@ use Rattle.job_stages.specs.declared.status.Status.TheVariants as status
 -- are passed
 pub data Says (files : List ℕ → Told) (words : List (List ℕ)) : List ℕ → Status → Type 0 where
   usage : IsNoJob words → Says files words (line_of Usage) (status_of Usage)
-  refuses : (job : Job) (r : Refusal) → IsJob words job → Passes files job (Err r)
+  refuses : (asked : Asked) (r : Refusal) → IsAsked words asked → Passes files asked (Err r)
       → Says files words (line_of r) (status_of r)
-  tells : {text : List ℕ} {ends : Status} (job : Job) (w : Ready) → IsJob words job → Passes files job (Ok w)
-      → Tells job w text ends
+  tells : {text : List ℕ} {ends : Status} (asked : Asked) (w : Ready) → IsAsked words asked → Passes files asked (Ok w)
+      → Tells asked w text ends
       → Says files words text ends
 
 -- a text of which the call may have written first bytes: nothing, what the words say, or the line of a file that was
@@ -31,7 +31,7 @@ pub data Says (files : List ℕ → Told) (words : List (List ℕ)) : List ℕ �
 pub data Begins (files : List ℕ → Told) (rose : List ℕ → Type 0) (words : List (List ℕ)) : List ℕ → Type 0 where
   nothing : Begins files rose words []
   said : {text : List ℕ} {ends : Status} → Says files words text ends → Begins files rose words text
-  not_read : {kind : FileKind} {name : List ℕ} (job : Job) → IsJob words job → Loads files (files_of job) kind name
+  not_read : {kind : FileKind} {name : List ℕ} (asked : Asked) → IsAsked words asked → Loads files (files_of asked) kind name
       → rose name
       → Begins files rose words (line_of (NotRead kind))
 
@@ -45,7 +45,7 @@ pub data EndsSo (files : List ℕ → Told) (rose : List ℕ → Type 0) (words 
   says : {text : List ℕ} {ends : Status} → Says files words text ends → Appended old.bytes new.bytes text
       → new.faults ≡ old.faults
       → EndsSo files rose words old new ends
-  not_read : {kind : FileKind} {name : List ℕ} (job : Job) → IsJob words job → Loads files (files_of job) kind name
+  not_read : {kind : FileKind} {name : List ℕ} (asked : Asked) → IsAsked words asked → Loads files (files_of asked) kind name
       → rose name
       → Appended old.bytes new.bytes (line_of (NotRead kind)) → new.faults ≡ old.faults
       → EndsSo files rose words old new status.Read
@@ -53,7 +53,7 @@ pub data EndsSo (files : List ℕ → Told) (rose : List ℕ → Type 0) (words 
       → WroteFront old.bytes new.bytes text
       → EndsSo files rose words old new status.Write
   no_memory : new ≡ old → EndsSo files rose words old new status.Memory
-  replay_stopped : {text : List ℕ} {ends : Status} (job : Job) → IsJob words job → job.command ≡ Replay
+  replay_stopped : {text : List ℕ} {ends : Status} (asked : Asked) → IsAsked words asked → asked.job.command ≡ Replay
       → Says files words text ends → WroteFront old.bytes new.bytes text
       → new.faults ≡ old.faults
       → EndsSo files rose words old new status.Memory

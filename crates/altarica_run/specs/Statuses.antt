@@ -1,7 +1,7 @@
 -- What each way to end means.
 use Rattle.std.specs.Prelude.{◌≡◌, ℕ, List, Ok, Err}
-use Rattle.run_words.specs.declared.jobs.Job.{Job}
-use Rattle.run_words.specs.Jobs.{IsJob}
+use Rattle.run_words.specs.declared.jobs.Asked.{Asked}
+use Rattle.run_words.specs.Jobs.{IsAsked}
 use Rattle.job_stages.specs.Files.{files_of, Loads}
 use Rattle.altarica_run.specs.Follows.{Call, RoseAt, SinkRose, Wrote}
 use Rattle.job_stages.specs.Jobs.{IsNoJob}
@@ -16,30 +16,30 @@ use Rattle.job_stages.specs.declared.status.Status.TheVariants.{Done, Usage, Syn
 
 -- all stages of the job are passed, and its whole text was written
 pub record IsTold (c : Call) (status : Status) : Type 0 where
-  pub job : Job
-  pub is_job : IsJob c.words job
+  pub asked : Asked
+  pub is_job : IsAsked c.words asked
   pub ready : Ready
-  pub passes : Passes c.files job (Ok ready)
+  pub passes : Passes c.files asked (Ok ready)
   pub text : List ℕ
-  pub tells : Tells job ready text status
+  pub tells : Tells asked ready text status
   pub wrote : Wrote c text
 
 -- a stage of the job refuses, its line was written, and the status is its own
 pub record IsRefused (c : Call) (status : Status) : Type 0 where
-  pub job : Job
-  pub is_job : IsJob c.words job
+  pub asked : Asked
+  pub is_job : IsAsked c.words asked
   pub refusal : Refusal
-  pub stage : Passes c.files job (Err refusal)
+  pub stage : Passes c.files asked (Err refusal)
   pub is_status : status ≡ status_of refusal
   pub wrote : Wrote c (line_of refusal)
 
 -- a file was to be loaded, its own count of faults rose, and the line that says so was written
 pub record IsNotRead (c : Call) : Type 0 where
-  pub job : Job
-  pub is_job : IsJob c.words job
+  pub asked : Asked
+  pub is_job : IsAsked c.words asked
   pub kind : FileKind
   pub name : List ℕ
-  pub loads : Loads c.files (files_of job) kind name
+  pub loads : Loads c.files (files_of asked) kind name
   pub rose : RoseAt c name
   pub wrote : Wrote c (line_of (refusal.NotRead kind))
 

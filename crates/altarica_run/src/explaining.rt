@@ -1,7 +1,7 @@
 //! The text of `explain`.
 
 ghost use Rattle.std.specs.Prelude.{◌≡◌};
-ghost use Rattle.run_words.specs.declared.jobs.Job.{Job};
+ghost use Rattle.run_words.specs.declared.jobs.Asked.{Asked};
 ghost use Rattle.run_words.specs.declared.verbs.Verb.TheVariants.{Explain as ExplainAsked};
 ghost use Rattle.job_stages.specs.Passing.{IsScripted};
 ghost use Rattle.job_stages.specs.Stages.{Ready};
@@ -29,9 +29,9 @@ pub(crate) fn write_reasons<K: Sink>(
     out: &mut K,
 ) -> Result<Status, ReplayFault>
     requires ready { (w : Ready) × IsScripted w system.now commands.now shown }
-    ensures { (job : Job) (w : Ready) → IsScripted w system.now commands.now shown
-        → job.command ≡ ExplainAsked
-        → IsWritten (Tells job w) (K.state out.old) (K.state out.new) (status_explained result) }
+    ensures { (asked : Asked) (w : Ready) → IsScripted w system.now commands.now shown
+        → asked.job.command ≡ ExplainAsked
+        → IsWritten (Tells asked w) (K.state out.old) (K.state out.new) (status_explained result) }
 {
     // Where the runs of the flat system settle, and why its flows have their values, are those of its
     // source.

@@ -1,9 +1,9 @@
 //! Laws of checks of lists of cuts, and of explanations. Each function has an empty body.
 
 ghost use Rattle.std.specs.Prelude.{◌≡◌};
-ghost use Rattle.run_words.specs.declared.jobs.Job.{Job};
+ghost use Rattle.run_words.specs.declared.jobs.Asked.{Asked};
 ghost use Rattle.run_words.specs.declared.verbs.Verb.TheVariants.{CheckCuts, Explain};
-ghost use Rattle.run_words.specs.Jobs.{IsJob};
+ghost use Rattle.run_words.specs.Jobs.{IsAsked};
 ghost use Rattle.altarica_run.specs.Findings.{IsCheckOf, IsExplanation};
 ghost use Rattle.altarica_run.specs.Follows.{Call, Gave};
 ghost use Rattle.job_stages.specs.declared.status.Status.TheVariants as status;
@@ -20,10 +20,10 @@ use crate::laws::one_job;
 ///   the variables that it rests on the assignment that it names is reached and yields the flow's value. The
 ///   flows among these variables have smaller rounds.
 pub fn findings_hold()
-    ensures checks_are_whole { (c : Call) (job : Job) → Gave c status.Done → IsJob c.words job
-        → job.command ≡ CheckCuts → IsCheckOf c job }
-    ensures explanations_hold { (c : Call) (job : Job) → Gave c status.Done → IsJob c.words job
-        → job.command ≡ Explain → IsExplanation c job }
+    ensures checks_are_whole { (c : Call) (asked : Asked) → Gave c status.Done → IsAsked c.words asked
+        → asked.job.command ≡ CheckCuts → IsCheckOf c asked }
+    ensures explanations_hold { (c : Call) (asked : Asked) → Gave c status.Done → IsAsked c.words asked
+        → asked.job.command ≡ Explain → IsExplanation c asked }
 {
     one_job();
 }

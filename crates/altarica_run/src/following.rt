@@ -1,8 +1,8 @@
 //! What follows from the answer of a call.
 
 ghost use Rattle.std.specs.Prelude.{◌≡◌, ◌≢◌, ◌⊎◌};
-ghost use Rattle.run_words.specs.declared.jobs.Job.{Job};
-ghost use Rattle.run_words.specs.Jobs.{IsJob};
+ghost use Rattle.run_words.specs.declared.jobs.Asked.{Asked};
+ghost use Rattle.run_words.specs.Jobs.{IsAsked};
 ghost use Rattle.altarica_run.specs.Follows.{Call, Gave, SinkRose, IsQuiet, IsPrefix, IsSaid};
 ghost use Rattle.job_stages.specs.Jobs.{IsNoJob};
 ghost use Rattle.altarica_run.specs.Statuses.{IsTold, IsRefused, Meaning_of};
@@ -24,7 +24,7 @@ pub fn answers_in_words()
         → (s ≡ status.Usage) ⊎ (s ≡ status.Memory) }
     ensures nothing_gives_up { (c : Call) (s : Status) → Gave c s → IsQuiet c
         → IsSaid c s ⊎ (s ≡ status.Memory) }
-    ensures nothing_gives_up_on_jobs { (c : Call) (s : Status) (job : Job) → Gave c s → IsQuiet c
-        → IsJob c.words job → IsTold c s ⊎ (IsRefused c s ⊎ (s ≡ status.Memory)) }
+    ensures nothing_gives_up_on_jobs { (c : Call) (s : Status) (asked : Asked) → Gave c s → IsQuiet c
+        → IsAsked c.words asked → IsTold c s ⊎ (IsRefused c s ⊎ (s ≡ status.Memory)) }
     ensures no_fault_passes_unseen { (c : Call) (s : Status) → Gave c s → s ≢ status.Write → c.sink_new ≡ c.sink_old }
 {}

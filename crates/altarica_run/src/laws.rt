@@ -4,9 +4,9 @@ ghost use Rattle.std.specs.Prelude.{◌≡◌, ◌≢◌, ◌<◌, ◌≤◌, �
 ghost use Rattle.ar_base.specs.Counts.{limit_of};
 ghost use Rattle.ar_base.specs.declared.counts.Count.TheVariants.{ModelBytes, ScriptBytes};
 ghost use Rattle.ar_io.specs.Outside.{Told, Bytes, Absent};
-ghost use Rattle.run_words.specs.declared.jobs.Job.{Job};
+ghost use Rattle.run_words.specs.declared.jobs.Asked.{Asked};
 ghost use Rattle.run_words.specs.declared.verbs.Verb.TheVariants.{Cuts, Replay};
-ghost use Rattle.run_words.specs.Jobs.{IsJob};
+ghost use Rattle.run_words.specs.Jobs.{IsAsked};
 ghost use Rattle.job_stages.specs.Files.{File, Loaded};
 ghost use Rattle.altarica_run.specs.Follows.{Call, Gave, IsKnown, IsQuiet, IsShelfSame, LacksScript};
 ghost use Rattle.altarica_run.specs.Follows.{Wrote, RoseAt, SinkRose, sink_before, sink_after};
@@ -22,7 +22,7 @@ ghost use Rattle.job_stages.specs.declared.status.Status.TheVariants as status;
 
 /// Words give at most one job.
 pub fn one_job()
-    ensures { (words : List (List ℕ)) (a b : Job) → IsJob words a → IsJob words b
+    ensures { (words : List (List ℕ)) (a b : Asked) → IsAsked words a → IsAsked words b
         → a ≡ b }
 {
     run_words::laws::one_job();
@@ -42,24 +42,24 @@ pub fn one_loading()
 /// - `long_script_refused`, `long_scripts_are_refused`: A script or a list that is longer than its limit, of a
 ///   model that is not, is refused for that alone, whatever the two say.
 pub fn long_files_are_refused()
-    ensures long_model_refused { (files : List ℕ → Told) (job : Job) (text : List ℕ) (x : Result Ready Refusal)
-        → makes_model job.command ≡ false
-        → files job.model ≡ Bytes text → limit_of ModelBytes < length text
-        → Passes files job x → x ≡ Err (Size ModelBytes) }
-    ensures long_models_are_refused { (c : Call) (s : Status) (job : Job) (text : List ℕ) → Gave c s → IsQuiet c
-        → IsJob c.words job → makes_model job.command ≡ false
-        → c.files job.model ≡ Bytes text
+    ensures long_model_refused { (files : List ℕ → Told) (asked : Asked) (text : List ℕ) (x : Result Ready Refusal)
+        → makes_model asked.job.command ≡ false
+        → files asked.job.model ≡ Bytes text → limit_of ModelBytes < length text
+        → Passes files asked x → x ≡ Err (Size ModelBytes) }
+    ensures long_models_are_refused { (c : Call) (s : Status) (asked : Asked) (text : List ℕ) → Gave c s → IsQuiet c
+        → IsAsked c.words asked → makes_model asked.job.command ≡ false
+        → c.files asked.job.model ≡ Bytes text
         → limit_of ModelBytes < length text
         → ((s ≡ status.Size) × Wrote c (line_of (Size ModelBytes))) ⊎ (s ≡ status.Memory) }
-    ensures long_script_refused { (files : List ℕ → Told) (job : Job) (name model script : List ℕ)
-        (x : Result Ready Refusal) → makes_model job.command ≡ false → job.script ≡ Some name
-        → files job.model ≡ Bytes model → length model ≤ limit_of ModelBytes
+    ensures long_script_refused { (files : List ℕ → Told) (asked : Asked) (name model script : List ℕ)
+        (x : Result Ready Refusal) → makes_model asked.job.command ≡ false → asked.job.script ≡ Some name
+        → files asked.job.model ≡ Bytes model → length model ≤ limit_of ModelBytes
         → files name ≡ Bytes script → limit_of ScriptBytes < length script
-        → Passes files job x → x ≡ Err (Size ScriptBytes) }
-    ensures long_scripts_are_refused { (c : Call) (s : Status) (job : Job) (name model script : List ℕ)
-        → Gave c s → IsQuiet c → IsJob c.words job
-        → makes_model job.command ≡ false → job.script ≡ Some name
-        → c.files job.model ≡ Bytes model → length model ≤ limit_of ModelBytes
+        → Passes files asked x → x ≡ Err (Size ScriptBytes) }
+    ensures long_scripts_are_refused { (c : Call) (s : Status) (asked : Asked) (name model script : List ℕ)
+        → Gave c s → IsQuiet c → IsAsked c.words asked
+        → makes_model asked.job.command ≡ false → asked.job.script ≡ Some name
+        → c.files asked.job.model ≡ Bytes model → length model ≤ limit_of ModelBytes
         → c.files name ≡ Bytes script → limit_of ScriptBytes < length script
         → ((s ≡ status.Size) × Wrote c (line_of (Size ScriptBytes))) ⊎ (s ≡ status.Memory) }
 {
@@ -76,17 +76,17 @@ pub fn long_files_are_refused()
 /// - `made_models_are_not_loaded`: A command that makes its model loads nothing: it never says that a file was
 ///   not read.
 pub fn absent_files_are_not_read()
-    ensures absent_models_are_not_read { (c : Call) (s : Status) (job : Job) → Gave c s → IsJob c.words job
-        → makes_model job.command ≡ false → c.files job.model ≡ Absent
-        → ((s ≡ status.Read) × RoseAt c job.model × Wrote c (line_of (NotRead Model)))
+    ensures absent_models_are_not_read { (c : Call) (s : Status) (asked : Asked) → Gave c s → IsAsked c.words asked
+        → makes_model asked.job.command ≡ false → c.files asked.job.model ≡ Absent
+        → ((s ≡ status.Read) × RoseAt c asked.job.model × Wrote c (line_of (NotRead Model)))
         ⊎ (SinkRose c ⊎ (s ≡ status.Memory)) }
-    ensures absent_scripts_are_not_read { (c : Call) (s : Status) (job : Job) (name model : List ℕ) → Gave c s
-        → IsJob c.words job → makes_model job.command ≡ false → job.script ≡ Some name
-        → c.files job.model ≡ Bytes model → length model ≤ limit_of ModelBytes
+    ensures absent_scripts_are_not_read { (c : Call) (s : Status) (asked : Asked) (name model : List ℕ) → Gave c s
+        → IsAsked c.words asked → makes_model asked.job.command ≡ false → asked.job.script ≡ Some name
+        → c.files asked.job.model ≡ Bytes model → length model ≤ limit_of ModelBytes
         → c.files name ≡ Absent
-        → ((s ≡ status.Read) × LacksScript c job name) ⊎ (SinkRose c ⊎ (s ≡ status.Memory)) }
-    ensures made_models_are_not_loaded { (c : Call) (s : Status) (job : Job) → Gave c s → IsJob c.words job
-        → makes_model job.command ≡ true → s ≢ status.Read }
+        → ((s ≡ status.Read) × LacksScript c asked name) ⊎ (SinkRose c ⊎ (s ≡ status.Memory)) }
+    ensures made_models_are_not_loaded { (c : Call) (s : Status) (asked : Asked) → Gave c s → IsAsked c.words asked
+        → makes_model asked.job.command ≡ true → s ≢ status.Read }
 {
     one_job();
 }
@@ -95,8 +95,8 @@ pub fn absent_files_are_not_read()
 /// else. Each is listed in an order that replays in the whole model, dropped events included: fired
 /// as they stand, its labels meet no fault, and the observer then has the wanted value.
 pub fn listings_are_whole()
-    ensures { (c : Call) (job : Job) → Gave c status.Done → IsJob c.words job
-        → job.command ≡ Cuts → IsListing c job }
+    ensures { (c : Call) (asked : Asked) → Gave c status.Done → IsAsked c.words asked
+        → asked.job.command ≡ Cuts → IsListing c asked }
 {
     one_job();
 }
@@ -109,10 +109,10 @@ pub fn listings_are_whole()
 ///   unless the job is a replay, which writes as it goes.
 pub fn shelves_and_sinks()
     ensures untouched_without_job { (c : Call) (s : Status) → Gave c s → IsNoJob c.words → IsShelfSame c }
-    ensures untouched_where_made { (c : Call) (s : Status) (job : Job) → Gave c s → IsJob c.words job
-        → makes_model job.command ≡ true → IsShelfSame c }
+    ensures untouched_where_made { (c : Call) (s : Status) (asked : Asked) → Gave c s → IsAsked c.words asked
+        → makes_model asked.job.command ≡ true → IsShelfSame c }
     ensures refused_memory_writes_nothing { (c : Call) → Gave c status.Memory
-        → ((job : Job) → IsJob c.words job → job.command ≢ Replay)
+        → ((asked : Asked) → IsAsked c.words asked → asked.job.command ≢ Replay)
         → sink_after c ≡ sink_before c }
 {
     one_job();

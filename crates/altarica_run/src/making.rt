@@ -1,10 +1,10 @@
 //! The text of `make`.
 
-ghost use Rattle.std.specs.Prelude.{◌≡◌, ◌++◌, decimal, length};
+ghost use Rattle.std.specs.Prelude.{◌≡◌, ◌++◌, decimal, length, None};
 ghost use Rattle.ar_base.specs.Texts.{line};
 ghost use Rattle.ar_io.specs.Writing.{Writes};
 ghost use Rattle.mode_trees.specs.declared.forests.Forest.{Forest};
-ghost use Rattle.run_words.specs.declared.jobs.Job.{Job};
+ghost use Rattle.run_words.specs.declared.jobs.Asked.{Asked};
 ghost use Rattle.run_words.specs.declared.verbs.Verb.TheVariants.{Make as MakeAsked};
 ghost use Rattle.job_stages.specs.Passing.{IsDrawnFor};
 ghost use Rattle.job_stages.specs.Stages.{Ready};
@@ -31,12 +31,12 @@ pub(crate) fn write_made<K: Sink>(
     family: &Family,
     out: &mut K,
 ) -> Result<Status, PrintFault>
-    requires drawn { (job : Job) × (w : Ready) × (forest : Forest)
-        × IsDrawnFor job w system.now forest (Drawn.Cuts family.now) }
-    ensures { (job : Job) (w : Ready) (forest : Forest)
-        → IsDrawnFor job w system.now forest (Drawn.Cuts family.now)
-        → job.command ≡ MakeAsked → job.number ≡ number
-        → IsWritten (Tells job w) (K.state out.old) (K.state out.new) (status_printed result) }
+    requires drawn { (asked : Asked) × (w : Ready) × (forest : Forest)
+        × IsDrawnFor asked w system.now forest (Drawn.Cuts family.now) }
+    ensures { (asked : Asked) (w : Ready) (forest : Forest)
+        → IsDrawnFor asked w system.now forest (Drawn.Cuts family.now)
+        → asked.job.command ≡ MakeAsked → w.order ≡ None → asked.job.number ≡ number
+        → IsWritten (Tells asked w) (K.state out.old) (K.state out.new) (status_printed result) }
 {
     // What is drawn are the cuts, and what is stored has room for their sections.
     lawful_systems();

@@ -1,11 +1,11 @@
 //! Laws of the limit of nodes. Each function has an empty body.
 
 ghost use Rattle.std.specs.Prelude.{◌≡◌, ◌≤◌, ◌⊎◌, ℕ, true, List};
-ghost use Rattle.ar_firing.specs.Cuts.{IsConflictFree};
+ghost use Rattle.ar_firing.specs.Cuts.{IsConflictFreeUpTo};
 ghost use Rattle.cut_text.specs.Texts.{IsConflictText};
 ghost use Rattle.gts_flatten.specs.Flat.{naming_of};
-ghost use Rattle.run_words.specs.declared.jobs.Job.{Job};
-ghost use Rattle.run_words.specs.Jobs.{IsJob};
+ghost use Rattle.run_words.specs.declared.jobs.Asked.{Asked};
+ghost use Rattle.run_words.specs.Jobs.{IsAsked};
 ghost use Rattle.altarica_run.specs.Follows.{Call, Gave, SinkRose};
 ghost use Rattle.altarica_run.specs.Nodes.{HasConflict, HasEnough, IsTextOfCuts, OfAllReady};
 ghost use Rattle.job_stages.specs.Stages.{Ready, lists_cuts};
@@ -28,21 +28,21 @@ use crate::laws::one_job;
 ///   sink fails or memory is refused.
 pub fn enough_nodes_suffice()
     ensures larger_limits_suffice { (w : Ready) (less more : ℕ) → less ≤ more → MayNeedMore w more → MayNeedMore w less }
-    ensures conflict_with_enough { (job : Job) (w : Ready) (text : List ℕ) (s : Status) → Tells job w text s
-        → lists_cuts job.command ≡ true → (MayNeedMore w job.nodes → ⊥) → HasConflict w
+    ensures conflict_with_enough { (asked : Asked) (w : Ready) (text : List ℕ) (s : Status) → Tells asked w text s
+        → lists_cuts asked.job.command ≡ true → (MayNeedMore w asked.job.nodes → ⊥) → HasConflict w
         → (s ≡ status.Fault)
-        × IsConflictText (naming_of w.source.declarations) w.source.system w.dropped text }
-    ensures listing_with_enough { (job : Job) (w : Ready) (text : List ℕ) (s : Status) → Tells job w text s
-        → lists_cuts job.command ≡ true → (MayNeedMore w job.nodes → ⊥)
-        → IsConflictFree w.source.system w.dropped
-        → (s ≡ status.Done) × IsTextOfCuts job.command job w text }
-    ensures call_with_conflict { (c : Call) (s : Status) (job : Job) → Gave c s → IsJob c.words job
-        → lists_cuts job.command ≡ true → HasEnough c job → OfAllReady c job HasConflict
+        × IsConflictText w.order (naming_of w.source.declarations) w.source.system w.dropped text }
+    ensures listing_with_enough { (asked : Asked) (w : Ready) (text : List ℕ) (s : Status) → Tells asked w text s
+        → lists_cuts asked.job.command ≡ true → (MayNeedMore w asked.job.nodes → ⊥)
+        → IsConflictFreeUpTo w.order w.source.system w.dropped
+        → (s ≡ status.Done) × IsTextOfCuts asked.job.command asked w text }
+    ensures call_with_conflict { (c : Call) (s : Status) (asked : Asked) → Gave c s → IsAsked c.words asked
+        → lists_cuts asked.job.command ≡ true → HasEnough c asked → OfAllReady c asked HasConflict
         → (s ≡ status.Fault)
         ⊎ (IsRefused c s ⊎ (IsNotRead c ⊎ (SinkRose c ⊎ (s ≡ status.Memory)))) }
-    ensures call_with_listing { (c : Call) (s : Status) (job : Job) → Gave c s → IsJob c.words job
-        → lists_cuts job.command ≡ true → HasEnough c job
-        → OfAllReady c job (λ w. IsConflictFree w.source.system w.dropped)
+    ensures call_with_listing { (c : Call) (s : Status) (asked : Asked) → Gave c s → IsAsked c.words asked
+        → lists_cuts asked.job.command ≡ true → HasEnough c asked
+        → OfAllReady c asked (λ w. IsConflictFreeUpTo w.order w.source.system w.dropped)
         → (s ≡ status.Done)
         ⊎ (IsRefused c s ⊎ (IsNotRead c ⊎ (SinkRose c ⊎ (s ≡ status.Memory)))) }
 {

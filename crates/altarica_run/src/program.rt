@@ -15,8 +15,8 @@ ghost use Rattle.job_stages.specs.declared.status.Status.{Status};
 
 use crate::commands::run;
 use ar_io::{Beginning, Gathered, Shelf, Sink, room};
-use job_stages::{Status, Stop, Texts, job_of, job_texts, refuse, written};
-use run_words::Job;
+use job_stages::{Status, Stop, Texts, asked_of, job_texts, refuse, written};
+use run_words::Asked;
 use std::alloc::Global;
 use std::marker::Brand;
 use std::process::ExitCode;
@@ -95,26 +95,26 @@ fn do_job<H: Shelf, K: Sink>(
     ensures loads { Grew (H.loads shelf.old) (H.loads shelf.new)
         (AnswersReading (bytes_of_all words.now) (K.state out.old) (K.state out.new) result) }
 {
-    let job = job_of(alloc, words)?;
-    let texts = job_texts(alloc, shelf, &job)?;
-    run_gathered::<Brand, K>(alloc, &job, texts, out)
+    let asked = asked_of(alloc, words)?;
+    let texts = job_texts(alloc, shelf, &asked)?;
+    run_gathered::<Brand, K>(alloc, &asked, texts, out)
 }
 
 // Does what the command asks, with its text gathered. The room for that is taken before the first byte
 // is written; where it is refused, nothing is.
 fn run_gathered<S: Beginning, K: Sink>(
     alloc: Global,
-    job: &Job,
+    asked: &Asked,
     texts: Texts,
     out: &mut K,
 ) -> Result<Status, Stop>
     requires begins { S.start ≡ K.state out.old }
-    requires given { AreGiven job.now texts }
-    ensures { AnswersFor job.now texts (K.state out.old) (K.state out.new) result }
+    requires given { AreGiven asked.now texts }
+    ensures { AnswersFor asked.now texts (K.state out.old) (K.state out.new) result }
 {
     let mut room = room(alloc)?;
     let mut gathered: Gathered<'_, S, K> = Gathered::new(&mut room, out);
-    let answer = run(alloc, job, texts, &mut gathered);
+    let answer = run(alloc, asked, texts, &mut gathered);
     let handed = gathered.finish();
     let status = answer?;
     Ok(written(status, handed))

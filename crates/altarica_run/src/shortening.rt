@@ -1,9 +1,9 @@
 //! The text of `modules`.
 
-ghost use Rattle.std.specs.Prelude.{◌≡◌};
+ghost use Rattle.std.specs.Prelude.{◌≡◌, None};
 ghost use Rattle.gate_modules.specs.Modules.{AreRanges};
 ghost use Rattle.module_text.specs.Ranges.{AreRangesOf};
-ghost use Rattle.run_words.specs.declared.jobs.Job.{Job};
+ghost use Rattle.run_words.specs.declared.jobs.Asked.{Asked};
 ghost use Rattle.run_words.specs.declared.verbs.Verb.TheVariants.{Modules as ModulesAsked};
 ghost use Rattle.job_stages.specs.Passing.{IsDrawnFor};
 ghost use Rattle.job_stages.specs.Stages.{Ready};
@@ -34,13 +34,13 @@ pub(crate) fn write_modules<K: Sink>(
     out: &mut K,
 ) -> Result<Status, PrintFault>
     requires ranges { AreRanges ranges.now }
-    requires drawn { (job : Job) × (w : Ready)
-        × IsDrawnFor job w system.now forest.now (Drawn.Cuts family.now) }
-    ensures { (job : Job) (w : Ready)
-        → IsDrawnFor job w system.now forest.now (Drawn.Cuts family.now)
+    requires drawn { (asked : Asked) × (w : Ready)
+        × IsDrawnFor asked w system.now forest.now (Drawn.Cuts family.now) }
+    ensures { (asked : Asked) (w : Ready)
+        → IsDrawnFor asked w system.now forest.now (Drawn.Cuts family.now)
         → AreRangesOf w.source.declarations.model w.source.declarations.units ranges.now
-        → job.command ≡ ModulesAsked
-        → IsWritten (Tells job w) (K.state out.old) (K.state out.new) (status_printed result) }
+        → asked.job.command ≡ ModulesAsked → w.order ≡ None
+        → IsWritten (Tells asked w) (K.state out.old) (K.state out.new) (status_printed result) }
 {
     // What is drawn are the cuts, what they are in short is so of the source's, and what is stored has
     // room for their sections.

@@ -2,4 +2,5 @@ mod Listing
 mod SourceLines
 mod MissingLemmas
 mod SaidLemmas
+pub mod ShortLines
 pub mod YesLemmas

@@ -1,5 +1,5 @@
 -- Whether sets are listed, as tests.
-use Rattle.std.proofs.Common.{◌≡◌, ◌<◌, ◌+◌, ℕ, length, drop, get_or, arith, Bool, true, false, ◌&&◌, inl, inr, if◌then◌else◌, List, [], ◌∷◌, ◌++◌, nat_eq, eq-eqb, codes, append_assoc, Result, Ok, Err, OnOk, refl, sym, ◌∙◌, ap, subst}
+use Rattle.std.proofs.Common.{◌≡◌, ◌<◌, ◌+◌, ℕ, length, drop, get_or, Option, Bool, true, false, ◌&&◌, inl, inr, if◌then◌else◌, List, [], ◌∷◌, ◌++◌, nat_eq, eq-eqb, codes, append_assoc, Result, Ok, Err, OnOk, refl, sym, ◌∙◌, ap, subst}
 use Rattle.std.proofs.lemmas.Bool.{eqb-true}
 use Rattle.std.proofs.lemmas.List.{at_drop_more}
 use Rattle.ar_base.specs.Lists.{IsOneOf}
@@ -27,8 +27,8 @@ use Rattle.cut_text.specs.Printed.{HaveOneWay, AreOfEdges, HasEdge, edges_of, ev
 use Rattle.cut_text.specs.Tables.{AreWaysOf, texts_at}
 use Rattle.cut_text.specs.Texts.{braced}
 use Rattle.eq_core.specs.Values.{has_event}
-use Rattle.check_text.specs.Printed.{all_among, listed_in, missing_one, missing_at, missing_text, verdict_line, verdict_lines, all_verdicts_good, all_listed, check_text}
-use Rattle.check_text.specs.Texts.{last_line}
+use Rattle.check_text.specs.Printed.{all_among, listed_in, missing_one, missing_at, missing_text, is_chain_above, chain_line, verdict_lines, all_verdicts_good, all_listed, check_text}
+use Rattle.check_text.specs.Texts.{later, last_line}
 use Rattle.cut_text.proofs.Known.{same_map}
 use Rattle.cut_text.proofs.TableLemmas.{tree_of_edge}
 
@@ -121,28 +121,29 @@ same_missing edges one ways are p lines (s ∷ ss) h =
     ∙ ap (λ (z : List ℕ). (if listed_in lines s then [] else line (codes "missing " ++ events_text p edges s)) ++ z)
     (same_missing edges one ways are p lines ss (record { each = λ x o. h.each x (one_rest s ss x o) }))
 
--- what is left of the verdicts begins with the next one
-pub next_verdict : (chains : List Chain) (vs : List Verdict) (i : ℕ) (c : Chain) (v : Verdict) → i < length chains
-    → c ≡ get_or chains i c → length vs ≡ length chains
-    → verdict_lines (drop i chains) (drop i vs)
-    ≡ verdict_line c.line (get_or vs i v) ++ verdict_lines (drop (i + 1) chains) (drop (i + 1) vs)
-next_verdict chains vs i c v lt is long =
-    at_drop_more (λ (xs : List Chain). verdict_lines xs (drop i vs)) chains i c lt
-    ∙ at_drop_more (λ (xs : List Verdict). verdict_lines (get_or chains i c ∷ drop (i + 1) chains) xs) vs i v
-    (omega (arith, lt, long))
-    ∙ ap (λ (d : Chain). verdict_line d.line (get_or vs i v) ++ verdict_lines (drop (i + 1) chains) (drop (i + 1) vs))
-    (sym is)
+-- the lines of the chains that are left begin with that of the next one
+pub next_chain : (order : Option ℕ) (chains : List Chain) (left : List Verdict) (i : ℕ) (c : Chain) → i < length chains
+    → c ≡ get_or chains i c
+    → verdict_lines order (drop i chains) left
+    ≡ chain_line (is_chain_above order c) c.line left
+    ++ verdict_lines order (drop (i + 1) chains) (later (is_chain_above order c) left)
+next_chain order chains left i c lt is =
+    at_drop_more (λ (xs : List Chain). verdict_lines order xs left) chains i c lt
+    ∙ ap (λ (d : Chain). chain_line (is_chain_above order d) d.line left
+    ++ verdict_lines order (drop (i + 1) chains) (later (is_chain_above order d) left)) (sym is)
 
 -- the whole text by the table of ways
 pub whole_text : (edges : List Edge) → HaveOneWay edges → (ways : List WayId) → AreWaysOf edges ways
-    → (p : GtsParts) (chains : List Chain) (vs : List Verdict) (sets : List (List ℕ)) → AreOfEdges edges sets
-    → (b : Bool) → b ≡ (all_verdicts_good vs && all_listed (chain_lines p chains) sets)
-    → verdict_lines chains vs ++ (missing_at p ways (chain_lines p chains) sets ++ last_line b)
-    ≡ check_text p edges chains vs sets
-whole_text edges one ways are p chains vs sets h b e =
-    ap (λ (z : List ℕ). verdict_lines chains vs ++ (z ++ last_line b))
-    (same_missing edges one ways are p (chain_lines p chains) sets h)
-    ∙ ap (λ (z : Bool). verdict_lines chains vs ++ (missing_text p edges (chain_lines p chains) sets ++ last_line z)) e
+    → (p : GtsParts) (order : Option ℕ) (chains short : List Chain) (vs : List Verdict) (sets : List (List ℕ))
+    → AreOfEdges edges sets
+    → (b : Bool) → b ≡ (all_verdicts_good vs && all_listed (chain_lines p short) sets)
+    → verdict_lines order chains vs ++ (missing_at p ways (chain_lines p short) sets ++ last_line order b)
+    ≡ check_text p edges order chains short vs sets
+whole_text edges one ways are p order chains short vs sets h b e =
+    ap (λ (z : List ℕ). verdict_lines order chains vs ++ (z ++ last_line order b))
+    (same_missing edges one ways are p (chain_lines p short) sets h)
+    ∙ ap (λ (z : Bool). verdict_lines order chains vs
+    ++ (missing_text p edges (chain_lines p short) sets ++ last_line order z)) e
 
 -- the events of the set that is given are events of the system, and so are those of the sets that are left
 module _ (p : GtsParts) where

@@ -1,6 +1,9 @@
 -- Verdicts as what is said of lines.
-use Rattle.std.proofs.Common.{◌≡◌, ◌+◌, ℕ, zero, suc, ◌&&◌, codes, decimal, List, [], ◌∷◌, ◌++◌, map, length, slice_get, refl, sym, ◌∙◌, ap, subst, arith}
-use Rattle.ar_base.specs.Lists.{Stands}
+use Rattle.std.proofs.Common.{◌≡◌, ◌+◌, ℕ, zero, suc, Option, Bool, true, false, ◌&&◌, codes, decimal, List, [], ◌∷◌, ◌++◌, map, length, slice_get, refl, sym, ◌∙◌, ap, subst, arith}
+use Rattle.std.proofs.lemmas.List.{length-map}
+use Rattle.ar_base.specs.Lists.{Stands, Along}
+use Rattle.ar_base.specs.Lists as l
+use Rattle.ar_base.specs.Numbers.{WayId}
 use Rattle.ar_base.specs.Texts.{line}
 use Rattle.ar_base.proofs.Standing.{stands_none, stands_map}
 use Rattle.domains.specs.declared.Value.{Value}
@@ -9,14 +12,20 @@ use Rattle.ar_meaning.specs.Systems.{System}
 use Rattle.ar_meaning.specs.Runs.{Label}
 use Rattle.gts_core.specs.declared.bound.Chain.{Chain}
 use Rattle.gts_core.specs.declared.system.GtsParts.{GtsParts}
-use Rattle.job_inputs.specs.Chains.{cut_of}
+use Rattle.job_inputs.specs.Chains.{cut_of, labels_of}
 use Rattle.job_inputs.specs.CutLists.{CutLine}
 use Rattle.cut_check.specs.Flat.{Tells, IsVerdict}
 use Rattle.cut_check.specs.Verdicts.{Said, IsSaid}
 use Rattle.cut_check.specs.declared.checking.Verdict.{Verdict}
 use Rattle.cut_check.specs.declared.checking.Verdict.TheVariants as verdict
-use Rattle.check_text.specs.Printed.{verdict_text, verdict_lines, all_verdicts_good}
-use Rattle.check_text.specs.Texts.{number_found, said_text, said_line, said_lines, is_good, all_good}
+use Rattle.text_pieces.specs.WayLabels.{label_of}
+use Rattle.check_text.specs.Printed.{verdict_text, is_chain_above, chain_line, verdict_lines, all_verdicts_good}
+use Rattle.check_text.specs.Texts.{is_above, later, number_found, said_text, cut_line, said_lines, is_good, all_good}
+
+-- a chain is above the order where its cut line is
+pub above_same : (p : GtsParts) (order : Option ℕ) (c : Chain)
+    → is_above order (length (labels_of p c.ways.items)) ≡ is_chain_above order c
+above_same p order c = ap (is_above order) (length-map c.ways.items (λ (w : WayId). label_of p w.n))
 
 module _ (p : GtsParts) (sys : System ℕ) (dropped : List ℕ) (observer : Expr ℕ) (wanted : Value)
     (lines : List (List Label)) (chains : List Chain) where
@@ -39,41 +48,39 @@ module _ (p : GtsParts) (sys : System ℕ) (dropped : List ℕ) (observer : Expr
   good_same verdict.Fails vs said all e h = ap (λ (z : Said). is_good z && all_good all) (sym e)
   good_same (verdict.Holds n) vs said all (k, c, s, e, i) h = ap (λ (z : Said). is_good z && all_good all) (sym i)
 
-  -- what is said of these lines, the first of which stands at place k
-  pub record AllSaid (k : ℕ) (cs : List Chain) (vs : List Verdict) : Type 0 where
+  -- a verdict and what is said have one text
+  abbrev pub HaveOneText : Verdict → Said → Type 0
+  HaveOneText v said = verdict_text v ≡ said_text cuts said
+
+  -- what is said of the lines, the first of which stands at place k
+  pub record AllSaid (k : ℕ) (vs : List Verdict) : Type 0 where
     pub all : List Said
     pub long : length all ≡ length vs
     pub each : (n : ℕ) (said : Said) → Stands all n said → IsSaid sys dropped observer wanted lines (k + n) said
-    pub text : verdict_lines cs vs ≡ said_lines cuts (map (cut_of p) cs) all
+    pub texts : Along HaveOneText vs all
     pub good : all_verdicts_good vs ≡ all_good all
 
-  pub all_said : (k : ℕ) (cs : List Chain) (vs : List Verdict) → length vs ≡ length cs
+  pub all_said : (k : ℕ) (vs : List Verdict)
       → ((n : ℕ) (v : Verdict) → Stands vs n v → IsVerdict sys dropped observer wanted lines chains (k + n) v)
-      → AllSaid k cs vs
-  all_said k [] [] e h = record {
+      → AllSaid k vs
+  all_said k [] h = record {
     all = [];
     long = refl;
     each = λ n s st. absurd (stands_none n s st);
-    text = refl;
+    texts = l.none;
     good = refl;
   }
-  all_said k [] (v ∷ vs) e h = absurd (omega (arith, e))
-  all_said k (c ∷ cs) [] e h = absurd (omega (arith, e))
-  all_said k (c ∷ cs) (v ∷ vs) e h = go (h zero v refl)
-      (all_said (suc k) cs vs (omega (arith, e))
+  all_said k (v ∷ vs) h = go (h zero v refl)
+      (all_said (suc k) vs
       (λ n w st. subst (λ (z : ℕ). IsVerdict sys dropped observer wanted lines chains z w) (omega arith)
       (h (suc n) w st)))
     where
-      go : IsVerdict sys dropped observer wanted lines chains (k + zero) v → AllSaid (suc k) cs vs
-          → AllSaid k (c ∷ cs) (v ∷ vs)
+      go : IsVerdict sys dropped observer wanted lines chains (k + zero) v → AllSaid (suc k) vs → AllSaid k (v ∷ vs)
       go (said, tells, is) more = record {
         all = said ∷ more.all;
         long = ap suc more.long;
         each = each;
-        text =
-            ap (λ (z : List ℕ). line (codes "line " ++ (decimal c.line ++ (codes " " ++ z))) ++ verdict_lines cs vs)
-            (text_same v said tells)
-            ∙ ap (λ (z : List ℕ). said_line cuts (cut_of p c) said ++ z) more.text;
+        texts = l.one_and (text_same v said tells) more.texts;
         good = good_same v vs said more.all tells more.good;
       }
         where
@@ -82,3 +89,28 @@ module _ (p : GtsParts) (sys : System ℕ) (dropped : List ℕ) (observer : Expr
           each zero other st = let same : said ≡ other = cc in subst (λ (z : Said). IsSaid sys dropped observer wanted lines (k + zero) z) same is
           each (suc n) other st = subst (λ (z : ℕ). IsSaid sys dropped observer wanted lines z other) (omega arith)
               (more.each n other st)
+
+  -- the line of a chain
+  line_same : (b : Bool) (c : Chain) {vs : List Verdict} {all : List Said} → Along HaveOneText vs all
+      → chain_line b c.line vs ≡ cut_line b cuts (cut_of p c) all
+  line_same true c a = refl
+  line_same false c l.none = refl
+  line_same false c (l.one_and e more) =
+      ap (λ (z : List ℕ). line (codes "line " ++ (decimal c.line ++ (codes " " ++ z)))) e
+
+  later_same : (b : Bool) {vs : List Verdict} {all : List Said} → Along HaveOneText vs all
+      → Along HaveOneText (later b vs) (later b all)
+  later_same true a = a
+  later_same false l.none = l.none
+  later_same false (l.one_and e more) = more
+
+  -- the lines of these chains
+  pub lines_same : (order : Option ℕ) (cs : List Chain) {vs : List Verdict} {all : List Said} → Along HaveOneText vs all
+      → verdict_lines order cs vs ≡ said_lines order cuts (map (cut_of p) cs) all
+  lines_same order [] a = refl
+  lines_same order (c ∷ cs) {vs = vs} {all = all} a =
+      let b = is_chain_above order c in
+      ap (λ (z : List ℕ). z ++ verdict_lines order cs (later b vs)) (line_same b c a)
+      ∙ ap (λ (z : List ℕ). cut_line b cuts (cut_of p c) all ++ z) (lines_same order cs (later_same b a))
+      ∙ ap (λ (z : Bool). cut_line z cuts (cut_of p c) all ++ said_lines order cuts (map (cut_of p) cs) (later z all))
+      (sym (above_same p order c))

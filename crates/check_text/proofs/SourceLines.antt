@@ -11,7 +11,7 @@ use Rattle.ar_meaning.proofs.ImageWays.{ways_count}
 use Rattle.ar_firing.specs.Static.{IsStatic}
 use Rattle.ar_firing.specs.Forest.{IsLine}
 use Rattle.ar_firing.proofs.ImageModes.{line_there}
-use Rattle.ar_firing.proofs.RulesHold.{all_static}
+use Rattle.ar_firing.proofs.RulesHold.{asked_static}
 use Rattle.gts_core.specs.View.{Views}
 use Rattle.gts_core.specs.declared.system.GtsParts.{GtsParts}
 use Rattle.gts_core.proofs.Viewing.{keyed_by}
@@ -47,7 +47,7 @@ module _ (x : Elaborated) (p : GtsParts) (flat : System ℕ) (dropped : List ℕ
   is_keyed = keyed_by p flat h.views
 
   pub is_static : IsStatic flat dropped
-  is_static = all_static flat dropped h.keeps
+  is_static = asked_static h.order flat dropped h.keeps
 
   -- the line of a set
   flat_set : (set events : List ℕ) → IsInFiringOrder (trees_of (λ n. n) f) set events

@@ -1,5 +1,5 @@
 -- The text of a check as it is written, by the parts of a flat system and the edges of its forest.
-use Rattle.std.specs.Prelude.{ℕ, Bool, true, false, if◌then◌else◌, ◌&&◌, ◌||◌, List, [], ◌∷◌, ◌++◌, codes, decimal}
+use Rattle.std.specs.Prelude.{ℕ, Bool, true, false, if◌then◌else◌, ◌&&◌, ◌||◌, Option, List, [], ◌∷◌, ◌++◌, codes, decimal, length}
 use Rattle.ar_base.specs.Numbers.{WayId}
 use Rattle.ar_base.specs.Texts.{line}
 use Rattle.ar_meaning.specs.Runs.{Label}
@@ -14,7 +14,7 @@ use Rattle.cut_check.specs.Flat.{chain_lines}
 use Rattle.cut_check.specs.Verdicts.{events_of}
 use Rattle.cut_check.specs.declared.checking.Verdict.{Verdict}
 use Rattle.cut_check.specs.declared.checking.Verdict.TheVariants.{Good, Fails, Holds}
-use Rattle.check_text.specs.Texts.{last_line}
+use Rattle.check_text.specs.Texts.{is_above, later, above_line, last_line}
 
 -- a verdict
 abbrev pub verdict_text : Verdict → List ℕ
@@ -26,11 +26,35 @@ verdict_text (Holds n) = codes "holds line " ++ decimal n
 abbrev pub verdict_line : ℕ → Verdict → List ℕ
 verdict_line n v = line (codes "line " ++ (decimal n ++ (codes " " ++ verdict_text v)))
 
--- the lines of these verdicts
-abbrev pub verdict_lines : List Chain → List Verdict → List ℕ
-verdict_lines [] vs = []
-verdict_lines (c ∷ cs) [] = []
-verdict_lines (c ∷ cs) (v ∷ vs) = verdict_line c.line v ++ verdict_lines cs vs
+-- the line of this number, which is above the order, or has the first of these verdicts
+abbrev pub chain_line : Bool → ℕ → List Verdict → List ℕ
+chain_line true n vs = above_line n
+chain_line false n [] = []
+chain_line false n (v ∷ vs) = verdict_line n v
+
+-- whether a chain is above the order
+abbrev pub is_chain_above : Option ℕ → Chain → Bool
+is_chain_above order c = is_above order (length c.ways.items)
+
+-- the lines of these chains, of which those that are not above the order have these verdicts
+abbrev pub verdict_lines : Option ℕ → List Chain → List Verdict → List ℕ
+verdict_lines order [] vs = []
+verdict_lines order (c ∷ cs) vs = chain_line (is_chain_above order c) c.line vs
+    ++ verdict_lines order cs (later (is_chain_above order c) vs)
+
+-- the chain, unless it is left out
+abbrev pub kept_chain : Bool → Chain → List Chain → List Chain
+kept_chain true c chains = chains
+kept_chain false c chains = c ∷ chains
+
+-- the chains that are not above the order
+abbrev pub chains_within : Option ℕ → List Chain → List Chain
+chains_within order [] = []
+chains_within order (c ∷ cs) = kept_chain (is_chain_above order c) c (chains_within order cs)
+
+-- a chain's line and its ways
+abbrev pub parts_of : Chain → ℕ × List WayId
+parts_of c = (c.line, c.ways.items)
 
 -- whether each of these numbers is one of the others
 abbrev pub all_among : List ℕ → List ℕ → Bool
@@ -70,8 +94,8 @@ abbrev pub missing_at : GtsParts → List WayId → List (List Label) → List (
 missing_at p ways lines [] = []
 missing_at p ways lines (events ∷ more) = missing_one p ways lines events ++ missing_at p ways lines more
 
--- the whole text
-abbrev pub check_text : GtsParts → List Edge → List Chain → List Verdict → List (List ℕ) → List ℕ
-check_text p edges chains verdicts lists =
-    verdict_lines chains verdicts ++ (missing_text p edges (chain_lines p chains) lists
-    ++ last_line (all_verdicts_good verdicts && all_listed (chain_lines p chains) lists))
+-- the whole text, where the short ones of the chains are checked
+abbrev pub check_text : GtsParts → List Edge → Option ℕ → List Chain → List Chain → List Verdict → List (List ℕ) → List ℕ
+check_text p edges order chains short verdicts lists =
+    verdict_lines order chains verdicts ++ (missing_text p edges (chain_lines p short) lists
+    ++ last_line order (all_verdicts_good verdicts && all_listed (chain_lines p short) lists))

@@ -1,6 +1,6 @@
 //! What follows from the definition of the text of a check.
 
-ghost use Rattle.std.specs.Prelude.{◌↔◌, ℕ, List, map};
+ghost use Rattle.std.specs.Prelude.{◌≡◌, ◌↔◌, ℕ, Option, List, map};
 ghost use Rattle.domains.specs.declared.Value.{Value};
 ghost use Rattle.typed_expr.specs.declared.expr.Expr.{Expr};
 ghost use Rattle.ar_meaning.specs.Systems.{System};
@@ -9,6 +9,7 @@ ghost use Rattle.ar_meaning.specs.Image.{Expr_renames};
 ghost use Rattle.ar_meaning.specs.FlatOf.{IsNumber};
 ghost use Rattle.ar_firing.specs.Cuts.{Cut};
 ghost use Rattle.ar_firing.specs.Listed.{AreListed};
+ghost use Rattle.firable_families.specs.Firable.{AndUpTo};
 ghost use Rattle.gts_core.specs.declared.bound.Chain.{Chain as TheChain};
 ghost use Rattle.gts_core.specs.declared.system.GtsParts.{GtsParts};
 ghost use Rattle.gts_flatten.specs.Elaborating.{Elaborated};
@@ -23,33 +24,38 @@ ghost use Rattle.cut_check.specs.Flat.{AreVerdicts};
 ghost use Rattle.cut_check.specs.Verdicts.{AreTheCuts};
 ghost use Rattle.cut_check.specs.declared.checking.Verdict.{Verdict as TheVerdict};
 ghost use Rattle.cut_text.specs.Printed.{edges_of, things_of, IsForestOf};
-ghost use Rattle.check_text.specs.Printed.{check_text};
-ghost use Rattle.check_text.specs.Texts.{IsCheckText, EndsYes, lines_in};
+ghost use Rattle.check_text.specs.Printed.{check_text, chains_within, parts_of};
+ghost use Rattle.check_text.specs.Texts.{IsCheckText, EndsYes, lines_in, within_order};
 
 use gts_core::laws::one_system;
 
 /// The verdicts of the lines of a list by a flat system, and its listed cuts in firing order, have the
-/// text of the check of the list by the source.
+/// text of the check of the list by the source; where cuts of at most so many events are meant, the verdicts of the short
+/// lines, and the cuts of at most so many.
 pub fn check_of_the_source()
     ensures { (x : Elaborated) (p : GtsParts) (flat : System ℕ) (dropped : List ℕ) (f : TheForest)
         → IsForestOf x p flat dropped f → (observer : Expr Thing) (other : Expr ℕ)
         → Expr_renames (IsNumber (things_of x)) observer other → (wanted : Value)
-        (sets lists : List (List ℕ)) → AreListed (Cut flat dropped other wanted) sets
+        (order : Option ℕ) (sets lists : List (List ℕ))
+        → AreListed (AndUpTo order (Cut flat dropped other wanted)) sets
         → AreInFiringOrder (trees_of (λ n. n) f) sets lists
-        → (chains : List TheChain) (verdicts : List TheVerdict)
-        → AreVerdicts p flat dropped other wanted chains verdicts
-        → IsCheckText (naming_of x.declarations) x.system dropped observer wanted
-        (map (cut_of p) chains) (check_text p (edges_of f.trees.items) chains verdicts lists) }
+        → (chains short : List TheChain) (verdicts : List TheVerdict)
+        → map parts_of short ≡ map parts_of (chains_within order chains)
+        → AreVerdicts p flat dropped other wanted short verdicts
+        → IsCheckText order (naming_of x.declarations) x.system dropped observer wanted
+        (map (cut_of p) chains)
+        (check_text p (edges_of f.trees.items) order chains short verdicts lists) }
 {
     one_system();
 }
 
-/// The text of a check ends with the line `yes` exactly where the sets of the lines are the cuts, each
-/// once, and each line is an order of its events that ends with the wanted value.
+/// The text of a check ends with the line `yes` exactly where the sets of the lines that are checked are the cuts that are
+/// meant, each once, and each of these lines is an order of its events that ends with the wanted value.
 pub fn yes_exactly<V>()
-    ensures { (names : Naming) (sys : System V) (dropped : List ℕ) (observer : Expr V)
+    ensures { (order : Option ℕ) (names : Naming) (sys : System V) (dropped : List ℕ) (observer : Expr V)
         (wanted : Value)
         (cuts : List CutLine) (text : List ℕ)
-        → IsCheckText names sys dropped observer wanted cuts text
-        → (EndsYes text ↔ AreTheCuts sys dropped observer wanted (lines_in cuts)) }
+        → IsCheckText order names sys dropped observer wanted cuts text
+        → (EndsYes order text
+        ↔ AreTheCuts order sys dropped observer wanted (lines_in (within_order order cuts))) }
 {}

@@ -3,5 +3,7 @@
 
 pub mod laws;
 mod printing;
+mod short;
 
-pub use printing::print_check;
+pub use printing::{CheckedList, print_check};
+pub use short::short_chains;

@@ -1,5 +1,5 @@
 -- Laws of checks of lists.
-use Rattle.std.proofs.Common.{◌≡◌, ℕ, ◌-◌, ◌<◌, ◌⊎◌, inl, inr, List, [], ◌∷◌, length, reverse, refl, sym, ap, ◌∙◌, subst, arith}
+use Rattle.std.proofs.Common.{◌≡◌, ℕ, ◌-◌, ◌<◌, ◌⊎◌, inl, inr, List, [], ◌∷◌, Option, length, reverse, refl, sym, ap, ◌∙◌, subst, arith}
 use Rattle.std.proofs.lemmas.Bool.{cases_lt}
 use Rattle.std.proofs.lemmas.List.{length-reverse, reverse-reverse, get_or-reverse}
 use Rattle.std.proofs.lemmas.Option.{get_or_from_slice_get}
@@ -16,9 +16,10 @@ use Rattle.ar_meaning.specs.Runs.{Label}
 use Rattle.ar_meaning.specs.Image.{Expr_renames, IsImage}
 use Rattle.ar_meaning.proofs.ImageFlows.{value_there}
 use Rattle.ar_meaning.proofs.ImageTurned.{image_turned}
-use Rattle.ar_firing.specs.Cuts.{AreEvents, Makes, IsLeast, Cut}
+use Rattle.ar_firing.specs.Cuts.{AreEvents, Makes, IsLeast, Cut, UpTo}
 use Rattle.ar_firing.proofs.ImageCuts.{reaches_there, cut_there, cut_back}
 use Rattle.ar_firing.proofs.LeastSets.{decided, Left, least_refuted, within_then}
+use Rattle.ar_firing.proofs.SmallSets.{part_up_to}
 use Rattle.cut_check.specs.Verdicts.{events_of, IsTrueLine, ContainsLine, HoldsLine, Said, IsGood, Fails, Holds, IsSaid, fails, holds, good, IsListed, IsMissing, IsRight, AreTheCuts}
 
 -- Images
@@ -176,10 +177,11 @@ module _ {V : Type 0} (sys : System V) (dropped : List ℕ) (observer : Expr V) 
   good_free : {n : ℕ} → IsSaid sys dropped observer wanted lines n IsGood → (k : ℕ) → ContainsLine lines n k → ⊥
   good_free (good t h none) = none
 
-  module _ (right : IsRight sys dropped observer wanted lines) where
-    cut_listed : (set : List ℕ) → Cut sys dropped observer wanted set → IsListed lines set
-    cut_listed set c = elim (listed_told lines set)
-        [ inl h ↦ h | inr n ↦ absurd (right.whole set (record { is_cut = c; unlisted = n })) ]
+  module _ (order : Option ℕ) (small : (n : ℕ) (ls : List Label) → Stands lines n ls → UpTo order (events_of ls))
+      (right : IsRight order sys dropped observer wanted lines) where
+    cut_listed : (set : List ℕ) → UpTo order set → Cut sys dropped observer wanted set → IsListed lines set
+    cut_listed set u c = elim (listed_told lines set)
+        [ inl h ↦ h | inr n ↦ absurd (right.whole set u (record { is_cut = c; unlisted = n })) ]
 
     -- a part of a good line that makes the value has all its events
     line_least : (n : ℕ) (ls : List Label) → Stands lines n ls → (part : List ℕ) → Within part (events_of ls)
@@ -192,7 +194,7 @@ module _ {V : Type 0} (sys : System V) (dropped : List ℕ) (observer : Expr V) 
         none : (e : ℕ) → IsOneOf (events_of ls) e → (IsOneOf part e → ⊥) → (set : List ℕ) → Within set part
             → IsLeast (Makes sys dropped observer wanted) set → ⊥
         none e one not set v c =
-            let k = cut_listed set c in
+            let k = cut_listed set (part_up_to order (within_then v w) (small n ls s)) c in
             good_free (right.good n ls s) k.is_line.place (record {
               line = ls;
               is_line = s;
@@ -202,7 +204,7 @@ module _ {V : Type 0} (sys : System V) (dropped : List ℕ) (observer : Expr V) 
               earlier = λ x. absurd (not (v.each e (k.within.each e (x.each e one))));
             })
 
-    pub right_cuts : AreTheCuts sys dropped observer wanted lines
+    pub right_cuts : AreTheCuts order sys dropped observer wanted lines
     right_cuts = record {
       true_lines = λ n ls s. good_true s (right.good n ls s);
       sound = λ n ls s. record { has = line_makes ls (good_true s (right.good n ls s)); least = line_least n ls s };
@@ -218,10 +220,11 @@ module _ {V : Type 0} (sys : System V) (dropped : List ℕ) (observer : Expr V) 
       ];
     }
 
-  pub cuts_right : AreTheCuts sys dropped observer wanted lines → IsRight sys dropped observer wanted lines
-  cuts_right c = record {
+  pub cuts_right : (order : Option ℕ) → AreTheCuts order sys dropped observer wanted lines
+      → IsRight order sys dropped observer wanted lines
+  cuts_right order c = record {
     good = λ n ls s. good s (c.true_lines n ls s) (free n);
-    whole = λ set m. m.unlisted (c.whole set m.is_cut);
+    whole = λ set u m. m.unlisted (c.whole set u m.is_cut);
   }
     where
       free : (n k : ℕ) → ContainsLine lines n k → ⊥

@@ -13,3 +13,4 @@ pub mod Relabelled
 mod SameLines
 pub mod Source
 pub mod TableLemmas
+pub mod UpToOrder

@@ -3,14 +3,13 @@ use Rattle.std.proofs.Common.{◌≡◌, ◌<◌, ◌-◌, ◌^◌, ◌≤◌, �
 use Rattle.std.proofs.lemmas.Option.{get_or_from_slice_get}
 use Rattle.ar_base.specs.Lists.{Stands}
 use Rattle.ar_base.specs.Numbers.{EventId, WayId}
-use Rattle.ar_base.specs.Texts.{line}
 use Rattle.ar_base.proofs.Standing.{one_here, one_first, one_rest, stands_map, stands_get}
 use Rattle.ar_base.proofs.Lines.{line_after}
 use Rattle.gts_core.specs.declared.system.GtsParts.{GtsParts}
 use Rattle.min_cuts.specs.Kept.{numbers}
 use Rattle.min_cuts.specs.Gives.{Gives}
 use Rattle.cut_text.specs.Tables.{way_found, way_at, HasWay, HaveWays, AllHaveWays}
-use Rattle.cut_text.specs.Texts.{count_line, fault_line}
+use Rattle.cut_text.specs.Texts.{count_line, fault_line, order_end}
 
 pub fault_pieces : (set fault : List ℕ)
     → codes "fault: " ++ (set ++ (codes ": " ++ (fault ++ 10 ∷ []))) ≡ fault_line set fault
@@ -21,10 +20,14 @@ fault_pieces set fault =
 min_is : (n m : ℕ) → n ≤ m → min n m ≡ n
 min_is n m h = omega arith
 
-pub count_pieces : (n : ℕ) → n ≤ 2 ^ 128 - 1 → codes "count " ++ (decimal n ++ 10 ∷ []) ≡ count_line n
-count_pieces n h =
-    line_after (codes "count ") (decimal n) _ refl
-    ∙ ap (λ (z : ℕ). line (codes "count " ++ decimal z)) (sym (min_is n (2 ^ 128 - 1) h))
+pub count_pieces : (order : Option ℕ) (n : ℕ) → n ≤ 2 ^ 128 - 1
+    → codes "count " ++ (decimal n ++ order_end order) ≡ count_line order n
+count_pieces order n h =
+    ap (λ (z : ℕ). codes "count " ++ (decimal z ++ order_end order)) (sym (min_is n (2 ^ 128 - 1) h))
+
+-- the end of a line up to an order
+pub order_pieces : (k : ℕ) → codes " up to order " ++ (decimal k ++ 10 ∷ []) ≡ order_end (Some k)
+order_pieces k = line_after (codes " up to order ") (decimal k) _ refl
 
 -- the way that is read for an event
 pub read_way : (ways : List WayId) (e : ℕ) (w d : WayId) → Stands ways e w → (get_or ways e d).n ≡ way_at ways e

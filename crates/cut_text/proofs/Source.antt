@@ -1,5 +1,5 @@
 -- What is printed by the parts of a flat system is the text of its source.
-use Rattle.std.proofs.Common.{◌≡◌, ◌-◌, ◌^◌, min, codes, decimal, ℕ, List, [], ◌∷◌, ◌++◌, map, reverse, length, refl, sym, ◌∙◌, ap, subst, arith}
+use Rattle.std.proofs.Common.{◌≡◌, ◌-◌, ◌^◌, min, codes, decimal, ℕ, Option, List, [], ◌∷◌, ◌++◌, map, reverse, length, refl, sym, ◌∙◌, ap, subst, arith}
 use Rattle.domains.specs.declared.Value.{Value}
 use Rattle.ar_base.specs.Lists.{Along}
 use Rattle.ar_base.specs.Lists as l
@@ -22,11 +22,12 @@ use Rattle.ar_firing.specs.Static.{IsStatic}
 use Rattle.ar_firing.specs.Cuts.{Reaches, Conflicts, Makes, Cut, ConflictSet}
 use Rattle.ar_firing.specs.Forest.{IsLine}
 use Rattle.ar_firing.specs.Listed.{AreListed}
+use Rattle.firable_families.specs.Firable.{AndUpTo}
 use Rattle.ar_firing.proofs.ImageCuts.{reaches_there, conflicts_there, makes_there, cut_there, cut_back, conflict_set_there}
 use Rattle.ar_firing.proofs.ImageModes.{line_there}
 use Rattle.ar_firing.proofs.OneListing.{listed_as}
 use Rattle.ar_firing.proofs.OrderedSets.{undropped}
-use Rattle.ar_firing.proofs.RulesHold.{all_static}
+use Rattle.ar_firing.proofs.RulesHold.{asked_static}
 use Rattle.gts_core.specs.View.{Views}
 use Rattle.gts_core.specs.declared.system.GtsParts.{GtsParts}
 use Rattle.gts_core.proofs.Viewing.{keyed_by}
@@ -41,14 +42,15 @@ use Rattle.min_cuts.specs.Sizes.{count}
 use Rattle.text_pieces.specs.WayLabels.{label_of, way_label}
 use Rattle.text_pieces.proofs.Ways.{label_alike}
 use Rattle.cut_text.specs.Printed.{edges_of, way_in, labels_in, events_text, sets_text, cuts_text, conflict_text, things_of, IsForestOf}
-use Rattle.cut_text.specs.Texts.{braced, labels_text, label_lists, count_line, fault_line, IsCutText, IsConflictText}
+use Rattle.cut_text.specs.Texts.{braced, labels_text, label_lists, count_line, fault_line, order_end, IsCutText, IsConflictText}
+use Rattle.cut_text.proofs.UpToOrder.{has_other}
 use Rattle.cut_text.proofs.FlatLines.{flat_line}
 
 -- a count that was cut off has the same line
-counted : (n : ℕ) → count_line (min n (2 ^ 128 - 1)) ≡ count_line n
-counted n =
+counted : (order : Option ℕ) (n : ℕ) → count_line order (min n (2 ^ 128 - 1)) ≡ count_line order n
+counted order n =
     let e : min (min n (2 ^ 128 - 1)) (2 ^ 128 - 1) ≡ min n (2 ^ 128 - 1) = omega arith in
-    ap (λ (z : ℕ). line (codes "count " ++ decimal z)) e
+    ap (λ (z : ℕ). codes "count " ++ (decimal z ++ order_end order)) e
 
 module _ (x : Elaborated) (p : GtsParts) (flat : System ℕ) (dropped : List ℕ) (f : Forest)
     (one : (a b : System ℕ) → Views p a → Views p b → a ≡ b) (h : IsForestOf x p flat dropped f) where
@@ -69,7 +71,7 @@ module _ (x : Elaborated) (p : GtsParts) (flat : System ℕ) (dropped : List ℕ
   is_keyed = keyed_by p flat h.views
 
   pub is_static : IsStatic flat dropped
-  is_static = all_static flat dropped h.keeps
+  is_static = asked_static h.order flat dropped h.keeps
 
   -- the line of a set
   flat_set : (set events : List ℕ) → IsInFiringOrder (trees_of (λ n. n) f) set events
@@ -115,35 +117,38 @@ module _ (x : Elaborated) (p : GtsParts) (flat : System ℕ) (dropped : List ℕ
   -- the cuts
   module _ (observer : Expr Thing) (other : Expr ℕ) (q : Expr_renames (IsNumber things) observer other)
       (wanted : Value) where
-    pub cut_text : (sets lists : List (List ℕ)) → AreListed (Cut flat dropped other wanted) sets
+    pub cut_text : (order : Option ℕ) (sets lists : List (List ℕ))
+        → AreListed (AndUpTo order (Cut flat dropped other wanted)) sets
         → AreInFiringOrder (trees_of (λ n. n) f) sets lists
-        → IsCutText names x.system dropped observer wanted (cuts_text p edges lists (count sets))
-    cut_text sets lists listed g = record {
+        → IsCutText order names x.system dropped observer wanted (cuts_text p edges order lists (count sets))
+    cut_text order sets lists listed g = record {
       sets = sets;
       are_listed = listed_as
+          (has_other order (Cut flat dropped other wanted) (Cut x.system dropped observer wanted)
           (λ s c. cut_back (IsNumber things) x.system flat (flat_image things x.system flat is_flat_of) dropped
-          observer other q wanted s c)
+          observer other q wanted s c))
+          (has_other order (Cut x.system dropped observer wanted) (Cut flat dropped other wanted)
           (λ s c. cut_there (IsNumber things) x.system flat
-          (flat_image things x.system flat is_flat_of) dropped observer other q wanted s c)
+          (flat_image things x.system flat is_flat_of) dropped observer other q wanted s c))
           listed;
       lines = map (labels_in p edges) lists;
       are_lines = lines_of g;
-      is_text = ap (λ (z : List ℕ). z ++ count_line (count sets)) (texts_are lists)
+      is_text = ap (λ (z : List ℕ). z ++ count_line order (count sets)) (texts_are lists)
           ∙ ap (λ (z : List ℕ). label_lists names x.system (map (labels_in p edges) lists) ++ z)
-          (counted (length sets));
+          (counted order (length sets));
     }
 
     -- a line of the source's cut replays
-    pub replays : ((set : List ℕ) (ls : List Label) → Makes flat dropped other wanted set → IsLine flat dropped set ls
+    pub replays : (set : List ℕ) → ((ls : List Label) → Makes flat dropped other wanted set → IsLine flat dropped set ls
         → (t : List Value) × Reaches flat dropped (reverse ls) t × Yields (HasValue flat.net t)
         (out-Expr ℕ other) wanted)
-        → (set : List ℕ) (ls : List Label) → Makes x.system dropped observer wanted set → IsLine x.system dropped set ls
+        → (ls : List Label) → Makes x.system dropped observer wanted set → IsLine x.system dropped set ls
         → (t : List Value) × Reaches x.system dropped (reverse ls) t × Reaches x.system [] (reverse ls) t
         × Yields (HasValue x.system.net t) (out-Expr Thing observer) wanted
-    replays flat_replays set ls m is =
+    replays set flat_replays ls m is =
         let there = flat_image things x.system flat is_flat_of in
         let flat_is = line_there (IsNumber things) x.system flat there dropped is in
-        let r = flat_replays set ls (makes_there (IsNumber things) x.system flat there dropped observer other q wanted
+        let r = flat_replays ls (makes_there (IsNumber things) x.system flat there dropped observer other q wanted
         set m) flat_is in
         let back = flat_back things x.system flat is_flat_of in
         let reaches = reaches_there (turned (IsNumber things)) flat x.system back dropped r.1 in
@@ -159,20 +164,23 @@ module _ (x : Elaborated) (p : GtsParts) (flat : System ℕ) (dropped : List ℕ
       (labels_in p edges events)
   first_line set sets events lists (l.one_and r rs) = flat_set set events r
 
-  pub conflict_is : (set : List ℕ) (sets : List (List ℕ)) (events : List ℕ) (lists : List (List ℕ)) (fault : FlowFault)
-      → AreListed (ConflictSet flat dropped) (set ∷ sets) → AreInFiringOrder (trees_of (λ n. n) f) (set ∷ sets)
+  pub conflict_is : (order : Option ℕ) (set : List ℕ) (sets : List (List ℕ)) (events : List ℕ) (lists : List (List ℕ))
+      (fault : FlowFault)
+      → AreListed (AndUpTo order (ConflictSet flat dropped)) (set ∷ sets) → AreInFiringOrder (trees_of (λ n. n) f) (set ∷ sets)
       (events ∷ lists)
       → Conflicts flat dropped (reverse (labels_in p edges events)) fault
-      → IsConflictText names x.system dropped (conflict_text p edges events fault)
-  conflict_is set sets events lists fault listed g k =
+      → IsConflictText order names x.system dropped (conflict_text p edges events fault)
+  conflict_is order set sets events lists fault listed g k =
       let there = flat_image things x.system flat is_flat_of in
       let back = flat_back things x.system flat is_flat_of in
       record {
         set = set;
         later = sets;
         are_listed = listed_as
-            (λ s c. conflict_set_there (turned (IsNumber things)) flat x.system back dropped s c)
-            (λ s c. conflict_set_there (IsNumber things) x.system flat there dropped s c)
+            (has_other order (ConflictSet flat dropped) (ConflictSet x.system dropped)
+            (λ s c. conflict_set_there (turned (IsNumber things)) flat x.system back dropped s c))
+            (has_other order (ConflictSet x.system dropped) (ConflictSet flat dropped)
+            (λ s c. conflict_set_there (IsNumber things) x.system flat there dropped s c))
             listed;
         labels = labels_in p edges events;
         is_line = line_there (turned (IsNumber things)) flat x.system back dropped (first_line set sets events lists g);

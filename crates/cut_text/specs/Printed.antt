@@ -1,6 +1,6 @@
 -- The text of a listing of cuts and of a conflict as it is written, by the parts of a flat system and
 -- the edges of its forest.
-use Rattle.std.specs.Prelude.{◌≡◌, ◌==◌, ℕ, if◌then◌else◌, List, [], ◌∷◌, ◌++◌, map}
+use Rattle.std.specs.Prelude.{◌≡◌, ◌==◌, ℕ, if◌then◌else◌, Option, List, [], ◌∷◌, ◌++◌, map}
 use Rattle.ar_base.specs.Lists.{IsOneOf}
 use Rattle.ar_base.specs.Texts.{line}
 use Rattle.ar_meaning.specs.Systems.{System}
@@ -8,7 +8,7 @@ use Rattle.ar_meaning.specs.Flows.{FlowFault}
 use Rattle.ar_meaning.specs.Runs.{Label}
 use Rattle.ar_meaning.specs.TraceText.{flow_fault_text}
 use Rattle.ar_firing.specs.Forest.{IsForest}
-use Rattle.ar_firing.specs.Rules.{KeepsAll}
+use Rattle.ar_firing.specs.Rules.{KeepsUpTo}
 use Rattle.gts_core.specs.View.{Views}
 use Rattle.gts_core.specs.declared.system.GtsParts.{GtsParts}
 use Rattle.gts_flatten.specs.Elaborating.{Elaborated}
@@ -47,8 +47,8 @@ sets_text p edges [] = []
 sets_text p edges (events ∷ more) = line (events_text p edges events) ++ sets_text p edges more
 
 -- the whole text of so many cuts
-abbrev pub cuts_text : GtsParts → List Edge → List (List ℕ) → ℕ → List ℕ
-cuts_text p edges sets n = sets_text p edges sets ++ count_line n
+abbrev pub cuts_text : GtsParts → List Edge → Option ℕ → List (List ℕ) → ℕ → List ℕ
+cuts_text p edges order sets n = sets_text p edges sets ++ count_line order n
 
 -- the whole text of a conflict
 abbrev pub conflict_text : GtsParts → List Edge → List ℕ → FlowFault → List ℕ
@@ -74,12 +74,13 @@ pub record AreOfEdges (edges : List Edge) (sets : List (List ℕ)) : Type 0 wher
 abbrev pub things_of : Elaborated → List Thing
 things_of x = variables x.declarations.model x.declarations.units
 
--- the parts are those of a flat system of the source, which keeps the rules of the static fragment, and
--- the forest is that of this system
+-- the parts are those of a flat system of the source, which keeps the rules of the static fragment that are asked where cuts of
+-- at most so many events are, and the forest is that of this system
 pub record IsForestOf (x : Elaborated) (p : GtsParts) (flat : System ℕ) (dropped : List ℕ)
     (f : Forest) : Type 0 where
+  pub order : Option ℕ
   pub is_flat : IsFlat x p
   pub views : Views p flat
-  pub keeps : KeepsAll flat dropped
+  pub keeps : KeepsUpTo order flat dropped
   pub is_forest : IsForest flat dropped (trees_of (number_in p) f)
   pub own : OwnTheirWays p f.trees.items

@@ -1,6 +1,6 @@
 //! What follows from the definitions of the texts of cuts and of conflicts.
 
-ghost use Rattle.std.specs.Prelude.{ℕ, Bool, List, [], ◌∷◌, reverse};
+ghost use Rattle.std.specs.Prelude.{ℕ, Bool, Option, List, [], ◌∷◌, reverse};
 ghost use Rattle.ar_base.specs.Lists.{IsOneOf};
 ghost use Rattle.domains.specs.declared.Value.{Value};
 ghost use Rattle.typed_expr.specs.Yields.{Yields};
@@ -12,7 +12,8 @@ ghost use Rattle.ar_meaning.specs.Runs.{Label};
 ghost use Rattle.ar_meaning.specs.Image.{Expr_renames};
 ghost use Rattle.ar_meaning.specs.FlatOf.{IsNumber};
 ghost use Rattle.ar_firing.specs.Static.{IsKeyedStatic};
-ghost use Rattle.ar_firing.specs.Cuts.{Reaches, Conflicts, Cut, ConflictSet, IsConflictFree};
+ghost use Rattle.ar_firing.specs.Cuts.{Reaches, Conflicts, Cut, ConflictSet, IsConflictFreeUpTo};
+ghost use Rattle.firable_families.specs.Firable.{AndUpTo};
 ghost use Rattle.ar_firing.specs.Forest.{IsForest, IsLine};
 ghost use Rattle.ar_firing.specs.Listed.{AreListed};
 ghost use Rattle.ar_firing.specs.Operands.{Agrees};
@@ -47,41 +48,42 @@ pub fn edges_of_forests()
 
 /// The text of cuts and of a conflict over a flat system is that of its source.
 ///
-/// - `cuts_of_the_source`: The listed cuts of a flat system, each printed in firing order, have the text of the
-///   cuts of its source.
+/// - `cuts_of_the_source`: The listed cuts of a flat system, all or those of at most so many events, each printed in
+///   firing order, have the text of the cuts of its source.
 /// - `conflicts_of_the_source`, `conflict_text_of_the_source`: The first listed conflict set of a flat system
 ///   meets a flow fault in firing order, and printed with this it has the text of the conflict of its source.
 /// - `lines_of_the_source_replay`: The same of a source, by tests of its flat system.
 pub fn cuts_of_the_source()
     ensures cuts_of_the_source { (x : Elaborated) (p : GtsParts) (flat : System ℕ) (dropped : List ℕ) (f : TheForest)
         → IsForestOf x p flat dropped f → (observer : Expr Thing) (other : Expr ℕ)
-        → Expr_renames (IsNumber (things_of x)) observer other → (wanted : Value)
-        (sets lists : List (List ℕ)) → AreListed (Cut flat dropped other wanted) sets
+        → Expr_renames (IsNumber (things_of x)) observer other → (wanted : Value) (order : Option ℕ)
+        (sets lists : List (List ℕ)) → AreListed (AndUpTo order (Cut flat dropped other wanted)) sets
         → AreInFiringOrder (trees_of (λ n. n) f) sets lists
-        → IsCutText (naming_of x.declarations) x.system dropped observer wanted
-        (cuts_text p (edges_of f.trees.items) lists (count sets)) }
+        → IsCutText order (naming_of x.declarations) x.system dropped observer wanted
+        (cuts_text p (edges_of f.trees.items) order lists (count sets)) }
     ensures conflicts_of_the_source { (x : Elaborated) (p : GtsParts) (flat : System ℕ) (dropped : List ℕ)
         (f : TheForest) → IsForestOf x p flat dropped f → (other : Expr ℕ) (wanted : Value)
         (conflict top : List ℕ → Bool) → Agrees flat dropped other wanted conflict top
-        → (set : List ℕ) (sets : List (List ℕ)) (events : List ℕ) (lists : List (List ℕ))
-        → AreListed (ConflictSet flat dropped) (set ∷ sets)
+        → (order : Option ℕ) (set : List ℕ) (sets : List (List ℕ)) (events : List ℕ) (lists : List (List ℕ))
+        → AreListed (AndUpTo order (ConflictSet flat dropped)) (set ∷ sets)
         → AreInFiringOrder (trees_of (λ n. n) f) (set ∷ sets) (events ∷ lists)
         → (fault : FlowFault)
         × Conflicts flat dropped (reverse (labels_in p (edges_of f.trees.items) events)) fault }
     ensures conflict_text_of_the_source { (x : Elaborated) (p : GtsParts) (flat : System ℕ) (dropped : List ℕ)
         (f : TheForest) → IsForestOf x p flat dropped f
-        → (set : List ℕ) (sets : List (List ℕ)) (events : List ℕ) (lists : List (List ℕ))
-        (fault : FlowFault) → AreListed (ConflictSet flat dropped) (set ∷ sets)
+        → (order : Option ℕ) (set : List ℕ) (sets : List (List ℕ)) (events : List ℕ) (lists : List (List ℕ))
+        (fault : FlowFault) → AreListed (AndUpTo order (ConflictSet flat dropped)) (set ∷ sets)
         → AreInFiringOrder (trees_of (λ n. n) f) (set ∷ sets) (events ∷ lists)
         → Conflicts flat dropped (reverse (labels_in p (edges_of f.trees.items) events)) fault
-        → IsConflictText (naming_of x.declarations) x.system dropped
+        → IsConflictText order (naming_of x.declarations) x.system dropped
         (conflict_text p (edges_of f.trees.items) events fault) }
     ensures lines_of_the_source_replay { (x : Elaborated) (p : GtsParts) (flat : System ℕ) (dropped : List ℕ) (f : TheForest)
         → IsForestOf x p flat dropped f → (observer : Expr Thing) (other : Expr ℕ)
         → Expr_renames (IsNumber (things_of x)) observer other
         → (wanted : Value) (conflict top : List ℕ → Bool)
-        → Agrees flat dropped other wanted conflict top → IsConflictFree flat dropped
-        → (sets : List (List ℕ)) → AreListed (Cut x.system dropped observer wanted) sets
+        → Agrees flat dropped other wanted conflict top
+        → (order : Option ℕ) → IsConflictFreeUpTo order flat dropped
+        → (sets : List (List ℕ)) → AreListed (AndUpTo order (Cut x.system dropped observer wanted)) sets
         → (set : List ℕ) → IsOneOf sets set → (ls : List Label) → IsLine x.system dropped set ls
         → (t : List Value) × Reaches x.system dropped (reverse ls) t
         × Reaches x.system [] (reverse ls) t
@@ -96,8 +98,9 @@ pub fn cuts_of_the_source()
 pub fn lines_replay<V>()
     ensures { (sys : System V) (dropped : List ℕ) → IsKeyedStatic sys dropped
         → (observer : Expr V) (wanted : Value) (conflict top : List ℕ → Bool)
-        → Agrees sys dropped observer wanted conflict top → IsConflictFree sys dropped
-        → (sets : List (List ℕ)) → AreListed (Cut sys dropped observer wanted) sets
+        → Agrees sys dropped observer wanted conflict top
+        → (order : Option ℕ) → IsConflictFreeUpTo order sys dropped
+        → (sets : List (List ℕ)) → AreListed (AndUpTo order (Cut sys dropped observer wanted)) sets
         → (set : List ℕ) → IsOneOf sets set → (ls : List Label) → IsLine sys dropped set ls
         → (t : List Value) × Reaches sys dropped (reverse ls) t × Reaches sys [] (reverse ls) t
         × Yields (HasValue sys.net t) (out-Expr V observer) wanted }

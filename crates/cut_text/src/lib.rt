@@ -11,5 +11,5 @@ mod tables;
 
 pub use faults::PrintFault;
 pub use forest_printing::print_forest;
-pub use printing::{print_conflict, print_cuts, write_set};
+pub use printing::{print_conflict, print_cuts, write_order_end, write_set};
 pub use tables::event_ways;

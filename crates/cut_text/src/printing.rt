@@ -1,6 +1,6 @@
 //! The lines of sets of events.
 
-ghost use Rattle.std.specs.Prelude.{◌≡◌, ℕ, List, ◌∷◌, true, false, codes, reverse};
+ghost use Rattle.std.specs.Prelude.{◌≡◌, ℕ, List, ◌∷◌, Some, true, false, codes, reverse};
 ghost use Rattle.ar_base.specs.Texts.{separated};
 ghost use Rattle.ar_io.specs.Writing.{Writes};
 ghost use Rattle.ar_meaning.specs.Flows.{FlowFault as MetFault};
@@ -17,14 +17,14 @@ ghost use Rattle.min_cuts.specs.Kept.{numbers};
 ghost use Rattle.cut_text.specs.Answers.{Prints};
 ghost use Rattle.cut_text.specs.Printed.{edges_of, labels_in, cuts_text, conflict_text};
 ghost use Rattle.cut_text.specs.Printed.{HaveOneWay, AreOfEdges};
-ghost use Rattle.cut_text.specs.Texts.{braced, count_line, fault_line};
+ghost use Rattle.cut_text.specs.Texts.{braced, count_line, fault_line, order_end};
 ghost use Rattle.cut_text.specs.Tables.{texts_at, lines_at, way_at, HasWay, HaveWays, AllHaveWays};
 
 use crate::conflicts::fault_met;
 use crate::faults::PrintFault;
 use crate::tables::event_ways;
 use ar_base::{EventId, WayId};
-use ar_io::{Sink, SinkFailed, write_text, write_wide};
+use ar_io::{Sink, SinkFailed, write_number, write_text, write_wide};
 use flow_propagate::FlowFault;
 use gts_core::Gts;
 use min_cuts::Lister;
@@ -34,12 +34,14 @@ use text_pieces::{print_flow_fault, print_label};
 
 /// Writes the text of a listing of cuts: for each set of the lister, in its order, a line `{a, b}`
 /// with the labels of its events' edges as they stand in the set, and last `count N` with the number
-/// of cuts. Memory is taken before anything is written.
+/// of cuts and, where they are those of at most so many events, up to which order. Memory is taken before anything is
+/// written.
 pub fn print_cuts<K: Sink>(
     alloc: Global,
     gts: &Gts,
     forest: &Forest,
     mut lister: Lister,
+    order: Option<u32>,
     count: u128,
     out: &mut K,
 ) -> Result<(), PrintFault>
@@ -47,11 +49,11 @@ pub fn print_cuts<K: Sink>(
     requires one_way { HaveOneWay (edges_of forest.now.trees.items) }
     requires known { AreOfEdges (edges_of forest.now.trees.items) lister }
     ensures { Prints (K.state out.old) (K.state out.new)
-        (cuts_text gts.now (edges_of forest.now.trees.items) lister count) result }
+        (cuts_text gts.now (edges_of forest.now.trees.items) order lister count) result }
 {
     let ways = event_ways(alloc, gts, forest)?;
     set_lines(out, gts, &ways, &mut lister)?;
-    print_count(out, count)?;
+    print_count(out, order, count)?;
     Ok(())
 }
 
@@ -127,12 +129,32 @@ fn fault_line<K: Sink>(
     write_text(out, "\n")
 }
 
-// How many sets there are.
-fn print_count<K: Sink>(out: &mut K, count: u128) -> Result<(), SinkFailed>
-    ensures { Writes (K.state out.old) (K.state out.new) (count_line count) result }
+// How many sets there are, and up to which order.
+fn print_count<K: Sink>(out: &mut K, order: Option<u32>, count: u128) -> Result<(), SinkFailed>
+    ensures { Writes (K.state out.old) (K.state out.new) (count_line order count) result }
 {
     write_text(out, "count ")?;
     write_wide(out, count)?;
+    write_order_end(out, order)
+}
+
+/// Writes the end of a line about cuts: ` up to order K` and the line's end where those of at most K events are asked for,
+/// else the line's end alone.
+pub fn write_order_end<K: Sink>(out: &mut K, order: Option<u32>) -> Result<(), SinkFailed>
+    ensures { Writes (K.state out.old) (K.state out.new) (order_end order) result }
+{
+    match order {
+        Some(order) => put_order(out, order),
+        None => write_text(out, "\n"),
+    }
+}
+
+// Writes the end of a line about the cuts of at most so many events.
+fn put_order<K: Sink>(out: &mut K, order: u32) -> Result<(), SinkFailed>
+    ensures { Writes (K.state out.old) (K.state out.new) (order_end (Some order)) result }
+{
+    write_text(out, " up to order ")?;
+    write_number(out, order)?;
     write_text(out, "\n")
 }
 

@@ -1,5 +1,5 @@
 -- From a text to its source.
-use Rattle.std.proofs.Common.{◌≡◌, ℕ, List, Option, Result, Ok, Err}
+use Rattle.std.proofs.Common.{ℕ, List, Option, Result, Ok, Err}
 use Rattle.ar_base.specs.Stages.{Then, refuses, passes, Keeps, Fits}
 use Rattle.ar_base.specs.declared.counts.Count.{Count}
 use Rattle.ar_base.specs.declared.counts.Count.TheVariants.{Variables, Events, TreeNodes, Ways as TheWays, WayParts, ExpressionNodes}
@@ -17,7 +17,6 @@ use Rattle.source_meaning.specs.Systems.{Declarations, Declares, Binds, name_bre
 use Rattle.sync_expand.specs.Counting.{way_rules}
 use Rattle.gts_flatten.specs.Elaborating.{Elaborated, BreaksWayRule, HasSystem, Flattens, most_ways_counted, way_parts_counted, nodes_counted}
 use Rattle.job_stages.specs.Elaborates.{Parses, Tables, rooted, Systems, Ruled, passes as ruled_passes, breaks, exceeds, Elaborates}
-use Rattle.job_stages.specs.declared.refusals.Refusal.{Refusal}
 use Rattle.job_stages.specs.declared.refusals.Refusal.TheVariants as refusal
 use Rattle.existence_laws.specs.Answered.{HasAnswer}
 use Rattle.existence_laws.proofs.Stages.{then_answered, keeps_answered, fits_answered}

@@ -1,15 +1,13 @@
 -- Stages that are answered, put together.
-use Rattle.std.proofs.Common.{◌≡◌, ℕ, zero, suc, ◌<◌, ◌≤◌, ◌⊎◌, inl, inr, Bool, true, false, leb, List, Option, Some, None, Result, Ok, Err, refl, sym, ap, ◌∙◌, subst, arith}
+use Rattle.std.proofs.Common.{◌≡◌, ℕ, zero, suc, ◌<◌, ◌⊎◌, inl, inr, Bool, true, false, leb, List, Result, Ok, Err, refl, ◌∙◌, arith}
 use Rattle.std.proofs.lemmas.Bool.{leb-true, leb-false}
-use Rattle.ar_base.specs.Breach.{IsEarlier, IsBroken, AreKept}
+use Rattle.ar_base.specs.Breach.{IsBroken, AreKept}
 use Rattle.ar_base.specs.Counts.{limit_of}
-use Rattle.ar_base.specs.Lists.{Stands, IsOneOf, IsFirst, HasNo}
+use Rattle.ar_base.specs.Lists.{IsOneOf}
 use Rattle.ar_base.specs.Stages.{Then, refuses, passes, Where, Keeps, kept, broken, Fits, fits, passes_it}
 use Rattle.ar_base.specs.declared.counts.Count.{Count}
-use Rattle.ar_base.specs.declared.faults.RuleFault.{RuleFault}
 use Rattle.ar_base.specs.declared.faults.RuleFault.TheVariants.{Rule, Limit}
 use Rattle.ar_base.specs.declared.places.Place.{Place}
-use Rattle.ar_base.proofs.Standing.{stands_none, stands_one}
 use Rattle.existence_laws.specs.Answered.{HasAnswer}
 
 -- a goal that is refuted may ask whether something is so

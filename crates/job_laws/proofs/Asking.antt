@@ -11,7 +11,7 @@ use Rattle.job_inputs.specs.CutLists.{CutLine, CutList, HaveOneMeaning}
 use Rattle.job_inputs.specs.Lines.{pieces}
 use Rattle.job_inputs.specs.Scripts.{BadLine, Commands}
 use Rattle.run_words.specs.Commands.{shape_of, is_script, is_list}
-use Rattle.run_words.specs.declared.jobs.Job.{Job}
+use Rattle.run_words.specs.declared.jobs.Asked.{Asked}
 use Rattle.run_words.specs.declared.shapes.Shape.{Shape}
 use Rattle.job_inputs.specs.Wanting.{IsWanted, NamesObserver, NamesNone, WantsNone}
 use Rattle.job_laws.proofs.Labels.{along_one, one_event, one_meaning}
@@ -211,18 +211,18 @@ module _ (observer : Option (List ℕ)) where
 
 -- All of them
 
-module _ (job : Job) (texts : List (List ℕ)) where
+module _ (asked : Asked) (texts : List (List ℕ)) where
   abbrev shape : Shape
-  shape = shape_of job.command
+  shape = shape_of asked.job.command
 
   abbrev Drop : Ready → Result Ready Refusal → Type 0
-  Drop = Drops job.dropped
+  Drop = Drops asked.job.dropped
 
   abbrev Want : Ready → Result Ready Refusal → Type 0
-  Want = Where (has_table job.command) (Wanting (observer_asked job) job.value)
+  Want = Where (has_table asked.job.command) (Wanting (observer_asked asked) asked.job.value)
 
   abbrev Show : Ready → Result Ready Refusal → Type 0
-  Show = Where shape.explains (Showing job.observer)
+  Show = Where shape.explains (Showing asked.job.observer)
 
   abbrev Script : Ready → Result Ready Refusal → Type 0
   Script = Where (is_script shape.files) (Scripted texts)
@@ -231,27 +231,27 @@ module _ (job : Job) (texts : List (List ℕ)) where
   Cuts = Where (is_list shape.files) (ListsCuts texts)
 
   want_one : IsOne OfDefinite Want
-  want_one = where_one OfDefinite (Wanting (observer_asked job) job.value) (has_table job.command)
-      (wanting_one (observer_asked job) job.value)
+  want_one = where_one OfDefinite (Wanting (observer_asked asked) asked.job.value) (has_table asked.job.command)
+      (wanting_one (observer_asked asked) asked.job.value)
 
   want_on : PassesOn OfDefinite Want OfDefinite
-  want_on = where_on OfDefinite (Wanting (observer_asked job) job.value) (has_table job.command)
-      (wanting_on (observer_asked job) job.value)
+  want_on = where_on OfDefinite (Wanting (observer_asked asked) asked.job.value) (has_table asked.job.command)
+      (wanting_on (observer_asked asked) asked.job.value)
 
   show_one : IsOne OfDefinite Show
-  show_one = where_one OfDefinite (Showing job.observer) shape.explains (showing_one job.observer)
+  show_one = where_one OfDefinite (Showing asked.job.observer) shape.explains (showing_one asked.job.observer)
 
   show_on : PassesOn OfDefinite Show OfDefinite
-  show_on = where_on OfDefinite (Showing job.observer) shape.explains (showing_on job.observer)
+  show_on = where_on OfDefinite (Showing asked.job.observer) shape.explains (showing_on asked.job.observer)
 
-  words_one : IsOne OfDefinite (AsksByWords job)
+  words_one : IsOne OfDefinite (AsksByWords asked)
   words_one =
-      then_one OfDefinite OfDefinite Drop (Then Want Show) (drops_one job.dropped) (drops_on job.dropped)
+      then_one OfDefinite OfDefinite Drop (Then Want Show) (drops_one asked.job.dropped) (drops_on asked.job.dropped)
       (then_one OfDefinite OfDefinite Want Show want_one want_on show_one)
 
-  words_on : PassesOn OfDefinite (AsksByWords job) OfDefinite
+  words_on : PassesOn OfDefinite (AsksByWords asked) OfDefinite
   words_on =
-      then_on OfDefinite OfDefinite Drop (Then Want Show) OfDefinite (drops_on job.dropped)
+      then_on OfDefinite OfDefinite Drop (Then Want Show) OfDefinite (drops_on asked.job.dropped)
       (then_on OfDefinite OfDefinite Want Show OfDefinite want_on show_on)
 
   script_one : IsOne OfDefinite Script
@@ -266,12 +266,12 @@ module _ (job : Job) (texts : List (List ℕ)) where
   cuts_on : PassesOn OfDefinite Cuts OfDefinite
   cuts_on = where_on OfDefinite (ListsCuts texts) (is_list shape.files) (lists_on texts)
 
-  pub asks_one : OneList → IsOne IsDefinite (Asks job texts)
+  pub asks_one : OneList → IsOne IsDefinite (Asks asked texts)
   asks_one one_list x is a b h k =
-      then_one OfDefinite OfDefinite Script (Then Cuts (AsksByWords job)) script_one script_on
-      (then_one OfDefinite OfDefinite Cuts (AsksByWords job) (cuts_one one_list) cuts_on words_one) (bare x) is a b h k
+      then_one OfDefinite OfDefinite Script (Then Cuts (AsksByWords asked)) script_one script_on
+      (then_one OfDefinite OfDefinite Cuts (AsksByWords asked) (cuts_one one_list) cuts_on words_one) (bare asked.order x) is a b h k
 
-  pub asks_on : PassesOn IsDefinite (Asks job texts) OfDefinite
+  pub asks_on : PassesOn IsDefinite (Asks asked texts) OfDefinite
   asks_on x w is h =
-      then_on OfDefinite OfDefinite Script (Then Cuts (AsksByWords job)) OfDefinite script_on
-      (then_on OfDefinite OfDefinite Cuts (AsksByWords job) OfDefinite cuts_on words_on) (bare x) w is h
+      then_on OfDefinite OfDefinite Script (Then Cuts (AsksByWords asked)) OfDefinite script_on
+      (then_on OfDefinite OfDefinite Cuts (AsksByWords asked) OfDefinite cuts_on words_on) (bare asked.order x) w is h

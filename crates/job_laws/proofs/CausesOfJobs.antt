@@ -4,7 +4,7 @@ use Rattle.std.proofs.Common.{◌≡◌, ◌<◌, ◌+◌, ◌∙◌, ℕ, Bool,
 use Rattle.ar_base.specs.Counts.{limit_of}
 use Rattle.ar_base.specs.Stages.{Where, refuses, passes}
 use Rattle.ar_base.specs.declared.counts.Count.TheVariants as count
-use Rattle.ar_firing.specs.Rules.{Rule as StaticRule, rule_number, Spot, IsFirstBroken, KeepsAll}
+use Rattle.ar_firing.specs.Rules.{Rule as StaticRule, rule_number, Spot, IsFirstBroken, IsAskedUpTo, KeepsUpTo}
 use Rattle.ar_io.specs.Outside.{Told}
 use Rattle.ar_meaning.specs.Runs.{Command}
 use Rattle.eq_core.specs.Gates.{Table}
@@ -20,12 +20,12 @@ use Rattle.job_inputs.specs.declared.wanting.Wanted.{Wanted}
 use Rattle.run_words.proofs.Reaches.{table_to_forest}
 use Rattle.run_words.specs.Commands.{shape_of, is_script, is_list, is_made}
 use Rattle.run_words.specs.Lines.{CommandWords}
-use Rattle.run_words.specs.declared.jobs.Job.{Job}
+use Rattle.run_words.specs.declared.jobs.Asked.{Asked}
 use Rattle.run_words.specs.declared.shapes.Form.{Form}
 use Rattle.run_words.specs.declared.shapes.Form.TheVariants as form
 use Rattle.run_words.specs.declared.verbs.Verb.{Verb}
 use Rattle.run_words.specs.declared.verbs.Verb.TheVariants.{Check, Flat, Replay, Fragment, Equations, Cuts, Make, Explain, CheckCuts, Modules}
-use Rattle.run_words.specs.Jobs.{IsJob, OptionsFit}
+use Rattle.run_words.specs.Jobs.{IsAsked, OptionsFit}
 use Rattle.job_stages.specs.Elaborates.{Elaborates}
 use Rattle.job_stages.specs.Files.{files_of, Loaded, IsText, first}
 use Rattle.job_stages.specs.Stages as s
@@ -115,134 +115,134 @@ explaining CheckCuts e = absurd cc
 explaining Modules e = absurd cc
 
 -- What stands ready has the source that is asked
-asked_source : (job : Job) (texts : List (List ℕ)) (x : Elaborated) (w : Ready) → Asks job texts x (Ok w) → w.source ≡ x
-asked_source job texts x w (passes b h (passes d k (passes f l (passes g m n)))) =
-    shown_source (shape_of job.command).explains job.observer g w n
-    ∙ wanted_source (has_table job.command) (observer_asked job) job.value f g m
-    ∙ dropped_source job.dropped d f l
-    ∙ listed_source (is_list (shape_of job.command).files) texts b d k
-    ∙ scripted_source (is_script (shape_of job.command).files) texts (bare x) b h
+asked_source : (asked : Asked) (texts : List (List ℕ)) (x : Elaborated) (w : Ready) → Asks asked texts x (Ok w) → w.source ≡ x
+asked_source asked texts x w (passes b h (passes d k (passes f l (passes g m n)))) =
+    shown_source (shape_of asked.job.command).explains asked.job.observer g w n
+    ∙ wanted_source (has_table asked.job.command) (observer_asked asked) asked.job.value f g m
+    ∙ dropped_source asked.job.dropped d f l
+    ∙ listed_source (is_list (shape_of asked.job.command).files) texts b d k
+    ∙ scripted_source (is_script (shape_of asked.job.command).files) texts (bare asked.order x) b h
 
 -- A text that means a system
-module _ (files : List ℕ → Told) (job : Job) (texts : List (List ℕ)) (text : List ℕ)
-    (is_loaded : Loaded files (files_of job) (Ok texts)) (is_text : IsText job texts text) (x : Elaborated)
-    (means : Elaborates job.main text (Ok x)) where
-  of_system : (r : Refusal) → Readies job texts x (Err r) → Passes files job (Err r)
+module _ (files : List ℕ → Told) (asked : Asked) (texts : List (List ℕ)) (text : List ℕ)
+    (is_loaded : Loaded files (files_of asked) (Ok texts)) (is_text : IsText asked texts text) (x : Elaborated)
+    (means : Elaborates asked.job.main text (Ok x)) where
+  of_system : (r : Refusal) → Readies asked texts x (Err r) → Passes files asked (Err r)
   of_system r h = loaded texts is_loaded is_text (passes x means h)
 
   -- it has not what is asked for
-  pub of_request : (r : Refusal) → Asks job texts x (Err r) → Passes files job (Err r)
+  pub of_request : (r : Refusal) → Asks asked texts x (Err r) → Passes files asked (Err r)
   of_request r h = of_system r (refuses h)
 
   -- what the words ask for, where the list is passed and there is no script
-  module _ (no_script : is_script (shape_of job.command).files ≡ false) (w : Ready)
-      (lists : Where (is_list (shape_of job.command).files) (ListsCuts texts) (bare x) (Ok w)) where
-    of_words : (r : Refusal) → AsksByWords job w (Err r) → Passes files job (Err r)
-    of_words r h = of_request r (passes (bare x)
-        (past (s.Scripted texts) (is_script (shape_of job.command).files) (bare x) no_script) (passes w lists h))
+  module _ (no_script : is_script (shape_of asked.job.command).files ≡ false) (w : Ready)
+      (lists : Where (is_list (shape_of asked.job.command).files) (ListsCuts texts) (bare asked.order x) (Ok w)) where
+    of_words : (r : Refusal) → AsksByWords asked w (Err r) → Passes files asked (Err r)
+    of_words r h = of_request r (passes (bare asked.order x)
+        (past (s.Scripted texts) (is_script (shape_of asked.job.command).files) (bare asked.order x) no_script) (passes w lists h))
 
     list_source : x ≡ w.source
-    list_source = sym (listed_source (is_list (shape_of job.command).files) texts (bare x) w lists)
+    list_source = sym (listed_source (is_list (shape_of asked.job.command).files) texts (bare asked.order x) w lists)
 
-    pub of_dropped : (list : List ℕ) → job.dropped ≡ Some list → HasUnknown x list → Passes files job (Err NoDropped)
+    pub of_dropped : (list : List ℕ) → asked.job.dropped ≡ Some list → HasUnknown x list → Passes files asked (Err NoDropped)
     of_dropped list e h = of_words NoDropped
         (refuses (s.names_none e (subst (λ (z : Elaborated). HasUnknown z list) list_source h)))
 
-    module _ (v : Ready) (drops : Drops job.dropped w (Ok v)) (table : has_table job.command ≡ true) (path : List ℕ)
-        (asked : observer_asked job ≡ Some path) where
-      of_wanting : (r : Refusal) → s.Wanting (observer_asked job) job.value v (Err r) → Passes files job (Err r)
+    module _ (v : Ready) (drops : Drops asked.job.dropped w (Ok v)) (table : has_table asked.job.command ≡ true) (path : List ℕ)
+        (sought : observer_asked asked ≡ Some path) where
+      of_wanting : (r : Refusal) → s.Wanting (observer_asked asked) asked.job.value v (Err r) → Passes files asked (Err r)
       of_wanting r h = of_words r (passes v drops (refuses
-          (there (s.Wanting (observer_asked job) job.value) (has_table job.command) v (Err r) table h)))
+          (there (s.Wanting (observer_asked asked) asked.job.value) (has_table asked.job.command) v (Err r) table h)))
 
       drop_source : x ≡ v.source
-      drop_source = list_source ∙ sym (dropped_source job.dropped w v drops)
+      drop_source = list_source ∙ sym (dropped_source asked.job.dropped w v drops)
 
-      pub of_observer : NamesNone x path → Passes files job (Err NoObserver)
+      pub of_observer : NamesNone x path → Passes files asked (Err NoObserver)
       of_observer h = of_wanting NoObserver
-          (s.no_observer asked (subst (λ (z : Elaborated). NamesNone z path) drop_source h))
+          (s.no_observer sought (subst (λ (z : Elaborated). NamesNone z path) drop_source h))
 
-      pub of_value : WantsNone x path job.value → Passes files job (Err NoValue)
+      pub of_value : WantsNone x path asked.job.value → Passes files asked (Err NoValue)
       of_value h = of_wanting NoValue
-          (s.no_value asked (subst (λ (z : Elaborated). WantsNone z path job.value) drop_source h))
+          (s.no_value sought (subst (λ (z : Elaborated). WantsNone z path asked.job.value) drop_source h))
 
   -- it has what is asked for, and is not what the command demands
-  module _ (w : Ready) (asks : Asks job texts x (Ok w)) where
-    of_demand : (r : Refusal) → Demands job.command w (Err r) → Passes files job (Err r)
+  module _ (w : Ready) (asks : Asks asked texts x (Ok w)) where
+    of_demand : (r : Refusal) → Demands asked.job.command w (Err r) → Passes files asked (Err r)
     of_demand r h = of_system r (passes w asks h)
 
-    pub of_fragment : is_static job.command ≡ true → (rule : StaticRule) (spot : Spot)
-        → IsFirstBroken x.system w.dropped rule spot
-        → Passes files job (Err (Outside (rule_number rule) (spot_path x spot)))
-    of_fragment static rule spot h = subst
+    pub of_fragment : is_static asked.job.command ≡ true → (rule : StaticRule) (spot : Spot)
+        → IsAskedUpTo w.order rule → IsFirstBroken x.system w.dropped rule spot
+        → Passes files asked (Err (Outside (rule_number rule) (spot_path x spot)))
+    of_fragment static rule spot q h = subst
         (λ (z : Elaborated). IsFirstBroken z.system w.dropped rule spot
-        → Passes files job (Err (Outside (rule_number rule) (spot_path z spot))))
-        (asked_source job texts x w asks)
+        → Passes files asked (Err (Outside (rule_number rule) (spot_path z spot))))
+        (asked_source asked texts x w asks)
         (λ k. let r = Outside (rule_number rule) (spot_path w.source spot) in
-        of_demand r (refuses (there s.Static (is_static job.command) w (Err r) static (s.outside k))))
+        of_demand r (refuses (there s.Static (is_static asked.job.command) w (Err r) static (s.outside q k))))
         h
 
-    pub of_gates : has_table job.command ≡ true → KeepsAll x.system w.dropped → (wanted : Wanted) (table : Table)
+    pub of_gates : has_table asked.job.command ≡ true → KeepsUpTo w.order x.system w.dropped → (wanted : Wanted) (table : Table)
         → w.wanted ≡ Some wanted → IsTableOf x w.dropped wanted table → limit_of count.Gates < length table.gates
-        → Passes files job (Err (Size count.Gates))
+        → Passes files asked (Err (Size count.Gates))
     of_gates has keeps wanted table e is h =
-        let back : x ≡ w.source = sym (asked_source job texts x w asks) in
+        let back : x ≡ w.source = sym (asked_source asked texts x w asks) in
         of_demand (Size count.Gates) (passes w
-        (there s.Static (is_static job.command) w (Ok w) (table_to_forest (shape_of job.command).reach has)
-        (s.keeps (subst (λ (z : Elaborated). KeepsAll z.system w.dropped) back keeps)))
-        (there s.Tabled (has_table job.command) w (Err (Size count.Gates)) has
+        (there s.Static (is_static asked.job.command) w (Ok w) (table_to_forest (shape_of asked.job.command).reach has)
+        (s.keeps (subst (λ (z : Elaborated). KeepsUpTo w.order z.system w.dropped) back keeps)))
+        (there s.Tabled (has_table asked.job.command) w (Err (Size count.Gates)) has
         (s.exceeds e (subst (λ (z : Elaborated). IsTableOf z w.dropped wanted table) back is) h)))
 
 -- A text with a second file
-module _ (files : List ℕ → Told) (job : Job) (text second : List ℕ)
-    (is_loaded : Loaded files (files_of job) (Ok (text ∷ second ∷ []))) (x : Elaborated)
-    (means : Elaborates job.main text (Ok x)) where
-  module _ (script : is_script (shape_of job.command).files ≡ true) where
-    of_two : (r : Refusal) → Asks job (text ∷ second ∷ []) x (Err r) → Passes files job (Err r)
-    of_two = of_request files job (text ∷ second ∷ []) text is_loaded
-        (first (script_not_made (shape_of job.command).files script)) x means
+module _ (files : List ℕ → Told) (asked : Asked) (text second : List ℕ)
+    (is_loaded : Loaded files (files_of asked) (Ok (text ∷ second ∷ []))) (x : Elaborated)
+    (means : Elaborates asked.job.main text (Ok x)) where
+  module _ (script : is_script (shape_of asked.job.command).files ≡ true) where
+    of_two : (r : Refusal) → Asks asked (text ∷ second ∷ []) x (Err r) → Passes files asked (Err r)
+    of_two = of_request files asked (text ∷ second ∷ []) text is_loaded
+        (first (script_not_made (shape_of asked.job.command).files script)) x means
 
     pub of_script : (n : ℕ) (why : Why) → IsFirstBad x (lines_of second) n why
-        → Passes files job (Err (line_refused why (n + 1)))
+        → Passes files asked (Err (line_refused why (n + 1)))
     of_script n why h = of_two (line_refused why (n + 1)) (refuses (there (s.Scripted (text ∷ second ∷ []))
-        (is_script (shape_of job.command).files) (bare x) (Err (line_refused why (n + 1))) script
+        (is_script (shape_of asked.job.command).files) (bare asked.order x) (Err (line_refused why (n + 1))) script
         (s.bad refl (scripts.bad h))))
 
-  module _ (list : is_list (shape_of job.command).files ≡ true) where
-    of_lists : (r : Refusal) → ListsCuts (text ∷ second ∷ []) (bare x) (Err r) → Passes files job (Err r)
-    of_lists r h = of_request files job (text ∷ second ∷ []) text is_loaded
-        (first (list_not_made (shape_of job.command).files list)) x means r
-        (passes (bare x) (past (s.Scripted (text ∷ second ∷ [])) (is_script (shape_of job.command).files) (bare x)
-        (list_no_script (shape_of job.command).files list))
-        (refuses (there (ListsCuts (text ∷ second ∷ [])) (is_list (shape_of job.command).files) (bare x) (Err r) list
+  module _ (list : is_list (shape_of asked.job.command).files ≡ true) where
+    of_lists : (r : Refusal) → ListsCuts (text ∷ second ∷ []) (bare asked.order x) (Err r) → Passes files asked (Err r)
+    of_lists r h = of_request files asked (text ∷ second ∷ []) text is_loaded
+        (first (list_not_made (shape_of asked.job.command).files list)) x means r
+        (passes (bare asked.order x) (past (s.Scripted (text ∷ second ∷ [])) (is_script (shape_of asked.job.command).files) (bare asked.order x)
+        (list_no_script (shape_of asked.job.command).files list))
+        (refuses (there (ListsCuts (text ∷ second ∷ [])) (is_list (shape_of asked.job.command).files) (bare asked.order x) (Err r) list
         h)))
 
     pub of_list : (n : ℕ) (why : Why) → IsFirstBadCut x (lines_of second) n why
-        → Passes files job (Err (cut_refused why (n + 1)))
+        → Passes files asked (Err (cut_refused why (n + 1)))
     of_list n why h = of_lists (cut_refused why (n + 1)) (s.bad_line refl (cuts.bad h))
 
     pub of_cut_lines : (lines : List CutLine) → ListsCutLines x 1 (lines_of second) lines
-        → limit_of count.CutLines < length lines → Passes files job (Err (Size count.CutLines))
+        → limit_of count.CutLines < length lines → Passes files asked (Err (Size count.CutLines))
     of_cut_lines lines h more = of_lists (Size count.CutLines) (s.exceeds_lines refl (cuts.gives h) more)
 
   -- the observer to explain
-  pub of_shown : (words : List (List ℕ)) → IsJob words job → (shape_of job.command).explains ≡ true
+  pub of_shown : (words : List (List ℕ)) → IsAsked words asked → (shape_of asked.job.command).explains ≡ true
       → (commands : List Command) → GivesCommands x (lines_of second) commands
-      → (path : List ℕ) → job.observer ≡ Some path → NamesNone x path → Passes files job (Err NoObserver)
+      → (path : List ℕ) → asked.job.observer ≡ Some path → NamesNone x path → Passes files asked (Err NoObserver)
   of_shown words is explains commands gives path e h =
-      let v = explaining job.command explains in
-      let w : Ready = record (bare x) { commands = commands } in
-      let dropped : job.dropped ≡ None = is.job_of.dropped ∙ v.drops_none _ is.job_of.options in
+      let v = explaining asked.job.command explains in
+      let w : Ready = record (bare asked.order x) { commands = commands } in
+      let dropped : asked.job.dropped ≡ None = is.asked_of.job.dropped ∙ v.drops_none _ is.asked_of.job.options in
       of_two v.script NoObserver (passes w
-      (there (s.Scripted (text ∷ second ∷ [])) (is_script (shape_of job.command).files) (bare x) (Ok w) v.script
+      (there (s.Scripted (text ∷ second ∷ [])) (is_script (shape_of asked.job.command).files) (bare asked.order x) (Ok w) v.script
       (s.gives refl (scripts.gives gives)))
-      (passes w (past (ListsCuts (text ∷ second ∷ [])) (is_list (shape_of job.command).files) w v.no_list)
+      (passes w (past (ListsCuts (text ∷ second ∷ [])) (is_list (shape_of asked.job.command).files) w v.no_list)
       (passes w (s.no_list dropped)
-      (passes w (past (s.Wanting (observer_asked job) job.value) (has_table job.command) w v.no_table)
-      (there (s.Showing job.observer) (shape_of job.command).explains w (Err NoObserver) explains
+      (passes w (past (s.Wanting (observer_asked asked) asked.job.value) (has_table asked.job.command) w v.no_table)
+      (there (s.Showing asked.job.observer) (shape_of asked.job.command).explains w (Err NoObserver) explains
       (s.shows_none e h))))))
 
 -- Words that drop events give no script
-pub dropping_no_script : (words : List (List ℕ)) (job : Job) (list : List ℕ) → IsJob words job → job.dropped ≡ Some list
-    → is_script (shape_of job.command).files ≡ false
-dropping_no_script words job list is e =
-    drops_no_script job.command _ list is.job_of.options (sym is.job_of.dropped ∙ e)
+pub dropping_no_script : (words : List (List ℕ)) (asked : Asked) (list : List ℕ) → IsAsked words asked → asked.job.dropped ≡ Some list
+    → is_script (shape_of asked.job.command).files ≡ false
+dropping_no_script words asked list is e =
+    drops_no_script asked.job.command _ list is.asked_of.job.options (sym is.asked_of.job.dropped ∙ e)

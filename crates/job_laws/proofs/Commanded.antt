@@ -6,7 +6,7 @@ use Rattle.replayer.specs.declared.replaying.End.{End}
 use Rattle.gts_flatten.specs.Flat.{naming_of}
 use Rattle.hierarchy.specs.Listing.{variables}
 use Rattle.job_inputs.specs.declared.wanting.Wanted.{Wanted}
-use Rattle.run_words.specs.declared.jobs.Job.{Job}
+use Rattle.run_words.specs.declared.jobs.Asked.{Asked}
 use Rattle.run_words.specs.declared.verbs.Verb.{Verb}
 use Rattle.run_words.specs.declared.verbs.Verb.TheVariants as verb
 use Rattle.table_text.specs.Texts.{IsTableText}
@@ -21,19 +21,19 @@ use Rattle.job_laws.proofs.Enough.{told_with}
 use Rattle.job_laws.proofs.Telling.{Well, Replayed, TableTold, Explained, Told, told_by}
 
 -- what is told is what this command tells
-by_command : (job : Job) (w : Ready) (s : Status) (v : Verb) → job.command ≡ v → (text : List ℕ) → Tells job w text s
-    → Told v job w text s
-by_command job w s v e text t = subst (λ (u : Verb). Told u job w text s) e (told_by job w text s t)
+by_command : (asked : Asked) (w : Ready) (s : Status) (v : Verb) → asked.job.command ≡ v → (text : List ℕ) → Tells asked w text s
+    → Told v asked w text s
+by_command asked w s v e text t = subst (λ (u : Verb). Told u asked w text s) e (told_by asked w text s t)
 
-module _ (c : Call) (job : Job) (w : Ready) (s : Status) (answer : IsAnswered c job w s ⊎ IsStopped c s) where
+module _ (c : Call) (asked : Asked) (w : Ready) (s : Status) (answer : IsAnswered c asked w s ⊎ IsStopped c s) where
   -- a text with which each job of the command ends well
-  pub well_or_stopped : (v : Verb) → job.command ≡ v → (P : List ℕ → Type 0)
-      → ((text : List ℕ) → Told v job w text s → Well P text s) → IsToldWith c s Done P ⊎ IsStopped c s
+  pub well_or_stopped : (v : Verb) → asked.job.command ≡ v → (P : List ℕ → Type 0)
+      → ((text : List ℕ) → Told v asked w text s → Well P text s) → IsToldWith c s Done P ⊎ IsStopped c s
   well_or_stopped v e P well =
-      told_with c job w s Done P (λ text t. let h = well text (by_command job w s v e text t) in (h.1, h.0)) answer
+      told_with c asked w s Done P (λ text t. let h = well text (by_command asked w s v e text t) in (h.1, h.0)) answer
 
   -- the gate table of the observer and the value that are asked for
-  pub table_or_stopped : job.command ≡ verb.Equations → (wanted : Wanted) → w.wanted ≡ Some wanted
+  pub table_or_stopped : asked.job.command ≡ verb.Equations → (wanted : Wanted) → w.wanted ≡ Some wanted
       → IsToldWith c s Done (λ text. IsTableText (variables w.source.declarations.model w.source.declarations.units)
       (naming_of w.source.declarations) w.source.system w.dropped wanted.observer wanted.value text)
       ⊎ IsStopped c s
@@ -51,7 +51,7 @@ module _ (c : Call) (job : Job) (w : Ready) (s : Status) (answer : IsAnswered c 
 
 -- The trace of a run, with the status of its end
 
-module _ (c : Call) (job : Job) (w : Ready) (s : Status) where
+module _ (c : Call) (asked : Asked) (w : Ready) (s : Status) where
   abbrev IsRun : Type 0
   IsRun =
       (last : End)
@@ -61,8 +61,8 @@ module _ (c : Call) (job : Job) (w : Ready) (s : Status) where
   run_of : (text : List ℕ) → Replayed w text s → Wrote c text → IsRun
   run_of text r a = (r.last, (r.is_status, (text, r.replay, a)))
 
-  pub run_or_stopped : job.command ≡ verb.Replay → IsAnswered c job w s ⊎ IsStopped c s → IsRun ⊎ IsStopped c s
-  run_or_stopped e (inl a) = inl (run_of a.text (by_command job w s verb.Replay e a.text a.tells) a.wrote)
+  pub run_or_stopped : asked.job.command ≡ verb.Replay → IsAnswered c asked w s ⊎ IsStopped c s → IsRun ⊎ IsStopped c s
+  run_or_stopped e (inl a) = inl (run_of a.text (by_command asked w s verb.Replay e a.text a.tells) a.wrote)
   run_or_stopped e (inr h) = inr h
 
   -- an explanation, or the line of the fault in which the run ends
@@ -75,7 +75,7 @@ module _ (c : Call) (job : Job) (w : Ready) (s : Status) where
   reason_of text (inl h) a = inl (h.1, (text, h.0, a))
   reason_of text (inr h) a = inr (h.1, (text, h.0, a))
 
-  pub reason_or_stopped : job.command ≡ verb.Explain → IsAnswered c job w s ⊎ IsStopped c s → IsReason ⊎ IsStopped c s
+  pub reason_or_stopped : asked.job.command ≡ verb.Explain → IsAnswered c asked w s ⊎ IsStopped c s → IsReason ⊎ IsStopped c s
   reason_or_stopped e (inl a) =
-      inl (reason_of a.text (by_command job w s verb.Explain e a.text a.tells) a.wrote)
+      inl (reason_of a.text (by_command asked w s verb.Explain e a.text a.tells) a.wrote)
   reason_or_stopped e (inr h) = inr h

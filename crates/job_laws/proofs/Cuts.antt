@@ -1,5 +1,5 @@
 -- The texts of cuts, of a conflict, of a check and of a forest: one each.
-use Rattle.std.proofs.Common.{◌≡◌, ◌≤◌, ◌⊎◌, ◌&&◌, ℕ, suc, List, [], ◌∷◌, ◌++◌, length, reverse, refl, sym, ◌∙◌, ap, subst, arith, inl, inr}
+use Rattle.std.proofs.Common.{◌≡◌, ◌≤◌, ◌⊎◌, ◌&&◌, ℕ, suc, List, [], ◌∷◌, ◌++◌, Option, length, reverse, refl, sym, ◌∙◌, ap, subst, arith, inl, inr}
 use Rattle.std.proofs.lemmas.Bool.{cases_lt, cases_eq}
 use Rattle.ar_base.specs.Lists.{Stands, IsOneOf, Along}
 use Rattle.ar_base.proofs.Few.{AllDiffer, new, all_differ}
@@ -13,6 +13,7 @@ use Rattle.ar_firing.proofs.Lines.{one_line}
 use Rattle.ar_firing.proofs.OneForest.{forest_same}
 use Rattle.ar_firing.proofs.OneListing.{listed_same}
 use Rattle.ar_firing.proofs.RunsTold.{reaches_same}
+use Rattle.ar_firing.proofs.SmallSets.{free_within}
 use Rattle.ar_meaning.specs.Flows.{FlowFault, Fails, Outcome}
 use Rattle.ar_meaning.specs.Runs.{Label}
 use Rattle.ar_meaning.specs.Steps.{Answer, Refused, Flow, Step}
@@ -20,11 +21,13 @@ use Rattle.ar_meaning.specs.Systems.{System, Way}
 use Rattle.ar_meaning.specs.TraceText.{Naming, flow_fault_text}
 use Rattle.ar_meaning.proofs.OneAnswer.{flows_same, step_same}
 use Rattle.ar_meaning.proofs.OneRun.{way_same}
-use Rattle.check_text.specs.Texts.{lines_in, said_lines, missing_lines, last_line, all_good, is_none, AreSaid, IsCheckText}
+use Rattle.check_text.specs.Texts.{within_order, lines_in, said_lines, missing_lines, last_line, all_good, is_none, AreSaid, IsCheckText}
 use Rattle.cut_check.specs.Verdicts.{Said, Holds, IsSaid, fails, holds, good, HoldsLine, IsMissing}
 use Rattle.cut_check.specs.Verdicts as v
 use Rattle.cut_text.specs.Texts.{label_lists, labels_text, count_line, fault_line, IsCutText, IsConflictText}
 use Rattle.domains.specs.declared.Value.{Value}
+use Rattle.firable_families.specs.Firable.{AndUpTo}
+use Rattle.cut_text.proofs.UpToOrder.{has_it, is_small}
 use Rattle.cut_text.specs.ForestTexts.{AreLiveEvents, IsForestText, tree_lines, events_line}
 use Rattle.job_inputs.specs.CutLists.{CutLine}
 use Rattle.typed_expr.specs.declared.expr.Expr.{Expr}
@@ -100,14 +103,16 @@ module _ {V : Type 0} (names : Naming) (sys : System V) (dropped : List ℕ) (st
   lines_once sets others ls ks e a b =
       along_one line_once a (subst (λ (z : List (List ℕ)). Along (IsLine sys dropped) z ks) (sym e) b)
 
-  pub cut_text_one : (observer : Expr V) (wanted : Value) (s t : List ℕ) → IsCutText names sys dropped observer wanted s
-      → IsCutText names sys dropped observer wanted t → s ≡ t
-  cut_text_one observer wanted s t a b =
-      let e : a.sets ≡ b.sets = listed_same a.sets b.sets (Cut sys dropped observer wanted) a.are_listed b.are_listed in
+  pub cut_text_one : (order : Option ℕ) (observer : Expr V) (wanted : Value) (s t : List ℕ)
+      → IsCutText order names sys dropped observer wanted s
+      → IsCutText order names sys dropped observer wanted t → s ≡ t
+  cut_text_one order observer wanted s t a b =
+      let e : a.sets ≡ b.sets = listed_same a.sets b.sets (AndUpTo order (Cut sys dropped observer wanted)) a.are_listed
+      b.are_listed in
       let l : a.lines ≡ b.lines = lines_once a.sets b.sets a.lines b.lines e a.are_lines b.are_lines in
       a.is_text
-      ∙ ap (λ (z : List (List Label)). label_lists names sys z ++ count_line (length a.sets)) l
-      ∙ ap (λ (z : List (List ℕ)). label_lists names sys b.lines ++ count_line (length z)) e
+      ∙ ap (λ (z : List (List Label)). label_lists names sys z ++ count_line order (length a.sets)) l
+      ∙ ap (λ (z : List (List ℕ)). label_lists names sys b.lines ++ count_line order (length z)) e
       ∙ sym b.is_text
 
   -- Conflicts
@@ -126,10 +131,11 @@ module _ {V : Type 0} (names : Naming) (sys : System V) (dropped : List ℕ) (st
       let a : ◌≡◌ {A = Answer} (Refused (Flow f)) (Refused (Flow g)) =
       step_same sys.net (subst (λ (z : Way V). Step sys.net u z (Refused (Flow f))) i there) k in cc
 
-  pub conflict_text_one : (s t : List ℕ) → IsConflictText names sys dropped s → IsConflictText names sys dropped t
-      → s ≡ t
-  conflict_text_one s t a b =
-      let e = listed_same (a.set ∷ a.later) (b.set ∷ b.later) (ConflictSet sys dropped) a.are_listed b.are_listed in
+  pub conflict_text_one : (order : Option ℕ) (s t : List ℕ) → IsConflictText order names sys dropped s
+      → IsConflictText order names sys dropped t → s ≡ t
+  conflict_text_one order s t a b =
+      let e = listed_same (a.set ∷ a.later) (b.set ∷ b.later) (AndUpTo order (ConflictSet sys dropped)) a.are_listed
+      b.are_listed in
       let i : b.set ≡ a.set = sym (same_first a.set b.set a.later b.later e) in
       let l : b.labels ≡ a.labels = line_once a.set b.labels a.labels
       (subst (λ (z : List ℕ). IsLine sys dropped z b.labels) i b.is_line) a.is_line in
@@ -141,8 +147,12 @@ module _ {V : Type 0} (names : Naming) (sys : System V) (dropped : List ℕ) (st
       ∙ sym b.is_text
 
   -- where no set meets a conflict there is no such text
-  pub no_conflict : c.IsConflictFree sys dropped → (s : List ℕ) → IsConflictText names sys dropped s → ⊥
-  no_conflict free s a = free a.set (a.are_listed.sound 0 a.set refl).has
+  pub no_conflict : (order : Option ℕ) → c.IsConflictFreeUpTo order sys dropped → (s : List ℕ)
+      → IsConflictText order names sys dropped s → ⊥
+  no_conflict order free s a =
+      let first = a.are_listed.sound 0 a.set refl in
+      free_within order sys dropped free a.set (is_small order (ConflictSet sys dropped) a.set first) a.set
+      (within_self a.set) (has_it order (ConflictSet sys dropped) a.set first).has
 
   -- Checks
 
@@ -189,20 +199,22 @@ module _ {V : Type 0} (names : Naming) (sys : System V) (dropped : List ℕ) (st
       by_places xs ys (a.long ∙ sym b.long)
       (λ n p q h k. said_one observer wanted lines n p q (a.each n p h) (b.each n q k))
 
-  abbrev checked : List CutLine → List Said → List (List Label) → List (List ℕ) → List ℕ
-  checked cuts said lines missing =
-      said_lines cuts cuts said ++ (missing_lines names sys lines ++ last_line (all_good said && is_none missing))
+  abbrev checked : Option ℕ → List CutLine → List Said → List (List Label) → List (List ℕ) → List ℕ
+  checked order cuts said lines missing =
+      said_lines order (within_order order cuts) cuts said
+      ++ (missing_lines names sys lines ++ last_line order (all_good said && is_none missing))
 
-  pub check_text_one : (observer : Expr V) (wanted : Value) (cuts : List CutLine) (s t : List ℕ)
-      → IsCheckText names sys dropped observer wanted cuts s → IsCheckText names sys dropped observer wanted cuts t
-      → s ≡ t
-  check_text_one observer wanted cuts s t a b =
-      let d : a.said ≡ b.said = all_said_one observer wanted (lines_in cuts) a.said b.said a.are_said b.are_said in
+  pub check_text_one : (order : Option ℕ) (observer : Expr V) (wanted : Value) (cuts : List CutLine) (s t : List ℕ)
+      → IsCheckText order names sys dropped observer wanted cuts s
+      → IsCheckText order names sys dropped observer wanted cuts t → s ≡ t
+  check_text_one order observer wanted cuts s t a b =
+      let given = lines_in (within_order order cuts) in
+      let d : a.said ≡ b.said = all_said_one observer wanted given a.said b.said a.are_said b.are_said in
       let e : a.missing ≡ b.missing = listed_same a.missing b.missing
-      (IsMissing sys dropped observer wanted (lines_in cuts)) a.are_missing b.are_missing in
+      (AndUpTo order (IsMissing sys dropped observer wanted given)) a.are_missing b.are_missing in
       let l : a.lines ≡ b.lines = lines_once a.missing b.missing a.lines b.lines e a.are_lines b.are_lines in
       a.is_text
-      ∙ ap (λ (z : List Said). checked cuts z a.lines a.missing) d
-      ∙ ap (λ (z : List (List Label)). checked cuts b.said z a.missing) l
-      ∙ ap (λ (z : List (List ℕ)). checked cuts b.said b.lines z) e
+      ∙ ap (λ (z : List Said). checked order cuts z a.lines a.missing) d
+      ∙ ap (λ (z : List (List Label)). checked order cuts b.said z a.missing) l
+      ∙ ap (λ (z : List (List ℕ)). checked order cuts b.said b.lines z) e
       ∙ sym b.is_text

@@ -1,14 +1,14 @@
 -- What the command demands of the system: the static fragment, and a gate table that is not too large.
 use Rattle.std.proofs.Common.{◌≡◌, ℕ, Bool, true, false, List, Some, Result, Ok, Err, length, refl, sym, ◌∙◌, ap, subst, arith}
 use Rattle.ar_base.specs.Stages.{Then, passes, Where}
-use Rattle.ar_firing.specs.Rules.{Rule, Spot, KeepsAll, rule_number}
+use Rattle.ar_firing.specs.Rules.{Rule, Spot, KeepsUpTo, rule_number}
 use Rattle.ar_firing.specs.Static.{IsKeyedStatic}
-use Rattle.ar_firing.proofs.RulesHold.{excludes, first_broken_same, all_static}
+use Rattle.ar_firing.proofs.RulesHold.{excludes, first_broken_same, asked_static}
 use Rattle.eq_core.specs.Gates.{Table}
 use Rattle.hierarchy.specs.Listing.{variables}
 use Rattle.run_words.specs.Commands.{shape_of}
 use Rattle.run_words.proofs.Reaches.{table_to_forest}
-use Rattle.run_words.specs.declared.jobs.Job.{Job}
+use Rattle.run_words.specs.declared.jobs.Asked.{Asked}
 use Rattle.job_inputs.specs.declared.wanting.Wanted.{Wanted}
 use Rattle.job_stages.specs.Stages.{Ready, is_static, spot_path, Static, keeps, outside, has_table, IsTableOf, Tabled, fits, exceeds, Asks, Demands, Readies}
 use Rattle.job_stages.specs.declared.refusals.Refusal.{Refusal}
@@ -20,14 +20,14 @@ use Rattle.table_text.proofs.OneTable.{table_one}
 
 -- its system without the dropped events keeps the rules
 abbrev pub IsKeptBy : Ready → Type 0
-IsKeptBy w = KeepsAll w.source.system w.dropped
+IsKeptBy w = KeepsUpTo w.order w.source.system w.dropped
 
 -- its source is definite, and it keeps the rules
 abbrev pub IsFit : Ready → Type 0
 IsFit w = IsDefinite w.source × IsKeptBy w
 
 pub keyed_static : (w : Ready) → IsFit w → IsKeyedStatic w.source.system w.dropped
-keyed_static w fit = record { keyed = fit.0.keyed; static = all_static w.source.system w.dropped fit.1 }
+keyed_static w fit = record { keyed = fit.0.keyed; static = asked_static w.order w.source.system w.dropped fit.1 }
 
 -- The static fragment
 
@@ -40,11 +40,11 @@ told_as w r q a b e f =
 
 static_one : IsOne OfDefinite Static
 static_one w is x y (keeps h) (keeps k) = refl
-static_one w is x y (keeps h) (outside {rule = r} {spot = a} b) =
-    absurd (excludes w.source.system w.dropped r a (h.each r) b.breaks)
-static_one w is x y (outside {rule = r} {spot = a} b) (keeps h) =
-    absurd (excludes w.source.system w.dropped r a (h.each r) b.breaks)
-static_one w is x y (outside {rule = r} {spot = a} h) (outside {rule = q} {spot = b} k) =
+static_one w is x y (keeps h) (outside {rule = r} {spot = a} q b) =
+    absurd (excludes w.source.system w.dropped r a (h.each r q) b.breaks)
+static_one w is x y (outside {rule = r} {spot = a} q b) (keeps h) =
+    absurd (excludes w.source.system w.dropped r a (h.each r q) b.breaks)
+static_one w is x y (outside {rule = r} {spot = a} i h) (outside {rule = q} {spot = b} j k) =
     let e = first_broken_same w.source.system w.dropped h k in told_as w r q a b e.0 e.1
 
 static_on : PassesOn OfDefinite Static IsFit
@@ -108,14 +108,14 @@ both_on s t w v is (passes u h k) = subst (IsFitWhere s) (sym (table_same t u v 
 
 -- All stages behind the source
 
-module _ (job : Job) (texts : List (List ℕ)) where
-  pub readies_one : OneList → IsOne IsDefinite (Readies job texts)
+module _ (asked : Asked) (texts : List (List ℕ)) where
+  pub readies_one : OneList → IsOne IsDefinite (Readies asked texts)
   readies_one one_list x is a b h k =
-      then_one IsDefinite OfDefinite (Asks job texts) (Demands job.command) (asks_one job texts one_list)
-      (asks_on job texts) (both_one (is_static job.command) (has_table job.command) (table_to_forest (shape_of job.command).reach)) x
+      then_one IsDefinite OfDefinite (Asks asked texts) (Demands asked.job.command) (asks_one asked texts one_list)
+      (asks_on asked texts) (both_one (is_static asked.job.command) (has_table asked.job.command) (table_to_forest (shape_of asked.job.command).reach)) x
       is a b h k
 
-  pub readies_on : PassesOn IsDefinite (Readies job texts) (IsFitWhere (is_static job.command))
+  pub readies_on : PassesOn IsDefinite (Readies asked texts) (IsFitWhere (is_static asked.job.command))
   readies_on x w is h =
-      then_on IsDefinite OfDefinite (Asks job texts) (Demands job.command) (IsFitWhere (is_static job.command))
-      (asks_on job texts) (both_on (is_static job.command) (has_table job.command)) x w is h
+      then_on IsDefinite OfDefinite (Asks asked texts) (Demands asked.job.command) (IsFitWhere (is_static asked.job.command))
+      (asks_on asked texts) (both_on (is_static asked.job.command) (has_table asked.job.command)) x w is h

@@ -4,7 +4,7 @@ use Rattle.std.specs.List.{AllByRecursion}
 use Rattle.ar_base.specs.Lists.{Stands}
 use Rattle.ar_base.proofs.Standing.{stands_none}
 use Rattle.ar_base.specs.Stages.{passes, Where}
-use Rattle.ar_firing.specs.Cuts.{Conflicts, start, fire}
+use Rattle.ar_firing.specs.Cuts.{Cut, Conflicts, start, fire}
 use Rattle.ar_firing.proofs.Lines.{line_is_legal}
 use Rattle.ar_firing.proofs.OrderedSets.{undropped}
 use Rattle.ar_firing.proofs.Replays.{conflict_replays}
@@ -14,6 +14,7 @@ use Rattle.ar_meaning.specs.Systems.{System}
 use Rattle.parser_laws.specs.Keeps.{TreesKeep}
 use Rattle.cut_text.specs.Texts.{IsConflictText}
 use Rattle.domains.specs.declared.Value.{Value}
+use Rattle.firable_families.specs.Firable.{AndUpTo}
 use Rattle.gate_modules.specs.Choices.{StandFor}
 use Rattle.gts_flatten.specs.Elaborating.{Elaborated}
 use Rattle.gts_flatten.specs.Flat.{naming_of}
@@ -23,10 +24,10 @@ use Rattle.hierarchy.specs.Units.{UnitPath, Thing}
 use Rattle.module_text.specs.Texts.{IsModuleText}
 use Rattle.run_words.specs.Commands.{shape_of, is_script, is_list}
 use Rattle.run_words.proofs.Reaches.{cuts_to_forest}
-use Rattle.run_words.specs.declared.jobs.Job.{Job}
+use Rattle.run_words.specs.declared.jobs.Asked.{Asked}
 use Rattle.run_words.specs.declared.verbs.Verb.{Verb}
 use Rattle.run_words.specs.declared.verbs.Verb.TheVariants.{Check, Flat, Replay, Fragment, Equations, Cuts, Make, Explain, CheckCuts, Modules}
-use Rattle.run_words.specs.Jobs.{IsJob}
+use Rattle.run_words.specs.Jobs.{IsAsked}
 use Rattle.source_meaning.specs.Systems.{Declarations, AreOf}
 use Rattle.typed_expr.specs.declared.expr.Expr.{Expr}
 use Rattle.zdd_families.specs.Families.{has}
@@ -83,17 +84,17 @@ tabled_source : (b : Bool) (w v : Ready) → Where b Tabled w (Ok v) → v.sourc
 tabled_source true w v (fits i h l) = refl
 tabled_source false w v h = ap (λ (z : Ready). z.source) (same_ok v w h)
 
-readies_source : (job : Job) (texts : List (List ℕ)) (x : Elaborated) (w : Ready) → Readies job texts x (Ok w)
+readies_source : (asked : Asked) (texts : List (List ℕ)) (x : Elaborated) (w : Ready) → Readies asked texts x (Ok w)
     → w.source ≡ x
-readies_source job texts x w
+readies_source asked texts x w
     (passes a (passes b h (passes d k (passes f l (passes g m n)))) (passes i o p)) =
-    tabled_source (has_table job.command) i w p
-    ∙ static_source (is_static job.command) a i o
-    ∙ shown_source (shape_of job.command).explains job.observer g a n
-    ∙ wanted_source (has_table job.command) (observer_asked job) job.value f g m
-    ∙ dropped_source job.dropped d f l
-    ∙ listed_source (is_list (shape_of job.command).files) texts b d k
-    ∙ scripted_source (is_script (shape_of job.command).files) texts (bare x) b h
+    tabled_source (has_table asked.job.command) i w p
+    ∙ static_source (is_static asked.job.command) a i o
+    ∙ shown_source (shape_of asked.job.command).explains asked.job.observer g a n
+    ∙ wanted_source (has_table asked.job.command) (observer_asked asked) asked.job.value f g m
+    ∙ dropped_source asked.job.dropped d f l
+    ∙ listed_source (is_list (shape_of asked.job.command).files) texts b d k
+    ∙ scripted_source (is_script (shape_of asked.job.command).files) texts (bare asked.order x) b h
 
 -- The source of a text keeps the rules over the whole text, and its units are those of its main block
 
@@ -116,15 +117,15 @@ text_units main text x (passes model (reads r) (e.passes (passes m (rooted is k)
 
 -- What stands ready for a job
 
-record IsReadyFor (job : Job) (w : Ready) : Type 0 where
-  fit : IsFitWhere (is_static job.command) w
+record IsReadyFor (asked : Asked) (w : Ready) : Type 0 where
+  fit : IsFitWhere (is_static asked.job.command) w
   source : HasUnits w.source
 
-ready_for : ((text : List ℕ) → TreesKeep text) → (c : Call) (job : Job) (w : Ready) → Passes c.files job (Ok w)
-    → IsReadyFor job w
-ready_for keep c job w (loaded {text = text} texts l t (passes x p r)) = record {
-  fit = readies_on job texts x w (text_definite job.main text x (keep text) p) r;
-  source = subst HasUnits (sym (readies_source job texts x w r)) (text_units job.main text x p);
+ready_for : ((text : List ℕ) → TreesKeep text) → (c : Call) (asked : Asked) (w : Ready) → Passes c.files asked (Ok w)
+    → IsReadyFor asked w
+ready_for keep c asked w (loaded {text = text} texts l t (passes x p r)) = record {
+  fit = readies_on asked texts x w (text_definite asked.job.main text x (keep text) p) r;
+  source = subst HasUnits (sym (readies_source asked texts x w r)) (text_units asked.job.main text x p);
 }
 
 -- Texts by command
@@ -147,37 +148,37 @@ is_modules _ = false
 other_command : {A : Type 0} (test : Verb → Bool) (v u : Verb) → v ≡ u → test u ≡ false → test v ≡ true → A
 other_command test v u i j k = let h : false ≡ true = sym j ∙ ap test (sym i) ∙ k in absurd cc
 
-module _ (job : Job) (w : Ready) where
-  short_text : is_modules job.command ≡ true → (text : List ℕ) (s : Status) → s ≡ status.Done → Tells job w text s
-      → IsShortText w job.nodes text
-  short_text j text s d (check i) = other_command is_modules job.command Check i refl j
-  short_text j text s d (flat i h) = other_command is_modules job.command Flat i refl j
-  short_text j text s d (replay i h) = other_command is_modules job.command Replay i refl j
-  short_text j text s d (fragment i h) = other_command is_modules job.command Fragment i refl j
-  short_text j text s d (equations i q h) = other_command is_modules job.command Equations i refl j
-  short_text j text s d (cuts i h) = other_command is_modules job.command Cuts i refl j
-  short_text j text s d (make i h) = other_command is_modules job.command Make i refl j
-  short_text j text s d (told.explains i h) = other_command is_modules job.command Explain i refl j
-  short_text j text s d (unsettled i h) = other_command is_modules job.command Explain i refl j
-  short_text j text s d (checks i h) = other_command is_modules job.command CheckCuts i refl j
+module _ (asked : Asked) (w : Ready) where
+  short_text : is_modules asked.job.command ≡ true → (text : List ℕ) (s : Status) → s ≡ status.Done → Tells asked w text s
+      → IsShortText w asked.job.nodes text
+  short_text j text s d (check i) = other_command is_modules asked.job.command Check i refl j
+  short_text j text s d (flat i h) = other_command is_modules asked.job.command Flat i refl j
+  short_text j text s d (replay i h) = other_command is_modules asked.job.command Replay i refl j
+  short_text j text s d (fragment i h) = other_command is_modules asked.job.command Fragment i refl j
+  short_text j text s d (equations i q h) = other_command is_modules asked.job.command Equations i refl j
+  short_text j text s d (cuts i h) = other_command is_modules asked.job.command Cuts i refl j
+  short_text j text s d (make i h) = other_command is_modules asked.job.command Make i refl j
+  short_text j text s d (told.explains i h) = other_command is_modules asked.job.command Explain i refl j
+  short_text j text s d (unsettled i h) = other_command is_modules asked.job.command Explain i refl j
+  short_text j text s d (checks i h) = other_command is_modules asked.job.command CheckCuts i refl j
   short_text j text s d (in_short i h) = h
   short_text j text s d (conflict i h) = not_so is_done status.Fault status.Done d refl refl
   short_text j text s d (nodes i h) = not_so is_done status.Nodes status.Done d refl refl
 
   abbrev IsConflict : List ℕ → Type 0
-  IsConflict text = IsConflictText (naming_of w.source.declarations) w.source.system w.dropped text
+  IsConflict text = IsConflictText w.order (naming_of w.source.declarations) w.source.system w.dropped text
 
-  pub conflict_text : lists_cuts job.command ≡ true → (text : List ℕ) (s : Status) → s ≡ status.Fault → Tells job w text s
+  pub conflict_text : lists_cuts asked.job.command ≡ true → (text : List ℕ) (s : Status) → s ≡ status.Fault → Tells asked w text s
       → IsConflict text
-  conflict_text j text s d (check i) = other_command lists_cuts job.command Check i refl j
-  conflict_text j text s d (flat i h) = other_command lists_cuts job.command Flat i refl j
-  conflict_text j text s d (replay i h) = other_command lists_cuts job.command Replay i refl j
-  conflict_text j text s d (fragment i h) = other_command lists_cuts job.command Fragment i refl j
-  conflict_text j text s d (equations i q h) = other_command lists_cuts job.command Equations i refl j
+  conflict_text j text s d (check i) = other_command lists_cuts asked.job.command Check i refl j
+  conflict_text j text s d (flat i h) = other_command lists_cuts asked.job.command Flat i refl j
+  conflict_text j text s d (replay i h) = other_command lists_cuts asked.job.command Replay i refl j
+  conflict_text j text s d (fragment i h) = other_command lists_cuts asked.job.command Fragment i refl j
+  conflict_text j text s d (equations i q h) = other_command lists_cuts asked.job.command Equations i refl j
   conflict_text j text s d (cuts i h) = not_so is_fault status.Done status.Fault d refl refl
   conflict_text j text s d (make i h) = not_so is_fault status.Done status.Fault d refl refl
-  conflict_text j text s d (told.explains i h) = other_command lists_cuts job.command Explain i refl j
-  conflict_text j text s d (unsettled i h) = other_command lists_cuts job.command Explain i refl j
+  conflict_text j text s d (told.explains i h) = other_command lists_cuts asked.job.command Explain i refl j
+  conflict_text j text s d (unsettled i h) = other_command lists_cuts asked.job.command Explain i refl j
   conflict_text j text s d (checks i h) = not_so is_fault status.Done status.Fault d refl refl
   conflict_text j text s d (in_short i h) = not_so is_fault status.Done status.Fault d refl refl
   conflict_text j text s d (conflict i h) = h
@@ -211,14 +212,22 @@ Combinations = (x : Elaborated) (dropped : List ℕ) (observer : Expr Thing) (wa
 
 -- Calls
 
-module _ (keep : (text : List ℕ) → TreesKeep text) (c : Call) (job : Job)
-    (one : (a b : Job) → IsJob c.words a → IsJob c.words b → a ≡ b) (is : IsJob c.words job) where
-  module _ (w : Ready) (p : Passes c.files job (Ok w)) (text : List ℕ) (wrote : Wrote c text) where
-    modules_given : Combinations → IsShortText w job.nodes text → AreModulesOf c job
+module _ (keep : (text : List ℕ) → TreesKeep text) (c : Call) (asked : Asked)
+    (one : (a b : Asked) → IsAsked c.words a → IsAsked c.words b → a ≡ b) (is : IsAsked c.words asked) where
+  module _ (w : Ready) (p : Passes c.files asked (Ok w)) (text : List ℕ) (wrote : Wrote c text) where
+    modules_given : Combinations → IsShortText w asked.job.nodes text → AreModulesOf c asked
     modules_given combined h =
-        let ready = ready_for keep c job w p in
+        let ready = ready_for keep c asked w p in
         let stand = combined w.source w.dropped h.has.observed h.has.wanted.value text h.is_text ready.source.kept
         ready.source.units in
+        let asked_cut : (set : List ℕ) → Cut w.source.system w.dropped h.has.observed h.has.wanted.value set
+        → IsCut w h.has set
+        = λ set k. subst (λ (o : Option ℕ). AndUpTo o (Cut w.source.system w.dropped h.has.observed h.has.wanted.value)
+        set) (sym h.all) k in
+        let some_cut : (set : List ℕ) → IsCut w h.has set
+        → Cut w.source.system w.dropped h.has.observed h.has.wanted.value set
+        = λ set k. subst (λ (o : Option ℕ). AndUpTo o (Cut w.source.system w.dropped h.has.observed h.has.wanted.value)
+        set) h.all k in
         record {
           ready = w;
           passes = p;
@@ -230,20 +239,20 @@ module _ (keep : (text : List ℕ) → TreesKeep text) (c : Call) (job : Job)
               let m = stand.made form choice o k in (
                 m.0,
                 member_of (IsCut w h.has) h.is_text.cuts m.0
-                    (all_listed h.is_text.cuts (λ n set at. h.is_text.are_listed.sound n set at)) m.1,
+                    (all_listed h.is_text.cuts (λ n set at. asked_cut set (h.is_text.are_listed.sound n set at))) m.1,
                 m.2,
               );
           whole = λ set k.
-              let o = h.is_text.are_listed.whole set k in
+              let o = h.is_text.are_listed.whole set (some_cut set k) in
               (o.0, o.2, o.3, stand.whole o.0 (each_stands (λ s. has h.is_text.cuts s ≡ true) h.is_text.cuts (has_each h.is_text.cuts) o.1.place o.0 o.1.stands));
           one = stand.one;
         }
 
-    conflict_given : lists_cuts job.command ≡ true
-        → IsConflictText (naming_of w.source.declarations) w.source.system w.dropped text → IsConflictOf c job
-    conflict_given asked h =
-        let ready = ready_for keep c job w p in
-        let static = keyed_static w (ready.fit.0, ready.fit.1 (cuts_to_forest (shape_of job.command).reach asked)) in
+    conflict_given : lists_cuts asked.job.command ≡ true
+        → IsConflictText w.order (naming_of w.source.declarations) w.source.system w.dropped text → IsConflictOf c asked
+    conflict_given sought h =
+        let ready = ready_for keep c asked w p in
+        let static = keyed_static w (ready.fit.0, ready.fit.1 (cuts_to_forest (shape_of asked.job.command).reach sought)) in
         let legal = line_is_legal w.source.system w.dropped static.keyed static.static h.is_line in
         let run = conflict_replays w.source.system w.dropped h.conflicts in
         record {
@@ -261,19 +270,19 @@ module _ (keep : (text : List ℕ) → TreesKeep text) (c : Call) (job : Job)
           fails = run.2;
         }
 
-  pub modules_of : Combinations → job.command ≡ Modules → Gave c status.Done → AreModulesOf c job
+  pub modules_of : Combinations → asked.job.command ≡ Modules → Gave c status.Done → AreModulesOf c asked
   modules_of combined i gave =
       let m = meaning_of c status.Done gave in
-      let same = one m.job job m.is_job is in
-      let p = subst (λ (j : Job). Passes c.files j (Ok m.ready)) same m.passes in
-      let tells = subst (λ (j : Job). Tells j m.ready m.text status.Done) same m.tells in
+      let same = one m.asked asked m.is_job is in
+      let p = subst (λ (j : Asked). Passes c.files j (Ok m.ready)) same m.passes in
+      let tells = subst (λ (j : Asked). Tells j m.ready m.text status.Done) same m.tells in
       modules_given m.ready p m.text m.wrote combined
-      (short_text job m.ready (ap is_modules i) m.text status.Done refl tells)
+      (short_text asked m.ready (ap is_modules i) m.text status.Done refl tells)
 
-  pub conflict_of : lists_cuts job.command ≡ true → Gave c status.Fault → IsConflictOf c job
-  conflict_of asked gave =
+  pub conflict_of : lists_cuts asked.job.command ≡ true → Gave c status.Fault → IsConflictOf c asked
+  conflict_of sought gave =
       let m = meaning_of c status.Fault gave in
-      let same = one m.job job m.is_job is in
-      let p = subst (λ (j : Job). Passes c.files j (Ok m.ready)) same m.passes in
-      let tells = subst (λ (j : Job). Tells j m.ready m.text status.Fault) same m.tells in
-      conflict_given m.ready p m.text m.wrote asked (conflict_text job m.ready asked m.text status.Fault refl tells)
+      let same = one m.asked asked m.is_job is in
+      let p = subst (λ (j : Asked). Passes c.files j (Ok m.ready)) same m.passes in
+      let tells = subst (λ (j : Asked). Tells j m.ready m.text status.Fault) same m.tells in
+      conflict_given m.ready p m.text m.wrote sought (conflict_text asked m.ready sought m.text status.Fault refl tells)

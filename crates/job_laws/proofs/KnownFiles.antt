@@ -4,8 +4,8 @@ use Rattle.std.specs.List.{AllByRecursion}
 use Rattle.ar_base.specs.Counts.{limit_of}
 use Rattle.ar_io.specs.Outside.{Told, Bytes, Absent, Untold, MayBeLonger, IsFile}
 use Rattle.ar_io.specs.Writing.{SinkState}
-use Rattle.run_words.specs.Jobs.{IsJob}
-use Rattle.run_words.specs.declared.jobs.Job.{Job}
+use Rattle.run_words.specs.Jobs.{IsAsked}
+use Rattle.run_words.specs.declared.jobs.Asked.{Asked}
 use Rattle.job_stages.specs.Files.{File, files_of, Loaded, none, long, later, whole, Loads, this, next}
 use Rattle.job_stages.specs.Stages.{Ready, Passes, not_loaded, loaded}
 use Rattle.job_stages.specs.declared.refusals.FileKind.{FileKind}
@@ -55,16 +55,16 @@ module _ (told : List ℕ → Told) where
   loads_after (f ∷ fs) kind name k (next text h m) =
       next text (file_after f text k.0 h) (loads_after fs kind name k.1 m)
 
-  pub passes_after : (job : Job) (x : Result Ready Refusal) → AreKnown told job → Passes told job x → Passes after job x
-  passes_after job x k (not_loaded {r = r} h) = not_loaded (loaded_after (files_of job) (Err r) k h)
-  passes_after job x k (loaded texts h is s) = loaded texts (loaded_after (files_of job) (Ok texts) k h) is s
+  pub passes_after : (asked : Asked) (x : Result Ready Refusal) → AreKnown told asked → Passes told asked x → Passes after asked x
+  passes_after asked x k (not_loaded {r = r} h) = not_loaded (loaded_after (files_of asked) (Err r) k h)
+  passes_after asked x k (loaded texts h is s) = loaded texts (loaded_after (files_of asked) (Ok texts) k h) is s
 
   -- The words
 
-  module _ (rose : List ℕ → Type 0) (words : List (List ℕ)) (job : Job) (is : IsJob words job)
-      (one : (a b : Job) → IsJob words a → IsJob words b → a ≡ b) (known : AreKnown told job) where
-    known_of : (other : Job) → IsJob words other → AreKnown told other
-    known_of other b = subst (λ (z : Job). AreKnown told z) (one job other is b) known
+  module _ (rose : List ℕ → Type 0) (words : List (List ℕ)) (asked : Asked) (is : IsAsked words asked)
+      (one : (a b : Asked) → IsAsked words a → IsAsked words b → a ≡ b) (known : AreKnown told asked) where
+    known_of : (other : Asked) → IsAsked words other → AreKnown told other
+    known_of other b = subst (λ (z : Asked). AreKnown told z) (one asked other is b) known
 
     says_after : (text : List ℕ) (ends : Status) → Says told words text ends → Says after words text ends
     says_after text ends (usage h) = usage h
@@ -89,11 +89,11 @@ module _ (told : List ℕ → Told) where
 
 -- The call
 
-pub gave_after : (c : Call) (s : Status) (job : Job) → ((a b : Job) → IsJob c.words a → IsJob c.words b → a ≡ b)
-    → Gave c s → IsJob c.words job → AreKnown c.files job
+pub gave_after : (c : Call) (s : Status) (asked : Asked) → ((a b : Asked) → IsAsked c.words a → IsAsked c.words b → a ≡ b)
+    → Gave c s → IsAsked c.words asked → AreKnown c.files asked
     → Gave (settled_call c) s
-gave_after c s job one g is known = record {
-  ends = ends_after c.files (RoseAt c) c.words job is one known
+gave_after c s asked one g is known = record {
+  ends = ends_after c.files (RoseAt c) c.words asked is one known
       (record { bytes = c.old; faults = c.sink_old }) (record { bytes = c.new; faults = c.sink_new }) s g.ends;
   untouched = λ none name. record {
     told = ap settled ((g.untouched none name).told);

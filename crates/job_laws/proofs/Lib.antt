@@ -20,6 +20,7 @@ mod LogsTold
 pub mod ManyCuts
 pub mod Modules
 pub mod Observers
+pub mod Orders
 pub mod OneSource
 pub mod Plans
 pub mod Readings

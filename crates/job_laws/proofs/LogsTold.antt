@@ -5,11 +5,11 @@ use Rattle.ar_io.specs.Loads.{Load}
 use Rattle.ar_io.specs.Outside.{Told, Bytes, MayBeLonger, IsFile}
 use Rattle.ar_io.specs.declared.outside.LoadFault.{LoadFault}
 use Rattle.ar_io.specs.declared.outside.LoadFault.TheVariants as fault
-use Rattle.run_words.specs.declared.jobs.Job.{Job}
+use Rattle.run_words.specs.declared.jobs.Asked.{Asked}
 use Rattle.job_stages.specs.Files.{File, files_of, none, long, later, whole, this, next}
 use Rattle.job_stages.specs.Loading.{AnswersFiles, RefusesFiles, limited}
 use Rattle.job_stages.specs.Loading as loading
-use Rattle.job_stages.specs.Logs.{asked, stop_of, Came, PassesBy, not_come, come}
+use Rattle.job_stages.specs.Logs.{logged, stop_of, Came, PassesBy, not_come, come}
 use Rattle.job_stages.specs.Logs as logs
 use Rattle.job_stages.specs.Stages.{Ready, not_loaded, loaded}
 use Rattle.job_stages.specs.declared.refusals.Refusal.{Refusal}
@@ -30,7 +30,7 @@ module _ (told : List ℕ → Told) where
       AnswersFiles {X = List (List ℕ)} (λ (texts : List (List ℕ)). texts) told (λ name. Failed name loads) fs came
 
   stopped : (f : File) (fs : List File) (why : LoadFault) → Agrees (told f.name) (limit_of f.count) (Err why)
-      → Come (f ∷ fs) (asked f (Err why) ∷ []) (Err (stop_of f why))
+      → Come (f ∷ fs) (logged f (Err why) ∷ []) (Err (stop_of f why))
   stopped f fs fault.Failed a = loading.not_read this (here refl refl)
   stopped f fs fault.TooLong a = limited (long (may_be_longer (told f.name) (limit_of f.count) a.0 a.1 a.2))
   stopped f fs fault.Memory a = tt
@@ -51,22 +51,22 @@ module _ (told : List ℕ → Told) where
   came_told fs loads came a logs.none = none
   came_told fs loads came a (logs.stops {f = f} {fs = gs} why) = stopped f gs why a.0
   came_told fs loads came a (logs.later {f = f} {fs = gs} {loads = more} {s = s} text h c) =
-      more_stopped f gs (asked f (Ok text)) more text (is_file (told f.name) (limit_of f.count) text a.0 h) s
+      more_stopped f gs (logged f (Ok text)) more text (is_file (told f.name) (limit_of f.count) text a.0 h) s
       (came_told gs more (Err s) a.1 c)
   came_told fs loads came a (logs.whole {f = f} {fs = gs} {loads = more} {texts = texts} text h c) =
       whole text (is_file (told f.name) (limit_of f.count) text a.0 h) (came_told gs more (Ok texts) a.1 c)
 
   -- The stages of a job
 
-  module _ (loads : List Load) (job : Job) where
-    refused_over : (r : Refusal) → RefusesFiles told (λ name. Failed name loads) (files_of job) r
-        → PassesOver told loads job (Err r)
+  module _ (loads : List Load) (asked : Asked) where
+    refused_over : (r : Refusal) → RefusesFiles told (λ name. Failed name loads) (files_of asked) r
+        → PassesOver told loads asked (Err r)
     refused_over r (limited h) = passes (not_loaded h)
     refused_over r (loading.not_read h k) = not_read h k
 
-    pub passes_over : (x : Result Ready Refusal) → AgreesWith told loads → PassesBy loads job x
-        → PassesOver told loads job x
+    pub passes_over : (x : Result Ready Refusal) → AgreesWith told loads → PassesBy loads asked x
+        → PassesOver told loads asked x
     passes_over x a (not_come {r = r} c) =
-        refused_over r (came_told (files_of job) loads (Err (Refused r)) a c)
+        refused_over r (came_told (files_of asked) loads (Err (Refused r)) a c)
     passes_over x a (come texts c is s) =
-        passes (loaded texts (came_told (files_of job) loads (Ok texts) a c) is s)
+        passes (loaded texts (came_told (files_of asked) loads (Ok texts) a c) is s)

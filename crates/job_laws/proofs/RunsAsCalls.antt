@@ -7,8 +7,8 @@ use Rattle.ar_io.specs.Outside.{Told, Rose}
 use Rattle.ar_io.specs.Writing.{SinkState, Appended}
 use Rattle.ar_io.specs.declared.outside.LoadFault.{LoadFault}
 use Rattle.ar_io.specs.declared.outside.LoadFault.TheVariants as fault
-use Rattle.run_words.specs.Jobs.{IsJob}
-use Rattle.run_words.specs.declared.jobs.Job.{Job}
+use Rattle.run_words.specs.Jobs.{IsAsked}
+use Rattle.run_words.specs.declared.jobs.Asked.{Asked}
 use Rattle.job_stages.specs.Files.{File, files_of, files_where, script_files, Loads}
 use Rattle.job_stages.specs.Jobs.{makes_model, LoadsNothing}
 use Rattle.job_stages.specs.Logs.{Came, none}
@@ -37,9 +37,9 @@ use Rattle.job_laws.specs.Runs.{AgreesWith, Failed, here, behind, PassesOver, pa
 no_loads : (loads : List Load) (came : Result (List (List ℕ)) Stop) → Came [] loads came → loads ≡ []
 no_loads loads came none = refl
 
-no_files : (words : List (List ℕ)) (job : Job) → IsJob words job → makes_model job.command ≡ true → files_of job ≡ []
-no_files words job is e =
-    ap (λ (b : Bool). files_where b job) e ∙ ap script_files (made_job words job is e).script
+no_files : (words : List (List ℕ)) (asked : Asked) → IsAsked words asked → makes_model asked.job.command ≡ true → files_of asked ≡ []
+no_files words asked is e =
+    ap (λ (b : Bool). files_where b asked) e ∙ ap script_files (made_job words asked is e).script
 
 none_loaded : (loads : List Load) (words : List (List ℕ)) → LoadsNothing words → AreLoadsOf words loads → loads ≡ []
 none_loaded loads words made (inl e) = e
@@ -120,44 +120,44 @@ failed_rose (l ∷ loads) name h =
 -- the words say this over files of which this is told, or a file was not read
 data SaysOver (told : List ℕ → Told) (loads : List Load) (words : List (List ℕ)) : List ℕ → Status → Type 0 where
   said : {text : List ℕ} {ends : Status} → Says told words text ends → SaysOver told loads words text ends
-  unread : {kind : FileKind} {name : List ℕ} (job : Job) → IsJob words job → Loads told (files_of job) kind name
+  unread : {kind : FileKind} {name : List ℕ} (asked : Asked) → IsAsked words asked → Loads told (files_of asked) kind name
       → Failed name loads
       → SaysOver told loads words (line_of (NotRead kind)) status.Read
 
 module _ (told : List ℕ → Told) (loads : List Load) (words : List (List ℕ)) (agrees : AgreesWith told loads) where
-  refused_so : (job : Job) (r : Refusal) → IsJob words job → PassesOver told loads job (Err r)
+  refused_so : (asked : Asked) (r : Refusal) → IsAsked words asked → PassesOver told loads asked (Err r)
       → SaysOver told loads words (line_of r) (status_of r)
-  refused_so job r is (passes p) = said (refuses job r is p)
-  refused_so job r is (not_read l k) = unread job is l k
+  refused_so asked r is (passes p) = said (refuses asked r is p)
+  refused_so asked r is (not_read l k) = unread asked is l k
 
-  told_so : (job : Job) (w : Ready) → IsJob words job → PassesOver told loads job (Ok w) → (text : List ℕ)
-      (ends : Status) → Tells job w text ends → Says told words text ends
-  told_so job w is (passes p) text ends t = tells job w is p t
+  told_so : (asked : Asked) (w : Ready) → IsAsked words asked → PassesOver told loads asked (Ok w) → (text : List ℕ)
+      (ends : Status) → Tells asked w text ends → Says told words text ends
+  told_so asked w is (passes p) text ends t = tells asked w is p t
 
   says_so : (text : List ℕ) (ends : Status) → SaysBy loads words text ends → SaysOver told loads words text ends
   says_so text ends (by.usage h e) = said (usage h)
-  says_so text ends (by.refuses job r is p) = refused_so job r is (passes_over told loads job (Err r) agrees p)
-  says_so text ends (by.tells job w is p t) =
-      said (told_so job w is (passes_over told loads job (Ok w) agrees p) text ends t)
+  says_so text ends (by.refuses asked r is p) = refused_so asked r is (passes_over told loads asked (Err r) agrees p)
+  says_so text ends (by.tells asked w is p t) =
+      said (told_so asked w is (passes_over told loads asked (Ok w) agrees p) text ends t)
 
   module _ (rose : List ℕ → Type 0) (rises : (name : List ℕ) → Failed name loads → rose name) (old new : SinkState) where
     wrote_so : (text : List ℕ) (ends : Status) → Appended old.bytes new.bytes text → new.faults ≡ old.faults
         → SaysOver told loads words text ends → EndsSo told rose words old new ends
     wrote_so text ends a k (said h) = says.says h a k
-    wrote_so text ends a k (unread {name = name} job is l f) = says.not_read job is l (rises name f) a k
+    wrote_so text ends a k (unread {name = name} asked is l f) = says.not_read asked is l (rises name f) a k
 
     begun_so : (text : List ℕ) (ends : Status) → SaysOver told loads words text ends → Begins told rose words text
     begun_so text ends (said h) = says.said h
-    begun_so text ends (unread {name = name} job is l f) = says.not_read job is l (rises name f)
+    begun_so text ends (unread {name = name} asked is l f) = says.not_read asked is l (rises name f)
 
     pub ends_so : (s : Status) → EndsBy loads words old new s → EndsSo told rose words old new s
     ends_so s (by.says {text = text} {ends = ends} h a k) = wrote_so text ends a k (says_so text ends h)
     ends_so s (by.not_written {text = text} {ends = ends} h r c) =
         says.not_written (begun_so text ends (says_so text ends h)) r c
     ends_so s (by.no_memory are e) = says.no_memory e
-    ends_so s (by.replay_stopped {text = text} {ends = ends} job w is e p t c k) =
-        says.replay_stopped job is e
-        (told_so job w is (passes_over told loads job (Ok w) agrees p) text ends t) c k
+    ends_so s (by.replay_stopped {text = text} {ends = ends} asked w is e p t c k) =
+        says.replay_stopped asked is e
+        (told_so asked w is (passes_over told loads asked (Ok w) agrees p) text ends t) c k
 
 -- The call
 

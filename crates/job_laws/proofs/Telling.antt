@@ -2,7 +2,7 @@
 use Rattle.std.proofs.Common.{◌≡◌, ◌⊎◌, ℕ, true, false, List, Option, Some, None, Ok, Err, length, refl, sym, ◌∙◌, ap, subst, inl, inr}
 use Rattle.ar_base.proofs.Items.{last_one}
 use Rattle.ar_base.proofs.Standing.{stands_one}
-use Rattle.ar_firing.specs.Cuts.{IsConflictFree}
+use Rattle.ar_firing.specs.Cuts.{IsConflictFreeUpTo}
 use Rattle.ar_firing.specs.Static.{IsKeyedStatic}
 use Rattle.ar_meaning.specs.Runs.{Moment}
 use Rattle.ar_meaning.specs.Systems.{System}
@@ -30,7 +30,7 @@ use Rattle.replayer.specs.Replays.{IsReplay, end_of}
 use Rattle.replayer.specs.Settles.{IsFaultLine}
 use Rattle.replayer.proofs.SettledOnce.{settled_one, not_settled}
 use Rattle.replayer.specs.declared.replaying.End.{End}
-use Rattle.run_words.specs.declared.jobs.Job.{Job}
+use Rattle.run_words.specs.declared.jobs.Asked.{Asked}
 use Rattle.run_words.specs.declared.verbs.Verb.{Verb}
 use Rattle.run_words.specs.declared.verbs.Verb.TheVariants as verb
 use Rattle.table_text.specs.Texts.{IsTableText}
@@ -49,7 +49,7 @@ use Rattle.job_laws.specs.Definite as says
 use Rattle.job_laws.proofs.Asking.{OneList, same_some}
 use Rattle.job_laws.proofs.Cuts.{forest_text_one, cut_text_one, conflict_text_one, no_conflict, check_text_one}
 use Rattle.job_laws.proofs.Demanding.{IsFit, IsFitWhere, keyed_static, readies_one, readies_on}
-use Rattle.job_laws.proofs.ManyCuts.{as_asked, listing_one}
+use Rattle.job_laws.proofs.ManyCuts.{as_asked, listing_one, all_asked}
 use Rattle.job_laws.proofs.Modules.{module_text_one}
 use Rattle.job_laws.proofs.Stages.{same_ok, same_err, ok_err}
 
@@ -82,32 +82,32 @@ Explained w text ends =
 -- a conflict
 abbrev pub Conflicting : Ready → List ℕ → Status → Type 0
 Conflicting w text ends =
-    IsConflictText (naming_of w.source.declarations) w.source.system w.dropped text × (ends ≡ Fault)
+    IsConflictText w.order (naming_of w.source.declarations) w.source.system w.dropped text × (ends ≡ Fault)
 
 -- a text about cuts, a conflict, or that nodes may lack
-abbrev pub AboutCuts : (List ℕ → Type 0) → Job → Ready → List ℕ → Status → Type 0
-AboutCuts P job w text ends = Well P text ends ⊎ (Conflicting w text ends ⊎ SaysNodes job text ends)
+abbrev pub AboutCuts : (List ℕ → Type 0) → Asked → Ready → List ℕ → Status → Type 0
+AboutCuts P asked w text ends = Well P text ends ⊎ (Conflicting w text ends ⊎ SaysNodes asked text ends)
 
 -- what the command tells
-abbrev pub Told : Verb → Job → Ready → List ℕ → Status → Type 0
-Told verb.Check job w text ends = Well (λ t. t ≡ check_text w.source.declarations) text ends
-Told verb.Flat job w text ends = Well (IsFlatText w.source) text ends
-Told verb.Replay job w text ends = Replayed w text ends
-Told verb.Fragment job w text ends =
+abbrev pub Told : Verb → Asked → Ready → List ℕ → Status → Type 0
+Told verb.Check asked w text ends = Well (λ t. t ≡ check_text w.source.declarations) text ends
+Told verb.Flat asked w text ends = Well (IsFlatText w.source) text ends
+Told verb.Replay asked w text ends = Replayed w text ends
+Told verb.Fragment asked w text ends =
     Well (IsForestText (naming_of w.source.declarations) w.source.system w.dropped) text ends
-Told verb.Equations job w text ends = Well (TableTold w) text ends
-Told verb.Cuts job w text ends = AboutCuts (IsCutsText w job.nodes) job w text ends
-Told verb.Make job w text ends = AboutCuts (IsMakeText w job.number job.nodes) job w text ends
-Told verb.Explain job w text ends = Explained w text ends
-Told verb.CheckCuts job w text ends = AboutCuts (IsCheckedText w job.nodes) job w text ends
-Told verb.Modules job w text ends = AboutCuts (IsShortText w job.nodes) job w text ends
+Told verb.Equations asked w text ends = Well (TableTold w) text ends
+Told verb.Cuts asked w text ends = AboutCuts (IsCutsText w asked.job.nodes) asked w text ends
+Told verb.Make asked w text ends = AboutCuts (IsMakeText w asked.job.number asked.job.nodes) asked w text ends
+Told verb.Explain asked w text ends = Explained w text ends
+Told verb.CheckCuts asked w text ends = AboutCuts (IsCheckedText w asked.job.nodes) asked w text ends
+Told verb.Modules asked w text ends = AboutCuts (IsShortText w asked.job.nodes) asked w text ends
 
 no_listing : {A : Type 0} → false ≡ true → A
 no_listing e = cc
 
-module _ (job : Job) (w : Ready) where
+module _ (asked : Asked) (w : Ready) where
   told_conflict : (v : Verb) → lists_cuts v ≡ true → (text : List ℕ) (ends : Status) → Conflicting w text ends
-      → Told v job w text ends
+      → Told v asked w text ends
   told_conflict verb.Check e text ends h = no_listing e
   told_conflict verb.Flat e text ends h = no_listing e
   told_conflict verb.Replay e text ends h = no_listing e
@@ -120,7 +120,7 @@ module _ (job : Job) (w : Ready) where
   told_conflict verb.Modules e text ends h = inr (inl h)
 
   told_nodes : (v : Verb) → lists_cuts v ≡ true → (text : List ℕ) (ends : Status)
-      → SaysNodes job text ends → Told v job w text ends
+      → SaysNodes asked text ends → Told v asked w text ends
   told_nodes verb.Check e text ends h = no_listing e
   told_nodes verb.Flat e text ends h = no_listing e
   told_nodes verb.Replay e text ends h = no_listing e
@@ -133,22 +133,22 @@ module _ (job : Job) (w : Ready) where
   told_nodes verb.Modules e text ends h = inr (inr h)
 
   -- what the job tells is told by its command
-  pub told_by : (text : List ℕ) (ends : Status) → Tells job w text ends → Told job.command job w text ends
-  told_by text ends (told.check e) = subst (λ (v : Verb). Told v job w text ends) (sym e) (refl, refl)
-  told_by text ends (told.flat e h) = subst (λ (v : Verb). Told v job w text ends) (sym e) (h, refl)
+  pub told_by : (text : List ℕ) (ends : Status) → Tells asked w text ends → Told asked.job.command asked w text ends
+  told_by text ends (told.check e) = subst (λ (v : Verb). Told v asked w text ends) (sym e) (refl, refl)
+  told_by text ends (told.flat e h) = subst (λ (v : Verb). Told v asked w text ends) (sym e) (h, refl)
   told_by text ends (told.replay {ends = last} e h) =
-      subst (λ (v : Verb). Told v job w text ends) (sym e) (record { last = last; replay = h; is_status = refl })
-  told_by text ends (told.fragment e h) = subst (λ (v : Verb). Told v job w text ends) (sym e) (h, refl)
+      subst (λ (v : Verb). Told v asked w text ends) (sym e) (record { last = last; replay = h; is_status = refl })
+  told_by text ends (told.fragment e h) = subst (λ (v : Verb). Told v asked w text ends) (sym e) (h, refl)
   told_by text ends (told.equations {wanted = a} e i h) =
-      subst (λ (v : Verb). Told v job w text ends) (sym e) (record { wanted = a; are = i; is_text = h }, refl)
-  told_by text ends (told.cuts e h) = subst (λ (v : Verb). Told v job w text ends) (sym e) (inl (h, refl))
-  told_by text ends (told.make e h) = subst (λ (v : Verb). Told v job w text ends) (sym e) (inl (h, refl))
-  told_by text ends (told.checks e h) = subst (λ (v : Verb). Told v job w text ends) (sym e) (inl (h, refl))
-  told_by text ends (told.in_short e h) = subst (λ (v : Verb). Told v job w text ends) (sym e) (inl (h, refl))
-  told_by text ends (told.explains e h) = subst (λ (v : Verb). Told v job w text ends) (sym e) (inl (h, refl))
-  told_by text ends (told.unsettled e h) = subst (λ (v : Verb). Told v job w text ends) (sym e) (inr (h, refl))
-  told_by text ends (told.conflict e h) = told_conflict job.command e text ends (h, refl)
-  told_by text ends (told.nodes e h) = told_nodes job.command e text ends (refl, refl)
+      subst (λ (v : Verb). Told v asked w text ends) (sym e) (record { wanted = a; are = i; is_text = h }, refl)
+  told_by text ends (told.cuts e h) = subst (λ (v : Verb). Told v asked w text ends) (sym e) (inl (h, refl))
+  told_by text ends (told.make e h) = subst (λ (v : Verb). Told v asked w text ends) (sym e) (inl (h, refl))
+  told_by text ends (told.checks e h) = subst (λ (v : Verb). Told v asked w text ends) (sym e) (inl (h, refl))
+  told_by text ends (told.in_short e h) = subst (λ (v : Verb). Told v asked w text ends) (sym e) (inl (h, refl))
+  told_by text ends (told.explains e h) = subst (λ (v : Verb). Told v asked w text ends) (sym e) (inl (h, refl))
+  told_by text ends (told.unsettled e h) = subst (λ (v : Verb). Told v asked w text ends) (sym e) (inr (h, refl))
+  told_by text ends (told.conflict e h) = told_conflict asked.job.command e text ends (h, refl)
+  told_by text ends (told.nodes e h) = told_nodes asked.job.command e text ends (refl, refl)
 
 -- The names of the source, and its system
 
@@ -217,13 +217,13 @@ module _ (w : Ready) (fit : IsFit w) where
 
   cuts_one : (limit : ℕ) (s t : List ℕ) → IsCutsText w limit s → IsCutsText w limit t → s ≡ t
   cuts_one limit s t a b =
-      cut_text_one (naming w) (system w) w.dropped static a.has.observed a.has.wanted.value s t a.is_text
-      (as_asked w (λ o v. IsCutText (naming w) (system w) w.dropped o v t) a.has b.has b.is_text)
+      cut_text_one (naming w) (system w) w.dropped static w.order a.has.observed a.has.wanted.value s t a.is_text
+      (as_asked w (λ o v. IsCutText w.order (naming w) (system w) w.dropped o v t) a.has b.has b.is_text)
 
   checked_one : (limit : ℕ) (s t : List ℕ) → IsCheckedText w limit s → IsCheckedText w limit t → s ≡ t
   checked_one limit s t a b =
-      check_text_one (naming w) (system w) w.dropped static a.has.observed a.has.wanted.value w.lines s t a.is_text
-      (as_asked w (λ o v. IsCheckText (naming w) (system w) w.dropped o v w.lines t) a.has b.has b.is_text)
+      check_text_one (naming w) (system w) w.dropped static w.order a.has.observed a.has.wanted.value w.lines s t a.is_text
+      (as_asked w (λ o v. IsCheckText w.order (naming w) (system w) w.dropped o v w.lines t) a.has b.has b.is_text)
 
   short_one : (limit : ℕ) (s t : List ℕ) → IsShortText w limit s → IsShortText w limit t → s ≡ t
   short_one limit s t a b =
@@ -233,24 +233,25 @@ module _ (w : Ready) (fit : IsFit w) where
   made_one : (number limit : ℕ) (s t : List ℕ) → IsMakeText w number limit s → IsMakeText w number limit t → s ≡ t
   made_one number limit s t a b =
       let d = w.source.declarations in
-      let e : a.sets ≡ b.sets = listing_one w a.has b.has a.sets b.sets a.are_listed b.are_listed in
+      let e : a.sets ≡ b.sets = listing_one w a.has b.has a.sets b.sets
+      (all_asked w a.all a.has a.sets a.are_listed) (all_asked w b.all b.has b.sets b.are_listed) in
       a.is_text
       ∙ ap (λ (z : List (List ℕ)). make_lines number (length d.units) (length (events d.model d.units)) (count z)
       (largest z)) e
       ∙ sym b.is_text
 
   about_one : (P : List ℕ → Type 0) → ((s t : List ℕ) → P s → P t → s ≡ t)
-      → ((s : List ℕ) → P s → IsConflictFree (system w) w.dropped) → (job : Job) → lists_cuts job.command ≡ true
-      → (s t : List ℕ) (a b : Status) → AboutCuts P job w s a → AboutCuts P job w t b → AgreeButNodes job s a t b
-  about_one P one free job asked s t a b (inl p) (inl q) = inl (one s t p.0 q.0, p.1 ∙ sym q.1)
-  about_one P one free job asked s t a b (inl p) (inr (inl q)) = absurd
-      (no_conflict (naming w) (system w) w.dropped static (free s p.0) t q.0)
-  about_one P one free job asked s t a b (inr (inl p)) (inl q) = absurd
-      (no_conflict (naming w) (system w) w.dropped static (free t q.0) s p.0)
-  about_one P one free job asked s t a b (inr (inl p)) (inr (inl q)) =
-      inl (conflict_text_one (naming w) (system w) w.dropped static s t p.0 q.0, p.1 ∙ sym q.1)
-  about_one P one free job asked s t a b (inr (inr p)) q = inr (asked, inl p)
-  about_one P one free job asked s t a b p (inr (inr q)) = inr (asked, inr q)
+      → ((s : List ℕ) → P s → IsConflictFreeUpTo w.order (system w) w.dropped) → (asked : Asked) → lists_cuts asked.job.command ≡ true
+      → (s t : List ℕ) (a b : Status) → AboutCuts P asked w s a → AboutCuts P asked w t b → AgreeButNodes asked s a t b
+  about_one P one free asked sought s t a b (inl p) (inl q) = inl (one s t p.0 q.0, p.1 ∙ sym q.1)
+  about_one P one free asked sought s t a b (inl p) (inr (inl q)) = absurd
+      (no_conflict (naming w) (system w) w.dropped static w.order (free s p.0) t q.0)
+  about_one P one free asked sought s t a b (inr (inl p)) (inl q) = absurd
+      (no_conflict (naming w) (system w) w.dropped static w.order (free t q.0) s p.0)
+  about_one P one free asked sought s t a b (inr (inl p)) (inr (inl q)) =
+      inl (conflict_text_one (naming w) (system w) w.dropped static w.order s t p.0 q.0, p.1 ∙ sym q.1)
+  about_one P one free asked sought s t a b (inr (inr p)) q = inr (sought, inl p)
+  about_one P one free asked sought s t a b p (inr (inr q)) = inr (sought, inr q)
 
 -- Flat systems
 
@@ -262,13 +263,13 @@ flat_text_one x is s t a b =
 
 -- All commands
 
-module _ (job : Job) (w : Ready) where
+module _ (asked : Asked) (w : Ready) where
   well_one : (P : List ℕ → Type 0) → ((s t : List ℕ) → P s → P t → s ≡ t) → (s t : List ℕ) (a b : Status)
-      → Well P s a → Well P t b → AgreeButNodes job s a t b
+      → Well P s a → Well P t b → AgreeButNodes asked s a t b
   well_one P one s t a b p q = inl (one s t p.0 q.0, p.1 ∙ sym q.1)
 
-  told_one : (v : Verb) → job.command ≡ v → IsFitWhere (is_static v) w → (s t : List ℕ) (a b : Status)
-      → Told v job w s a → Told v job w t b → AgreeButNodes job s a t b
+  told_one : (v : Verb) → asked.job.command ≡ v → IsFitWhere (is_static v) w → (s t : List ℕ) (a b : Status)
+      → Told v asked w s a → Told v asked w t b → AgreeButNodes asked s a t b
   told_one verb.Check e fit s t a b p q =
       well_one (λ t. t ≡ check_text w.source.declarations) (λ s t h k. h ∙ sym k) s t a b p q
   told_one verb.Flat e fit s t a b p q =
@@ -280,36 +281,36 @@ module _ (job : Job) (w : Ready) where
       (keyed_static w (fit.0, fit.1 refl))) s t a b p q
   told_one verb.Equations e fit s t a b p q = well_one (TableTold w) (table_text_one w (fit.0, fit.1 refl)) s t a b p q
   told_one verb.Cuts e fit s t a b p q =
-      about_one w (fit.0, fit.1 refl) (IsCutsText w job.nodes) (cuts_one w (fit.0, fit.1 refl) job.nodes)
-      (λ s h. h.has.conflict_free) job (ap lists_cuts e) s t a b p q
+      about_one w (fit.0, fit.1 refl) (IsCutsText w asked.job.nodes) (cuts_one w (fit.0, fit.1 refl) asked.job.nodes)
+      (λ s h. h.has.conflict_free) asked (ap lists_cuts e) s t a b p q
   told_one verb.Make e fit s t a b p q =
-      about_one w (fit.0, fit.1 refl) (IsMakeText w job.number job.nodes)
-      (made_one w (fit.0, fit.1 refl) job.number job.nodes) (λ s h. h.has.conflict_free) job (ap lists_cuts e) s t a b
+      about_one w (fit.0, fit.1 refl) (IsMakeText w asked.job.number asked.job.nodes)
+      (made_one w (fit.0, fit.1 refl) asked.job.number asked.job.nodes) (λ s h. h.has.conflict_free) asked (ap lists_cuts e) s t a b
       p q
   told_one verb.Explain e fit s t a b p q = inl (explained_one w fit.0 s t a b p q)
   told_one verb.CheckCuts e fit s t a b p q =
-      about_one w (fit.0, fit.1 refl) (IsCheckedText w job.nodes) (checked_one w (fit.0, fit.1 refl) job.nodes)
-      (λ s h. h.has.conflict_free) job (ap lists_cuts e) s t a b p q
+      about_one w (fit.0, fit.1 refl) (IsCheckedText w asked.job.nodes) (checked_one w (fit.0, fit.1 refl) asked.job.nodes)
+      (λ s h. h.has.conflict_free) asked (ap lists_cuts e) s t a b p q
   told_one verb.Modules e fit s t a b p q =
-      about_one w (fit.0, fit.1 refl) (IsShortText w job.nodes) (short_one w (fit.0, fit.1 refl) job.nodes)
-      (λ s h. h.has.conflict_free) job (ap lists_cuts e) s t a b p q
+      about_one w (fit.0, fit.1 refl) (IsShortText w asked.job.nodes) (short_one w (fit.0, fit.1 refl) asked.job.nodes)
+      (λ s h. h.has.conflict_free) asked (ap lists_cuts e) s t a b p q
 
-  pub tells_one : IsFitWhere (is_static job.command) w → (s t : List ℕ) (a b : Status)
-      → Tells job w s a → Tells job w t b → AgreeButNodes job s a t b
-  tells_one fit s t a b p q = told_one job.command refl fit s t a b (told_by job w s a p) (told_by job w t b q)
+  pub tells_one : IsFitWhere (is_static asked.job.command) w → (s t : List ℕ) (a b : Status)
+      → Tells asked w s a → Tells asked w t b → AgreeButNodes asked s a t b
+  tells_one fit s t a b p q = told_one asked.job.command refl fit s t a b (told_by asked w s a p) (told_by asked w t b q)
 
 -- Refusals and texts
 
-module _ (one_list : OneList) (x : Elaborated) (is : IsDefinite x) (job : Job) (texts : List (List ℕ)) where
-  pub saying_one : (s t : List ℕ) (a b : Status) → SaysOf job texts x s a → SaysOf job texts x t b
-      → AgreeButNodes job s a t b
+module _ (one_list : OneList) (x : Elaborated) (is : IsDefinite x) (asked : Asked) (texts : List (List ℕ)) where
+  pub saying_one : (s t : List ℕ) (a b : Status) → SaysOf asked texts x s a → SaysOf asked texts x t b
+      → AgreeButNodes asked s a t b
   saying_one s t a b (says.refuses {r = r} h) (says.refuses {r = q} k) =
-      let e = same_err r q (readies_one job texts one_list x is (Err r) (Err q) h k) in
+      let e = same_err r q (readies_one asked texts one_list x is (Err r) (Err q) h k) in
       inl (ap line_of e, ap status_of e)
   saying_one s t a b (says.refuses {r = r} h) (says.tells {w = w} k m) =
-      ok_err w r (readies_one job texts one_list x is (Ok w) (Err r) k h)
+      ok_err w r (readies_one asked texts one_list x is (Ok w) (Err r) k h)
   saying_one s t a b (says.tells {w = w} k m) (says.refuses {r = r} h) =
-      ok_err w r (readies_one job texts one_list x is (Ok w) (Err r) k h)
+      ok_err w r (readies_one asked texts one_list x is (Ok w) (Err r) k h)
   saying_one s t a b (says.tells {w = w} h p) (says.tells {w = v} k q) =
-      let e : v ≡ w = same_ok v w (readies_one job texts one_list x is (Ok v) (Ok w) k h) in
-      tells_one job w (readies_on job texts x w is h) s t a b p (subst (λ (z : Ready). Tells job z t b) e q)
+      let e : v ≡ w = same_ok v w (readies_one asked texts one_list x is (Ok v) (Ok w) k h) in
+      tells_one asked w (readies_on asked texts x w is h) s t a b p (subst (λ (z : Ready). Tells asked z t b) e q)

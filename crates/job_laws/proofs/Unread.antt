@@ -7,9 +7,9 @@ use Rattle.parser_laws.specs.Models.{HasOneTree}
 use Rattle.ar_syntax.specs.declared.items.Model.{Model}
 use Rattle.job_inputs.specs.Scripts.{Why, IsNoCommand, LacksWay, NamesNoEvent}
 use Rattle.run_words.specs.Commands.{shape_of, is_script, is_list}
-use Rattle.run_words.specs.declared.jobs.Job.{Job}
+use Rattle.run_words.specs.declared.jobs.Asked.{Asked}
 use Rattle.job_stages.specs.Elaborates.{reads, breaks, exceeds as exceeds_limit}
-use Rattle.run_words.specs.Jobs.{IsJob}
+use Rattle.run_words.specs.Jobs.{IsAsked}
 use Rattle.altarica_run.specs.Follows.{Call, Gave}
 use Rattle.job_stages.specs.Refusals.{status_of}
 use Rattle.altarica_run.specs.Statuses.{Meaning_of}
@@ -65,61 +65,61 @@ of_shown true path w r (shows_none i h) = refl
 of_shown false path w r h = cc
 
 of_static : (b : Bool) (w : Ready) (r : Refusal) → Where b Static w (Err r) → is_syntax r ≡ false
-of_static true w r (outside h) = refl
+of_static true w r (outside q h) = refl
 of_static false w r h = cc
 
 of_table : (b : Bool) (w : Ready) (r : Refusal) → Where b Tabled w (Err r) → is_syntax r ≡ false
 of_table true w r (exceeds i h k) = refl
 of_table false w r h = cc
 
-module _ (text : List ℕ) (one : HasOneTree text) (job : Job) (texts : List (List ℕ)) where
+module _ (text : List ℕ) (one : HasOneTree text) (asked : Asked) (texts : List (List ℕ)) where
   -- a text that is read is refused by a later stage
-  pub later_refused : (m : Model) → Reads text m → (r : Refusal) → Stages job texts text (Err r) → is_syntax r ≡ false
+  pub later_refused : (m : Model) → Reads text m → (r : Refusal) → Stages asked texts text (Err r) → is_syntax r ≡ false
   later_refused m is r (refuses (refuses h)) = absurd (parses_one text one (Ok m) (Err r) (reads is) h)
   later_refused m is r (refuses (passes n p (breaks h))) = refl
   later_refused m is r (refuses (passes n p (exceeds_limit h))) = refl
-  later_refused m is r (passes x p (refuses (refuses h))) = of_script (is_script (shape_of job.command).files) texts (bare x) r h
+  later_refused m is r (passes x p (refuses (refuses h))) = of_script (is_script (shape_of asked.job.command).files) texts (bare asked.order x) r h
   later_refused m is r (passes x p (refuses (passes w q (refuses h)))) =
-      of_list (is_list (shape_of job.command).files) texts w r h
-  later_refused m is r (passes x p (refuses (passes w q (passes v k (refuses h))))) = of_dropped job.dropped v r h
+      of_list (is_list (shape_of asked.job.command).files) texts w r h
+  later_refused m is r (passes x p (refuses (passes w q (passes v k (refuses h))))) = of_dropped asked.job.dropped v r h
   later_refused m is r (passes x p (refuses (passes w q (passes v k (passes u l (refuses h)))))) =
-      of_wanted (has_table job.command) (observer_asked job) job.value u r h
+      of_wanted (has_table asked.job.command) (observer_asked asked) asked.job.value u r h
   later_refused m is r (passes x p (refuses (passes w q (passes v k (passes u l (passes y n h)))))) =
-      of_shown (shape_of job.command).explains job.observer y r h
-  later_refused m is r (passes x p (passes w q (refuses h))) = of_static (is_static job.command) w r h
-  later_refused m is r (passes x p (passes w q (passes v k h))) = of_table (has_table job.command) v r h
+      of_shown (shape_of asked.job.command).explains asked.job.observer y r h
+  later_refused m is r (passes x p (passes w q (refuses h))) = of_static (is_static asked.job.command) w r h
+  later_refused m is r (passes x p (passes w q (passes v k h))) = of_table (has_table asked.job.command) v r h
 
 -- The text of a job is one
 
-texts_same : (job : Job) (a b : List (List ℕ)) (s t : List ℕ) → a ≡ b → IsText job a s → IsText job b t → s ≡ t
-texts_same job a b s t e (first i) (first j) = cc
-texts_same job a b s t e (first i) (made j) = let k : false ≡ true = sym i ∙ j in absurd cc
-texts_same job a b s t e (made i) (first j) = let k : false ≡ true = sym j ∙ i in absurd cc
-texts_same job a b s t e (made i) (made j) = refl
+texts_same : (asked : Asked) (a b : List (List ℕ)) (s t : List ℕ) → a ≡ b → IsText asked a s → IsText asked b t → s ≡ t
+texts_same asked a b s t e (first i) (first j) = cc
+texts_same asked a b s t e (first i) (made j) = let k : false ≡ true = sym i ∙ j in absurd cc
+texts_same asked a b s t e (made i) (first j) = let k : false ≡ true = sym j ∙ i in absurd cc
+texts_same asked a b s t e (made i) (made j) = refl
 
 module _ (files : List ℕ → Told)
     (loading : (fs : List File) (x y : Result (List (List ℕ)) Refusal) → Loaded files fs x → Loaded files fs y → x ≡ y)
-    (job : Job) (texts : List (List ℕ)) (text : List ℕ) (is_loaded : Loaded files (files_of job) (Ok texts))
-    (is_text : IsText job texts text) (one : HasOneTree text) where
+    (asked : Asked) (texts : List (List ℕ)) (text : List ℕ) (is_loaded : Loaded files (files_of asked) (Ok texts))
+    (is_text : IsText asked texts text) (one : HasOneTree text) where
   -- its stages are passed with this text
-  pub of_text : (x : Result Ready Refusal) → Passes files job x → Stages job texts text x
-  of_text x (not_loaded {r = q} h) = ok_err texts q (loading (files_of job) (Ok texts) (Err q) is_loaded h)
+  pub of_text : (x : Result Ready Refusal) → Passes files asked x → Stages asked texts text x
+  of_text x (not_loaded {r = q} h) = ok_err texts q (loading (files_of asked) (Ok texts) (Err q) is_loaded h)
   of_text x (loaded {text = other} others l t s) =
-      let e : others ≡ texts = same_ok others texts (loading (files_of job) (Ok others) (Ok texts) l is_loaded) in
-      let i : other ≡ text = texts_same job others texts other text e t is_text in
-      subst (λ (z : List (List ℕ)). Stages job z text x) e (subst (λ (z : List ℕ). Stages job others z x) i s)
+      let e : others ≡ texts = same_ok others texts (loading (files_of asked) (Ok others) (Ok texts) l is_loaded) in
+      let i : other ≡ text = texts_same asked others texts other text e t is_text in
+      subst (λ (z : List (List ℕ)). Stages asked z text x) e (subst (λ (z : List ℕ). Stages asked others z x) i s)
 
-  pub read_not_refused : (m : Model) → Reads text m → (r : Refusal) → Passes files job (Err r) → is_syntax r ≡ false
-  read_not_refused m is r h = later_refused text one job texts m is r (of_text (Err r) h)
+  pub read_not_refused : (m : Model) → Reads text m → (r : Refusal) → Passes files asked (Err r) → is_syntax r ≡ false
+  read_not_refused m is r h = later_refused text one asked texts m is r (of_text (Err r) h)
 
 -- Calls
 
-module _ (c : Call) (job : Job) (same : (a b : Job) → IsJob c.words a → IsJob c.words b → a ≡ b)
-    (is : IsJob c.words job)
+module _ (c : Call) (asked : Asked) (same : (a b : Asked) → IsAsked c.words a → IsAsked c.words b → a ≡ b)
+    (is : IsAsked c.words asked)
     (loading : (fs : List File) (x y : Result (List (List ℕ)) Refusal) → Loaded c.files fs x → Loaded c.files fs y
     → x ≡ y)
-    (texts : List (List ℕ)) (text : List ℕ) (is_loaded : Loaded c.files (files_of job) (Ok texts))
-    (is_text : IsText job texts text) (one : HasOneTree text) where
+    (texts : List (List ℕ)) (text : List ℕ) (is_loaded : Loaded c.files (files_of asked) (Ok texts))
+    (is_text : IsText asked texts text) (one : HasOneTree text) where
   syntax_status : (r : Refusal) → status_of r ≡ status.Syntax → is_syntax r ≡ true
   syntax_status (Syntax place) e = refl
   syntax_status Usage e = cc
@@ -138,8 +138,8 @@ module _ (c : Call) (job : Job) (same : (a b : Job) → IsJob c.words a → IsJo
   pub never_syntax : (m : Model) → Reads text m → (s : Status) → Gave c s → s ≡ status.Syntax → ⊥
   never_syntax m is_read s g e =
       let h = subst (Meaning_of c) e (meaning_of c s g) in
-      let p = subst (λ (j : Job). Passes c.files j (Err h.refusal)) (same h.job job h.is_job is) h.stage in
-      let no = read_not_refused c.files loading job texts text is_loaded is_text one m is_read h.refusal p in
+      let p = subst (λ (j : Asked). Passes c.files j (Err h.refusal)) (same h.asked asked h.is_job is) h.stage in
+      let no = read_not_refused c.files loading asked texts text is_loaded is_text one m is_read h.refusal p in
       let yes = syntax_status h.refusal (sym h.is_status) in
       let k : false ≡ true = sym no ∙ yes in
       absurd cc

@@ -2,7 +2,7 @@
 use Rattle.std.specs.Prelude.{◌≡◌, ◌⊎◌, ℕ, true, List, Ok, Err}
 use Rattle.ar_meaning.specs.Facts.{AreKeyed}
 use Rattle.gts_flatten.specs.Elaborating.{Elaborated}
-use Rattle.run_words.specs.declared.jobs.Job.{Job}
+use Rattle.run_words.specs.declared.jobs.Asked.{Asked}
 use Rattle.job_laws.specs.Named.{NamesOnce}
 use Rattle.job_stages.specs.Refusals.{line_of, status_of}
 use Rattle.job_stages.specs.Stages.{Ready, Readies, lists_cuts}
@@ -18,16 +18,16 @@ pub record IsDefinite (x : Elaborated) : Type 0 where
 
 -- the stages behind the source refuse the job, whose files have these texts, with this line and status; or all of them
 -- are passed, and the job has this text and ends so
-pub data SaysOf (job : Job) (texts : List (List ℕ)) (x : Elaborated) : List ℕ → Status → Type 0 where
-  refuses : {r : Refusal} → Readies job texts x (Err r) → SaysOf job texts x (line_of r) (status_of r)
-  tells : {w : Ready} {text : List ℕ} {ends : Status} → Readies job texts x (Ok w) → Tells job w text ends
-      → SaysOf job texts x text ends
+pub data SaysOf (asked : Asked) (texts : List (List ℕ)) (x : Elaborated) : List ℕ → Status → Type 0 where
+  refuses : {r : Refusal} → Readies asked texts x (Err r) → SaysOf asked texts x (line_of r) (status_of r)
+  tells : {w : Ready} {text : List ℕ} {ends : Status} → Readies asked texts x (Ok w) → Tells asked w text ends
+      → SaysOf asked texts x text ends
 
 -- the text is the line `nodes: N` of the limit that the job gives, with its status
-abbrev pub SaysNodes : Job → List ℕ → Status → Type 0
-SaysNodes job text ends = (text ≡ nodes_line job.nodes) × (ends ≡ Nodes)
+abbrev pub SaysNodes : Asked → List ℕ → Status → Type 0
+SaysNodes asked text ends = (text ≡ nodes_line asked.job.nodes) × (ends ≡ Nodes)
 
 -- the texts are one, and both end alike; or cuts are asked for, and one of the two is the line `nodes: N`
-abbrev pub AgreeButNodes : Job → List ℕ → Status → List ℕ → Status → Type 0
-AgreeButNodes job s a t b =
-    ((s ≡ t) × (a ≡ b)) ⊎ ((lists_cuts job.command ≡ true) × (SaysNodes job s a ⊎ SaysNodes job t b))
+abbrev pub AgreeButNodes : Asked → List ℕ → Status → List ℕ → Status → Type 0
+AgreeButNodes asked s a t b =
+    ((s ≡ t) × (a ≡ b)) ⊎ ((lists_cuts asked.job.command ≡ true) × (SaysNodes asked s a ⊎ SaysNodes asked t b))

@@ -7,7 +7,7 @@ use Rattle.ar_io.specs.Outside.{Told, Bytes, Absent, Untold}
 use Rattle.ar_io.specs.Writing.{SinkState}
 use Rattle.ar_io.specs.declared.outside.LoadFault.{LoadFault}
 use Rattle.ar_io.specs.declared.outside.LoadFault.TheVariants as fault
-use Rattle.run_words.specs.declared.jobs.Job.{Job}
+use Rattle.run_words.specs.declared.jobs.Asked.{Asked}
 use Rattle.job_stages.specs.Files.{File, files_of, Loads}
 use Rattle.job_stages.specs.Stages.{Ready, Passes}
 use Rattle.job_stages.specs.declared.refusals.FileKind.{FileKind}
@@ -34,10 +34,10 @@ pub data Failed (name : List ℕ) : List Load → Type 0 where
 
 -- the stages of the job come to this over files of which this is told; or a file of it was not read, a load of which
 -- failed
-pub data PassesOver (told : List ℕ → Told) (loads : List Load) (job : Job) : Result Ready Refusal → Type 0 where
-  passes : {x : Result Ready Refusal} → Passes told job x → PassesOver told loads job x
-  not_read : {kind : FileKind} {name : List ℕ} → Loads told (files_of job) kind name → Failed name loads
-      → PassesOver told loads job (Err (NotRead kind))
+pub data PassesOver (told : List ℕ → Told) (loads : List Load) (asked : Asked) : Result Ready Refusal → Type 0 where
+  passes : {x : Result Ready Refusal} → Passes told asked x → PassesOver told loads asked x
+  not_read : {kind : FileKind} {name : List ℕ} → Loads told (files_of asked) kind name → Failed name loads
+      → PassesOver told loads asked (Err (NotRead kind))
 
 -- no name is loaded twice
 abbrev pub AreApart : List Load → Type 0
@@ -55,8 +55,8 @@ pub record IsCallOf (words : List (List ℕ)) (told : List ℕ → Told) (loads 
   pub failed : (name : List ℕ) → RoseAt c name → Failed name loads
 
 -- something is told of each file of the job
-abbrev pub AreKnown : (List ℕ → Told) → Job → Type 0
-AreKnown told job = AllByRecursion (λ (f : File). IsKnown (told f.name)) (files_of job)
+abbrev pub AreKnown : (List ℕ → Told) → Asked → Type 0
+AreKnown told asked = AllByRecursion (λ (f : File). IsKnown (told f.name)) (files_of asked)
 
 -- what is told, and that there is no file where nothing is told
 abbrev pub settled : Told → Told

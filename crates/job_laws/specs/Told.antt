@@ -1,6 +1,6 @@
 -- How a call ends of whose job it is known what stands ready for it, or why it is refused.
 use Rattle.std.specs.Prelude.{◌≡◌, ◌⊎◌, ℕ, List}
-use Rattle.run_words.specs.declared.jobs.Job.{Job}
+use Rattle.run_words.specs.declared.jobs.Asked.{Asked}
 use Rattle.altarica_run.specs.Follows.{Call, SinkRose, Wrote}
 use Rattle.job_stages.specs.Refusals.{line_of, status_of}
 use Rattle.job_stages.specs.Stages.{Ready}
@@ -16,9 +16,9 @@ abbrev pub IsStopped : Call → Status → Type 0
 IsStopped c s = ((s ≡ Read) × IsNotRead c) ⊎ (((s ≡ Write) × SinkRose c) ⊎ (s ≡ Memory))
 
 -- a text that the job tells was written whole, and the call ends as this text does
-pub record IsAnswered (c : Call) (job : Job) (w : Ready) (s : Status) : Type 0 where
+pub record IsAnswered (c : Call) (asked : Asked) (w : Ready) (s : Status) : Type 0 where
   pub text : List ℕ
-  pub tells : Tells job w text s
+  pub tells : Tells asked w text s
   pub wrote : Wrote c text
 
 -- the call ends with this status, and a text with P was written whole

@@ -2,7 +2,7 @@
 
 ghost use Rattle.std.specs.Prelude.{ℕ, List, Option, Result};
 ghost use Rattle.gts_flatten.specs.Elaborating.{Elaborated};
-ghost use Rattle.run_words.specs.declared.jobs.Job.{Job};
+ghost use Rattle.run_words.specs.declared.jobs.Asked.{Asked};
 ghost use Rattle.job_stages.specs.Elaborates.{Elaborates};
 ghost use Rattle.job_stages.specs.Stages.{Ready, Readies};
 ghost use Rattle.job_stages.specs.declared.refusals.Refusal.{Refusal};
@@ -25,12 +25,12 @@ use unit_laws::laws::{texts_are_seen_alike, texts_break_the_same_rules};
 /// - `one_answer_of_alike_sources`: Of sources that are alike the words of a job say at most one text and end
 ///   in one way, save that, where cuts are asked for, the line `nodes: N` may stand beside it.
 pub fn one_answer_of_alike_sources()
-    ensures one_readiness_of_alike_sources { (x y : Elaborated) → SameSource x y → IsDefinite y → (job : Job)
-        (texts : List (List ℕ)) (a b : Result Ready Refusal) → Readies job texts x a
-        → Readies job texts y b → SameAnswer SameReady a b }
-    ensures one_answer_of_alike_sources { (x y : Elaborated) → SameSource x y → IsDefinite y → (job : Job)
-        (texts : List (List ℕ)) (s t : List ℕ) (a b : Status) → SaysOf job texts x s a
-        → SaysOf job texts y t b → AgreeButNodes job s a t b }
+    ensures one_readiness_of_alike_sources { (x y : Elaborated) → SameSource x y → IsDefinite y → (asked : Asked)
+        (texts : List (List ℕ)) (a b : Result Ready Refusal) → Readies asked texts x a
+        → Readies asked texts y b → SameAnswer SameReady a b }
+    ensures one_answer_of_alike_sources { (x y : Elaborated) → SameSource x y → IsDefinite y → (asked : Asked)
+        (texts : List (List ℕ)) (s t : List ℕ) (a b : Status) → SaysOf asked texts x s a
+        → SaysOf asked texts y t b → AgreeButNodes asked s a t b }
 {
     one_list();
     jobs_agree();

@@ -20,9 +20,9 @@ ghost use Rattle.ar_parser.specs.Models.{AreLexemes, Reads};
 ghost use Rattle.parser_laws.specs.Models.{SameModel};
 ghost use Rattle.ar_syntax.specs.declared.items.Model.{Model};
 ghost use Rattle.gts_flatten.specs.Elaborating.{Elaborated};
-ghost use Rattle.run_words.specs.declared.jobs.Job.{Job};
+ghost use Rattle.run_words.specs.declared.jobs.Asked.{Asked};
 ghost use Rattle.run_words.specs.declared.verbs.Verb.TheVariants.{Modules};
-ghost use Rattle.run_words.specs.Jobs.{IsJob};
+ghost use Rattle.run_words.specs.Jobs.{IsAsked};
 ghost use Rattle.job_stages.specs.Elaborates.{Elaborates, Parses, Ruled, Tables};
 ghost use Rattle.job_stages.specs.Files.{files_of, Loaded, IsText};
 ghost use Rattle.altarica_run.specs.Follows.{Call, Gave, IsKnown, IsQuiet, Wrote};
@@ -86,16 +86,16 @@ pub fn one_stage_each()
 ///   grammar begins with them, of some nesting. So a text that is refused for its syntax is refused at the
 ///   first token with which no text goes on, and its tokens before that one begin some text.
 pub fn one_asking()
-    ensures one_request { (x : Elaborated) → IsDefinite x → (job : Job) (texts : List (List ℕ))
-        (a b : Result Ready Refusal) → Asks job texts x a → Asks job texts x b → a ≡ b }
-    ensures one_readiness { (x : Elaborated) → IsDefinite x → (job : Job) (texts : List (List ℕ))
-        (a b : Result Ready Refusal) → Readies job texts x a → Readies job texts x b → a ≡ b }
-    ensures one_saying { (x : Elaborated) → IsDefinite x → (job : Job) (texts : List (List ℕ))
-        (s t : List ℕ) (a b : Status) → SaysOf job texts x s a → SaysOf job texts x t b
-        → AgreeButNodes job s a t b }
-    ensures one_text { (x : Elaborated) → IsDefinite x → (job : Job) (texts : List (List ℕ)) (w : Ready)
-        → Readies job texts x (Ok w) → (s t : List ℕ) (a b : Status)
-        → Tells job w s a → Tells job w t b → AgreeButNodes job s a t b }
+    ensures one_request { (x : Elaborated) → IsDefinite x → (asked : Asked) (texts : List (List ℕ))
+        (a b : Result Ready Refusal) → Asks asked texts x a → Asks asked texts x b → a ≡ b }
+    ensures one_readiness { (x : Elaborated) → IsDefinite x → (asked : Asked) (texts : List (List ℕ))
+        (a b : Result Ready Refusal) → Readies asked texts x a → Readies asked texts x b → a ≡ b }
+    ensures one_saying { (x : Elaborated) → IsDefinite x → (asked : Asked) (texts : List (List ℕ))
+        (s t : List ℕ) (a b : Status) → SaysOf asked texts x s a → SaysOf asked texts x t b
+        → AgreeButNodes asked s a t b }
+    ensures one_text { (x : Elaborated) → IsDefinite x → (asked : Asked) (texts : List (List ℕ)) (w : Ready)
+        → Readies asked texts x (Ok w) → (s t : List ℕ) (a b : Status)
+        → Tells asked w s a → Tells asked w t b → AgreeButNodes asked s a t b }
     ensures fitting_fronts_are_viable { (text : List ℕ) (front rest : Tokens) (names : List (List ℕ)) (end : Place)
         → AreLexemes text (front ++ rest) names end → (n : ℕ) → FitsNesting n front
         → Viable front }
@@ -120,35 +120,35 @@ pub fn one_asking()
 ///   refused.
 pub fn first_causes_are_told()
     ensures unread_text_refused { (files : List ℕ → Told) → ((name : List ℕ) → IsKnown (files name))
-        → (job : Job) (texts : List (List ℕ)) (text : List ℕ) (r : Refusal)
-        → Loaded files (files_of job) (Ok texts) → IsText job texts text → Parses text (Err r)
-        → (x : Result Ready Refusal) → Passes files job x → x ≡ Err r }
-    ensures unread_texts_are_refused { (c : Call) (s : Status) (job : Job) (texts : List (List ℕ)) (text : List ℕ)
+        → (asked : Asked) (texts : List (List ℕ)) (text : List ℕ) (r : Refusal)
+        → Loaded files (files_of asked) (Ok texts) → IsText asked texts text → Parses text (Err r)
+        → (x : Result Ready Refusal) → Passes files asked x → x ≡ Err r }
+    ensures unread_texts_are_refused { (c : Call) (s : Status) (asked : Asked) (texts : List (List ℕ)) (text : List ℕ)
         (r : Refusal) → Gave c s → IsQuiet c → ((name : List ℕ) → IsKnown (c.files name))
-        → IsJob c.words job → Loaded c.files (files_of job) (Ok texts) → IsText job texts text
+        → IsAsked c.words asked → Loaded c.files (files_of asked) (Ok texts) → IsText asked texts text
         → Parses text (Err r)
         → ((s ≡ status_of r) × Wrote c (line_of r)) ⊎ (s ≡ status.Memory) }
     ensures broken_rule_refused { (files : List ℕ → Told) → ((name : List ℕ) → IsKnown (files name))
-        → (job : Job) (texts : List (List ℕ)) (text : List ℕ) (m : Model) (d : Declared) (r : ℕ)
-        (p : Place) → Loaded files (files_of job) (Ok texts) → IsText job texts text → Reads text m
-        → IsDeclared m d → IsBroken text_rules (BreaksTextRule m job.main d) r p
-        → (x : Result Ready Refusal) → Passes files job x → x ≡ Err (Rule r p) }
-    ensures broken_rules_are_told { (c : Call) (s : Status) (job : Job) (texts : List (List ℕ)) (text : List ℕ)
+        → (asked : Asked) (texts : List (List ℕ)) (text : List ℕ) (m : Model) (d : Declared) (r : ℕ)
+        (p : Place) → Loaded files (files_of asked) (Ok texts) → IsText asked texts text → Reads text m
+        → IsDeclared m d → IsBroken text_rules (BreaksTextRule m asked.job.main d) r p
+        → (x : Result Ready Refusal) → Passes files asked x → x ≡ Err (Rule r p) }
+    ensures broken_rules_are_told { (c : Call) (s : Status) (asked : Asked) (texts : List (List ℕ)) (text : List ℕ)
         (m : Model) (d : Declared) (r : ℕ) (p : Place) → Gave c s → IsQuiet c
-        → ((name : List ℕ) → IsKnown (c.files name)) → IsJob c.words job
-        → Loaded c.files (files_of job) (Ok texts) → IsText job texts text → Reads text m
-        → IsDeclared m d → IsBroken text_rules (BreaksTextRule m job.main d) r p
+        → ((name : List ℕ) → IsKnown (c.files name)) → IsAsked c.words asked
+        → Loaded c.files (files_of asked) (Ok texts) → IsText asked texts text → Reads text m
+        → IsDeclared m d → IsBroken text_rules (BreaksTextRule m asked.job.main d) r p
         → ((s ≡ status.Rule) × Wrote c (line_of (Rule r p))) ⊎ (s ≡ status.Memory) }
     ensures broken_unit_rule_refused { (files : List ℕ → Told) → ((name : List ℕ) → IsKnown (files name))
-        → (job : Job) (texts : List (List ℕ)) (text : List ℕ) (m : Model) (n : RootedModel)
-        (r : Refusal) → Loaded files (files_of job) (Ok texts) → IsText job texts text
-        → Reads text m → Tables job.main m (Ok n) → Ruled Instantiates n (Err r)
-        → (x : Result Ready Refusal) → Passes files job x → x ≡ Err r }
-    ensures broken_unit_rules_are_told { (c : Call) (s : Status) (job : Job) (texts : List (List ℕ)) (text : List ℕ)
+        → (asked : Asked) (texts : List (List ℕ)) (text : List ℕ) (m : Model) (n : RootedModel)
+        (r : Refusal) → Loaded files (files_of asked) (Ok texts) → IsText asked texts text
+        → Reads text m → Tables asked.job.main m (Ok n) → Ruled Instantiates n (Err r)
+        → (x : Result Ready Refusal) → Passes files asked x → x ≡ Err r }
+    ensures broken_unit_rules_are_told { (c : Call) (s : Status) (asked : Asked) (texts : List (List ℕ)) (text : List ℕ)
         (m : Model) (n : RootedModel) (r : Refusal) → Gave c s → IsQuiet c
-        → ((name : List ℕ) → IsKnown (c.files name)) → IsJob c.words job
-        → Loaded c.files (files_of job) (Ok texts) → IsText job texts text → Reads text m
-        → Tables job.main m (Ok n) → Ruled Instantiates n (Err r)
+        → ((name : List ℕ) → IsKnown (c.files name)) → IsAsked c.words asked
+        → Loaded c.files (files_of asked) (Ok texts) → IsText asked texts text → Reads text m
+        → Tables asked.job.main m (Ok n) → Ruled Instantiates n (Err r)
         → ((s ≡ status_of r) × Wrote c (line_of r)) ⊎ (s ≡ status.Memory) }
 {
     one_passing();
@@ -158,9 +158,9 @@ pub fn first_causes_are_told()
 /// A text that the grammar reads, and that is loaded from files of which something is told, is never
 /// answered with Syntax.
 pub fn read_texts_are_no_syntax_errors()
-    ensures { (c : Call) (s : Status) (job : Job) (texts : List (List ℕ)) (text : List ℕ) (m : Model)
-        → Gave c s → ((name : List ℕ) → IsKnown (c.files name)) → IsJob c.words job
-        → Loaded c.files (files_of job) (Ok texts) → IsText job texts text → Reads text m
+    ensures { (c : Call) (s : Status) (asked : Asked) (texts : List (List ℕ)) (text : List ℕ) (m : Model)
+        → Gave c s → ((name : List ℕ) → IsKnown (c.files name)) → IsAsked c.words asked
+        → Loaded c.files (files_of asked) (Ok texts) → IsText asked texts text → Reads text m
         → s ≢ status.Syntax }
 {
     one_job();
@@ -186,10 +186,10 @@ pub fn sources_are_definite()
 ///   of a least set that meets a conflict, and fired as they stand in the whole model, dropped events included,
 ///   they meet this flow fault at the last of them, and none before.
 pub fn cuts_are_cuts()
-    ensures modules_stand_for_cuts { (c : Call) (job : Job) → Gave c status.Done → IsJob c.words job
-        → job.command ≡ Modules → AreModulesOf c job }
-    ensures conflicts_are_met { (c : Call) (job : Job) → Gave c status.Fault → IsJob c.words job
-        → lists_cuts job.command ≡ true → IsConflictOf c job }
+    ensures modules_stand_for_cuts { (c : Call) (asked : Asked) → Gave c status.Done → IsAsked c.words asked
+        → asked.job.command ≡ Modules → AreModulesOf c asked }
+    ensures conflicts_are_met { (c : Call) (asked : Asked) → Gave c status.Fault → IsAsked c.words asked
+        → lists_cuts asked.job.command ≡ true → IsConflictOf c asked }
 {
     one_job();
     one_reading();

@@ -14,8 +14,8 @@ ghost use Rattle.ar_base.specs.declared.counts.Count.{Count};
 ghost use Rattle.ar_base.specs.declared.counts.Count.TheVariants as count;
 ghost use Rattle.ar_base.specs.declared.faults.RuleFault.TheVariants as fault;
 ghost use Rattle.ar_base.specs.declared.places.Place.{Place};
-ghost use Rattle.ar_firing.specs.Rules.{Rule as StaticRule, rule_number, Spot, IsFirstBroken};
-ghost use Rattle.ar_firing.specs.Rules.{KeepsAll};
+ghost use Rattle.ar_firing.specs.Rules.{Rule as StaticRule, rule_number, Spot, IsFirstBroken, IsAskedUpTo};
+ghost use Rattle.ar_firing.specs.Rules.{KeepsUpTo};
 ghost use Rattle.ar_meaning.specs.Runs.{Command};
 ghost use Rattle.ar_parser.specs.Models.{Reads};
 ghost use Rattle.ar_syntax.specs.declared.items.Model.{Model};
@@ -34,8 +34,8 @@ ghost use Rattle.job_inputs.specs.Scripts.{Why, GivesCommands, IsFirstBad};
 ghost use Rattle.job_inputs.specs.Wanting.{NamesNone, WantsNone};
 ghost use Rattle.job_inputs.specs.declared.wanting.Wanted.{Wanted};
 ghost use Rattle.run_words.specs.Commands.{shape_of, is_script, is_list};
-ghost use Rattle.run_words.specs.declared.jobs.Job.{Job};
-ghost use Rattle.run_words.specs.Jobs.{IsJob};
+ghost use Rattle.run_words.specs.declared.jobs.Asked.{Asked};
+ghost use Rattle.run_words.specs.Jobs.{IsAsked};
 ghost use Rattle.source_meaning.specs.Rules.{name_rules};
 ghost use Rattle.source_meaning.specs.Systems.{Declarations, Binds, name_breaks};
 ghost use Rattle.sync_expand.specs.Counting.{way_rules};
@@ -71,37 +71,37 @@ use crate::told::refusals_are_told;
 ///   its units, and that has a synchronisation of an event from which that event is reached again, is answered
 ///   with L14 at the earliest such one, or the call is stopped.
 pub fn broken_rules_of_models_are_told()
-    ensures refused_rule { (c : Call) (s : Status) (job : Job) (texts : List (List ℕ)) (text : List ℕ)
+    ensures refused_rule { (c : Call) (s : Status) (asked : Asked) (texts : List (List ℕ)) (text : List ℕ)
         (m : Model) (r : ℕ) (p : Place) → Gave c s
-        → ((name : List ℕ) → IsKnown (c.files name)) → IsJob c.words job
-        → Loaded c.files (files_of job) (Ok texts) → IsText job texts text → Reads text m
-        → Systems job.main m (Err (fault.Rule r p))
+        → ((name : List ℕ) → IsKnown (c.files name)) → IsAsked c.words asked
+        → Loaded c.files (files_of asked) (Ok texts) → IsText asked texts text → Reads text m
+        → Systems asked.job.main m (Err (fault.Rule r p))
         → IsToldAs c s (Rule r p) }
-    ensures refused_limit { (c : Call) (s : Status) (job : Job) (texts : List (List ℕ)) (text : List ℕ)
+    ensures refused_limit { (c : Call) (s : Status) (asked : Asked) (texts : List (List ℕ)) (text : List ℕ)
         (m : Model) (count : Count) → Gave c s
-        → ((name : List ℕ) → IsKnown (c.files name)) → IsJob c.words job
-        → Loaded c.files (files_of job) (Ok texts) → IsText job texts text → Reads text m
-        → Systems job.main m (Err (fault.Limit count))
+        → ((name : List ℕ) → IsKnown (c.files name)) → IsAsked c.words asked
+        → Loaded c.files (files_of asked) (Ok texts) → IsText asked texts text → Reads text m
+        → Systems asked.job.main m (Err (fault.Limit count))
         → IsToldAs c s (Size count) }
-    ensures broken_rules_of_units_are_told { (c : Call) (s : Status) (job : Job) (texts : List (List ℕ)) (text : List ℕ)
+    ensures broken_rules_of_units_are_told { (c : Call) (s : Status) (asked : Asked) (texts : List (List ℕ)) (text : List ℕ)
         (m : Model) (root : RootedModel) (t : Unfolded) (r : ℕ) (p : Place) → Gave c s
-        → ((name : List ℕ) → IsKnown (c.files name)) → IsJob c.words job
-        → Loaded c.files (files_of job) (Ok texts) → IsText job texts text → Reads text m
-        → Tables job.main m (Ok root) → Unfolds root (Ok t) → FitsLimits t (Ok t)
+        → ((name : List ℕ) → IsKnown (c.files name)) → IsAsked c.words asked
+        → Loaded c.files (files_of asked) (Ok texts) → IsText asked texts text → Reads text m
+        → Tables asked.job.main m (Ok root) → Unfolds root (Ok t) → FitsLimits t (Ok t)
         → IsBroken unit_rules (unit_breaks t) r p
         → IsToldAs c s (Rule r p) }
-    ensures broken_rules_of_names_are_told { (c : Call) (s : Status) (job : Job) (texts : List (List ℕ)) (text : List ℕ)
+    ensures broken_rules_of_names_are_told { (c : Call) (s : Status) (asked : Asked) (texts : List (List ℕ)) (text : List ℕ)
         (m : Model) (root : RootedModel) (t : Unfolded) (r : ℕ) (p : Place) → Gave c s
-        → ((name : List ℕ) → IsKnown (c.files name)) → IsJob c.words job
-        → Loaded c.files (files_of job) (Ok texts) → IsText job texts text → Reads text m
-        → Tables job.main m (Ok root) → Instantiates root (Ok t)
+        → ((name : List ℕ) → IsKnown (c.files name)) → IsAsked c.words asked
+        → Loaded c.files (files_of asked) (Ok texts) → IsText asked texts text → Reads text m
+        → Tables asked.job.main m (Ok root) → Instantiates root (Ok t)
         → IsBroken name_rules (name_breaks t) r p
         → IsToldAs c s (Rule r p) }
-    ensures broken_rules_of_ways_are_told { (c : Call) (s : Status) (job : Job) (texts : List (List ℕ)) (text : List ℕ)
+    ensures broken_rules_of_ways_are_told { (c : Call) (s : Status) (asked : Asked) (texts : List (List ℕ)) (text : List ℕ)
         (m : Model) (root : RootedModel) (t : Unfolded) (d : Declarations) (p : Place) → Gave c s
-        → ((name : List ℕ) → IsKnown (c.files name)) → IsJob c.words job
-        → Loaded c.files (files_of job) (Ok texts) → IsText job texts text → Reads text m
-        → Tables job.main m (Ok root) → Instantiates root (Ok t) → Binds t (Ok d)
+        → ((name : List ℕ) → IsKnown (c.files name)) → IsAsked c.words asked
+        → Loaded c.files (files_of asked) (Ok texts) → IsText asked texts text → Reads text m
+        → Tables asked.job.main m (Ok root) → Instantiates root (Ok t) → Binds t (Ok d)
         → IsBroken way_rules (BreaksWayRule d) 14 p
         → IsToldAs c s (Rule 14 p) }
 {
@@ -129,69 +129,69 @@ pub fn broken_rules_of_models_are_told()
 ///   others without them, but whose table has more gates than there may be, is answered with that limit, or the
 ///   call is stopped.
 pub fn passed_limits_are_told()
-    ensures passed_limits_of_units_are_told { (c : Call) (s : Status) (job : Job) (texts : List (List ℕ)) (text : List ℕ)
+    ensures passed_limits_of_units_are_told { (c : Call) (s : Status) (asked : Asked) (texts : List (List ℕ)) (text : List ℕ)
         (m : Model) (root : RootedModel) (units : List UnitPath) (count : Count) → Gave c s
-        → ((name : List ℕ) → IsKnown (c.files name)) → IsJob c.words job
-        → Loaded c.files (files_of job) (Ok texts) → IsText job texts text → Reads text m
-        → Tables job.main m (Ok root) → AreFirstUnits root units → IsFirstOver count units
+        → ((name : List ℕ) → IsKnown (c.files name)) → IsAsked c.words asked
+        → Loaded c.files (files_of asked) (Ok texts) → IsText asked texts text → Reads text m
+        → Tables asked.job.main m (Ok root) → AreFirstUnits root units → IsFirstOver count units
         → IsToldAs c s (Size count) }
-    ensures passed_limit_of_variables { (c : Call) (s : Status) (job : Job) (texts : List (List ℕ)) (text : List ℕ)
+    ensures passed_limit_of_variables { (c : Call) (s : Status) (asked : Asked) (texts : List (List ℕ)) (text : List ℕ)
         (m : Model) (root : RootedModel) (t : Unfolded) → Gave c s
-        → ((name : List ℕ) → IsKnown (c.files name)) → IsJob c.words job
-        → Loaded c.files (files_of job) (Ok texts) → IsText job texts text → Reads text m
-        → Tables job.main m (Ok root) → Unfolds root (Ok t)
+        → ((name : List ℕ) → IsKnown (c.files name)) → IsAsked c.words asked
+        → Loaded c.files (files_of asked) (Ok texts) → IsText asked texts text → Reads text m
+        → Tables asked.job.main m (Ok root) → Unfolds root (Ok t)
         → limit_of count.Variables < variables_counted t
         → IsToldAs c s (Size count.Variables) }
-    ensures passed_limit_of_events { (c : Call) (s : Status) (job : Job) (texts : List (List ℕ)) (text : List ℕ)
+    ensures passed_limit_of_events { (c : Call) (s : Status) (asked : Asked) (texts : List (List ℕ)) (text : List ℕ)
         (m : Model) (root : RootedModel) (t : Unfolded) → Gave c s
-        → ((name : List ℕ) → IsKnown (c.files name)) → IsJob c.words job
-        → Loaded c.files (files_of job) (Ok texts) → IsText job texts text → Reads text m
-        → Tables job.main m (Ok root) → Unfolds root (Ok t)
+        → ((name : List ℕ) → IsKnown (c.files name)) → IsAsked c.words asked
+        → Loaded c.files (files_of asked) (Ok texts) → IsText asked texts text → Reads text m
+        → Tables asked.job.main m (Ok root) → Unfolds root (Ok t)
         → variables_counted t ≤ limit_of count.Variables
         → limit_of count.Events < events_counted t
         → IsToldAs c s (Size count.Events) }
-    ensures passed_limit_of_tree_nodes { (c : Call) (s : Status) (job : Job) (texts : List (List ℕ)) (text : List ℕ)
+    ensures passed_limit_of_tree_nodes { (c : Call) (s : Status) (asked : Asked) (texts : List (List ℕ)) (text : List ℕ)
         (m : Model) (root : RootedModel) (t : Unfolded) → Gave c s
-        → ((name : List ℕ) → IsKnown (c.files name)) → IsJob c.words job
-        → Loaded c.files (files_of job) (Ok texts) → IsText job texts text → Reads text m
-        → Tables job.main m (Ok root) → Unfolds root (Ok t)
+        → ((name : List ℕ) → IsKnown (c.files name)) → IsAsked c.words asked
+        → Loaded c.files (files_of asked) (Ok texts) → IsText asked texts text → Reads text m
+        → Tables asked.job.main m (Ok root) → Unfolds root (Ok t)
         → variables_counted t ≤ limit_of count.Variables
         → events_counted t ≤ limit_of count.Events
         → limit_of count.TreeNodes < unfolded_nodes t
         → IsToldAs c s (Size count.TreeNodes) }
-    ensures passed_limits_of_ways_are_told { (c : Call) (s : Status) (job : Job) (texts : List (List ℕ)) (text : List ℕ)
+    ensures passed_limits_of_ways_are_told { (c : Call) (s : Status) (asked : Asked) (texts : List (List ℕ)) (text : List ℕ)
         (m : Model) (root : RootedModel) (t : Unfolded) (d : Declarations) (x : Elaborated)
-        → Gave c s → ((name : List ℕ) → IsKnown (c.files name)) → IsJob c.words job
-        → Loaded c.files (files_of job) (Ok texts) → IsText job texts text → Reads text m
-        → Tables job.main m (Ok root) → Instantiates root (Ok t) → Binds t (Ok d)
+        → Gave c s → ((name : List ℕ) → IsKnown (c.files name)) → IsAsked c.words asked
+        → Loaded c.files (files_of asked) (Ok texts) → IsText asked texts text → Reads text m
+        → Tables asked.job.main m (Ok root) → Instantiates root (Ok t) → Binds t (Ok d)
         → AreKept way_rules (BreaksWayRule d) → HasSystem d (Ok x)
         → limit_of count.Ways < most_ways_counted x
         → IsToldAs c s (Size count.Ways) }
-    ensures passed_limit_of_parts { (c : Call) (s : Status) (job : Job) (texts : List (List ℕ)) (text : List ℕ)
+    ensures passed_limit_of_parts { (c : Call) (s : Status) (asked : Asked) (texts : List (List ℕ)) (text : List ℕ)
         (m : Model) (root : RootedModel) (t : Unfolded) (d : Declarations) (x : Elaborated)
-        → Gave c s → ((name : List ℕ) → IsKnown (c.files name)) → IsJob c.words job
-        → Loaded c.files (files_of job) (Ok texts) → IsText job texts text → Reads text m
-        → Tables job.main m (Ok root) → Instantiates root (Ok t) → Binds t (Ok d)
+        → Gave c s → ((name : List ℕ) → IsKnown (c.files name)) → IsAsked c.words asked
+        → Loaded c.files (files_of asked) (Ok texts) → IsText asked texts text → Reads text m
+        → Tables asked.job.main m (Ok root) → Instantiates root (Ok t) → Binds t (Ok d)
         → AreKept way_rules (BreaksWayRule d) → HasSystem d (Ok x)
         → most_ways_counted x ≤ limit_of count.Ways
         → limit_of count.WayParts < way_parts_counted x
         → IsToldAs c s (Size count.WayParts) }
-    ensures passed_limit_of_expression_nodes { (c : Call) (s : Status) (job : Job) (texts : List (List ℕ)) (text : List ℕ)
+    ensures passed_limit_of_expression_nodes { (c : Call) (s : Status) (asked : Asked) (texts : List (List ℕ)) (text : List ℕ)
         (m : Model) (root : RootedModel) (t : Unfolded) (d : Declarations) (x : Elaborated)
-        → Gave c s → ((name : List ℕ) → IsKnown (c.files name)) → IsJob c.words job
-        → Loaded c.files (files_of job) (Ok texts) → IsText job texts text → Reads text m
-        → Tables job.main m (Ok root) → Instantiates root (Ok t) → Binds t (Ok d)
+        → Gave c s → ((name : List ℕ) → IsKnown (c.files name)) → IsAsked c.words asked
+        → Loaded c.files (files_of asked) (Ok texts) → IsText asked texts text → Reads text m
+        → Tables asked.job.main m (Ok root) → Instantiates root (Ok t) → Binds t (Ok d)
         → AreKept way_rules (BreaksWayRule d) → HasSystem d (Ok x)
         → most_ways_counted x ≤ limit_of count.Ways
         → way_parts_counted x ≤ limit_of count.WayParts
         → limit_of count.ExpressionNodes < nodes_counted x
         → IsToldAs c s (Size count.ExpressionNodes) }
-    ensures passed_limits_of_gates_are_told { (c : Call) (s : Status) (job : Job) (texts : List (List ℕ)) (text : List ℕ)
+    ensures passed_limits_of_gates_are_told { (c : Call) (s : Status) (asked : Asked) (texts : List (List ℕ)) (text : List ℕ)
         (x : Elaborated) (w : Ready) (wanted : Wanted) (table : Table) → Gave c s
-        → ((name : List ℕ) → IsKnown (c.files name)) → IsJob c.words job
-        → Loaded c.files (files_of job) (Ok texts) → IsText job texts text
-        → Elaborates job.main text (Ok x) → Asks job texts x (Ok w)
-        → has_table job.command ≡ true → KeepsAll x.system w.dropped → w.wanted ≡ Some wanted
+        → ((name : List ℕ) → IsKnown (c.files name)) → IsAsked c.words asked
+        → Loaded c.files (files_of asked) (Ok texts) → IsText asked texts text
+        → Elaborates asked.job.main text (Ok x) → Asks asked texts x (Ok w)
+        → has_table asked.job.command ≡ true → KeepsUpTo w.order x.system w.dropped → w.wanted ≡ Some wanted
         → IsTableOf x w.dropped wanted table → limit_of count.Gates < length table.gates
         → IsToldAs c s (Size count.Gates) }
 {
@@ -224,70 +224,71 @@ pub fn passed_limits_are_told()
 ///   others without them, is answered with the least such rule and the path of the first thing that shows it,
 ///   or the call is stopped.
 pub fn wrong_requests_are_told()
-    ensures refused_requests_are_told { (c : Call) (s : Status) (job : Job) (texts : List (List ℕ)) (text : List ℕ)
+    ensures refused_requests_are_told { (c : Call) (s : Status) (asked : Asked) (texts : List (List ℕ)) (text : List ℕ)
         (x : Elaborated) (r : Refusal) → Gave c s
-        → ((name : List ℕ) → IsKnown (c.files name)) → IsJob c.words job
-        → Loaded c.files (files_of job) (Ok texts) → IsText job texts text
-        → Elaborates job.main text (Ok x) → Asks job texts x (Err r)
+        → ((name : List ℕ) → IsKnown (c.files name)) → IsAsked c.words asked
+        → Loaded c.files (files_of asked) (Ok texts) → IsText asked texts text
+        → Elaborates asked.job.main text (Ok x) → Asks asked texts x (Err r)
         → IsToldAs c s r }
-    ensures bad_lines_of_scripts_are_told { (c : Call) (s : Status) (job : Job) (text script : List ℕ) (x : Elaborated) (n : ℕ)
+    ensures bad_lines_of_scripts_are_told { (c : Call) (s : Status) (asked : Asked) (text script : List ℕ) (x : Elaborated) (n : ℕ)
         (why : Why) → Gave c s → ((name : List ℕ) → IsKnown (c.files name))
-        → IsJob c.words job → Loaded c.files (files_of job) (Ok (text ∷ script ∷ []))
-        → is_script (shape_of job.command).files ≡ true → Elaborates job.main text (Ok x)
+        → IsAsked c.words asked → Loaded c.files (files_of asked) (Ok (text ∷ script ∷ []))
+        → is_script (shape_of asked.job.command).files ≡ true → Elaborates asked.job.main text (Ok x)
         → IsFirstBad x (lines_of script) n why
         → IsToldAs c s (line_refused why (n + 1)) }
-    ensures bad_line_of_cuts { (c : Call) (s : Status) (job : Job) (text list : List ℕ) (x : Elaborated) (n : ℕ)
+    ensures bad_line_of_cuts { (c : Call) (s : Status) (asked : Asked) (text list : List ℕ) (x : Elaborated) (n : ℕ)
         (why : Why) → Gave c s → ((name : List ℕ) → IsKnown (c.files name))
-        → IsJob c.words job → Loaded c.files (files_of job) (Ok (text ∷ list ∷ []))
-        → is_list (shape_of job.command).files ≡ true → Elaborates job.main text (Ok x)
+        → IsAsked c.words asked → Loaded c.files (files_of asked) (Ok (text ∷ list ∷ []))
+        → is_list (shape_of asked.job.command).files ≡ true → Elaborates asked.job.main text (Ok x)
         → IsFirstBadCut x (lines_of list) n why
         → IsToldAs c s (cut_refused why (n + 1)) }
-    ensures too_many_lines_of_cuts { (c : Call) (s : Status) (job : Job) (text list : List ℕ) (x : Elaborated)
+    ensures too_many_lines_of_cuts { (c : Call) (s : Status) (asked : Asked) (text list : List ℕ) (x : Elaborated)
         (cuts : List CutLine) → Gave c s → ((name : List ℕ) → IsKnown (c.files name))
-        → IsJob c.words job → Loaded c.files (files_of job) (Ok (text ∷ list ∷ []))
-        → is_list (shape_of job.command).files ≡ true → Elaborates job.main text (Ok x)
+        → IsAsked c.words asked → Loaded c.files (files_of asked) (Ok (text ∷ list ∷ []))
+        → is_list (shape_of asked.job.command).files ≡ true → Elaborates asked.job.main text (Ok x)
         → ListsCutLines x 1 (lines_of list) cuts → limit_of count.CutLines < length cuts
         → IsToldAs c s (Size count.CutLines) }
-    ensures unknown_dropped_events_are_told { (c : Call) (s : Status) (job : Job) (texts : List (List ℕ)) (text dropped : List ℕ)
+    ensures unknown_dropped_events_are_told { (c : Call) (s : Status) (asked : Asked) (texts : List (List ℕ)) (text dropped : List ℕ)
         (x : Elaborated) (w : Ready) → Gave c s
-        → ((name : List ℕ) → IsKnown (c.files name)) → IsJob c.words job
-        → Loaded c.files (files_of job) (Ok texts) → IsText job texts text
-        → Elaborates job.main text (Ok x)
-        → Where (is_list (shape_of job.command).files) (ListsCuts texts) (bare x) (Ok w)
-        → job.dropped ≡ Some dropped → HasUnknown x dropped
+        → ((name : List ℕ) → IsKnown (c.files name)) → IsAsked c.words asked
+        → Loaded c.files (files_of asked) (Ok texts) → IsText asked texts text
+        → Elaborates asked.job.main text (Ok x)
+        → Where (is_list (shape_of asked.job.command).files) (ListsCuts texts) (bare asked.order x) (Ok w)
+        → asked.job.dropped ≡ Some dropped → HasUnknown x dropped
         → IsToldAs c s NoDropped }
-    ensures unknown_observer_asked { (c : Call) (s : Status) (job : Job) (texts : List (List ℕ)) (text path : List ℕ)
+    ensures unknown_observer_asked { (c : Call) (s : Status) (asked : Asked) (texts : List (List ℕ)) (text path : List ℕ)
         (x : Elaborated) (w v : Ready) → Gave c s
-        → ((name : List ℕ) → IsKnown (c.files name)) → IsJob c.words job
-        → Loaded c.files (files_of job) (Ok texts) → IsText job texts text
-        → Elaborates job.main text (Ok x)
-        → Where (is_list (shape_of job.command).files) (ListsCuts texts) (bare x) (Ok w)
-        → Drops job.dropped w (Ok v) → has_table job.command ≡ true
-        → observer_asked job ≡ Some path → NamesNone x path
+        → ((name : List ℕ) → IsKnown (c.files name)) → IsAsked c.words asked
+        → Loaded c.files (files_of asked) (Ok texts) → IsText asked texts text
+        → Elaborates asked.job.main text (Ok x)
+        → Where (is_list (shape_of asked.job.command).files) (ListsCuts texts) (bare asked.order x) (Ok w)
+        → Drops asked.job.dropped w (Ok v) → has_table asked.job.command ≡ true
+        → observer_asked asked ≡ Some path → NamesNone x path
         → IsToldAs c s NoObserver }
-    ensures unknown_observer_shown { (c : Call) (s : Status) (job : Job) (text script path : List ℕ)
+    ensures unknown_observer_shown { (c : Call) (s : Status) (asked : Asked) (text script path : List ℕ)
         (x : Elaborated) (commands : List Command) → Gave c s
-        → ((name : List ℕ) → IsKnown (c.files name)) → IsJob c.words job
-        → Loaded c.files (files_of job) (Ok (text ∷ script ∷ []))
-        → (shape_of job.command).explains ≡ true → Elaborates job.main text (Ok x)
-        → GivesCommands x (lines_of script) commands → job.observer ≡ Some path
+        → ((name : List ℕ) → IsKnown (c.files name)) → IsAsked c.words asked
+        → Loaded c.files (files_of asked) (Ok (text ∷ script ∷ []))
+        → (shape_of asked.job.command).explains ≡ true → Elaborates asked.job.main text (Ok x)
+        → GivesCommands x (lines_of script) commands → asked.job.observer ≡ Some path
         → NamesNone x path
         → IsToldAs c s NoObserver }
-    ensures unknown_values_are_told { (c : Call) (s : Status) (job : Job) (texts : List (List ℕ)) (text path : List ℕ)
+    ensures unknown_values_are_told { (c : Call) (s : Status) (asked : Asked) (texts : List (List ℕ)) (text path : List ℕ)
         (x : Elaborated) (w v : Ready) → Gave c s
-        → ((name : List ℕ) → IsKnown (c.files name)) → IsJob c.words job
-        → Loaded c.files (files_of job) (Ok texts) → IsText job texts text
-        → Elaborates job.main text (Ok x)
-        → Where (is_list (shape_of job.command).files) (ListsCuts texts) (bare x) (Ok w)
-        → Drops job.dropped w (Ok v) → has_table job.command ≡ true
-        → observer_asked job ≡ Some path → WantsNone x path job.value
+        → ((name : List ℕ) → IsKnown (c.files name)) → IsAsked c.words asked
+        → Loaded c.files (files_of asked) (Ok texts) → IsText asked texts text
+        → Elaborates asked.job.main text (Ok x)
+        → Where (is_list (shape_of asked.job.command).files) (ListsCuts texts) (bare asked.order x) (Ok w)
+        → Drops asked.job.dropped w (Ok v) → has_table asked.job.command ≡ true
+        → observer_asked asked ≡ Some path → WantsNone x path asked.job.value
         → IsToldAs c s NoValue }
-    ensures systems_outside_are_told { (c : Call) (s : Status) (job : Job) (texts : List (List ℕ)) (text : List ℕ)
+    ensures systems_outside_are_told { (c : Call) (s : Status) (asked : Asked) (texts : List (List ℕ)) (text : List ℕ)
         (x : Elaborated) (w : Ready) (rule : StaticRule) (spot : Spot) → Gave c s
-        → ((name : List ℕ) → IsKnown (c.files name)) → IsJob c.words job
-        → Loaded c.files (files_of job) (Ok texts) → IsText job texts text
-        → Elaborates job.main text (Ok x) → Asks job texts x (Ok w)
-        → is_static job.command ≡ true → IsFirstBroken x.system w.dropped rule spot
+        → ((name : List ℕ) → IsKnown (c.files name)) → IsAsked c.words asked
+        → Loaded c.files (files_of asked) (Ok texts) → IsText asked texts text
+        → Elaborates asked.job.main text (Ok x) → Asks asked texts x (Ok w)
+        → is_static asked.job.command ≡ true → IsAskedUpTo w.order rule
+        → IsFirstBroken x.system w.dropped rule spot
         → IsToldAs c s (Outside (rule_number rule) (spot_path x spot)) }
 {
     refusals_are_told();

@@ -9,6 +9,7 @@ pub mod answer_laws;
 pub mod causes;
 pub mod flat_laws;
 pub mod one_answer;
+pub mod order_laws;
 pub mod real_runs;
 pub mod told;
 pub mod word_laws;

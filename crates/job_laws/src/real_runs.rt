@@ -7,8 +7,8 @@ ghost use Rattle.std.specs.Prelude.{◌≡◌, ℕ, List, [], Result};
 ghost use Rattle.ar_io.specs.Loads.{Load};
 ghost use Rattle.ar_io.specs.Outside.{Told};
 ghost use Rattle.ar_io.specs.Writing.{SinkState};
-ghost use Rattle.run_words.specs.Jobs.{IsJob};
-ghost use Rattle.run_words.specs.declared.jobs.Job.{Job};
+ghost use Rattle.run_words.specs.Jobs.{IsAsked};
+ghost use Rattle.run_words.specs.declared.jobs.Asked.{Asked};
 ghost use Rattle.job_stages.specs.Files.{File};
 ghost use Rattle.job_stages.specs.Jobs.{LoadsNothing};
 ghost use Rattle.job_stages.specs.Loading.{AnswersFiles};
@@ -33,9 +33,9 @@ pub fn logs_are_told()
         (came : Result (List (List ℕ)) Stop) → AgreesWith told loads → Came files loads came
         → AnswersFiles (λ (texts : List (List ℕ)). texts) told (λ name. Failed name loads)
         files came }
-    ensures stages { (told : List ℕ → Told) (loads : List Load) (job : Job)
+    ensures stages { (told : List ℕ → Told) (loads : List Load) (asked : Asked)
         (x : Result Ready Refusal)
-        → AgreesWith told loads → PassesBy loads job x → PassesOver told loads job x }
+        → AgreesWith told loads → PassesBy loads asked x → PassesOver told loads asked x }
 {}
 
 /// Where no name is loaded twice, a shelf could tell what the loads gave, and of each other name that
@@ -72,10 +72,10 @@ pub fn runs_are_calls()
 pub fn known_files_suffice()
     ensures known { (c : Call) (name : List ℕ) → IsKnown ((settled_call c).files name) }
     ensures quiet { (c : Call) → IsQuiet c → IsQuiet (settled_call c) }
-    ensures gave { (c : Call) (s : Status) (job : Job) → Gave c s → IsJob c.words job
-        → AreKnown c.files job → Gave (settled_call c) s }
-    ensures passes { (c : Call) (job : Job) (x : Result Ready Refusal) → AreKnown c.files job
-        → Passes c.files job x → Passes (settled_call c).files job x }
+    ensures gave { (c : Call) (s : Status) (asked : Asked) → Gave c s → IsAsked c.words asked
+        → AreKnown c.files asked → Gave (settled_call c) s }
+    ensures passes { (c : Call) (asked : Asked) (x : Result Ready Refusal) → AreKnown c.files asked
+        → Passes c.files asked x → Passes (settled_call c).files asked x }
 {
     one_job();
 }

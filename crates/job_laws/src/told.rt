@@ -4,7 +4,8 @@
 //! A call is stopped where a file is not read, the sink fails or memory is refused.
 
 ghost use Rattle.std.specs.Prelude.{◌≡◌, ◌⊎◌, ℕ, true, false, List, Some, Ok, Err};
-ghost use Rattle.ar_firing.specs.Cuts.{Cut, IsConflictFree};
+ghost use Rattle.ar_firing.specs.Cuts.{Cut, IsConflictFreeUpTo};
+ghost use Rattle.firable_families.specs.Firable.{AndUpTo};
 ghost use Rattle.ar_firing.specs.Listed.{AreListed};
 ghost use Rattle.ar_io.specs.Outside.{Told};
 ghost use Rattle.cut_text.specs.ForestTexts.{IsForestText};
@@ -15,10 +16,10 @@ ghost use Rattle.job_inputs.specs.declared.wanting.Wanted.{Wanted};
 ghost use Rattle.replayer.specs.Replays.{IsReplay};
 ghost use Rattle.replayer.specs.Settles.{IsFaultLine};
 ghost use Rattle.replayer.specs.declared.replaying.End.{End};
-ghost use Rattle.run_words.specs.declared.jobs.Job.{Job};
+ghost use Rattle.run_words.specs.declared.jobs.Asked.{Asked};
 ghost use Rattle.run_words.specs.declared.verbs.Verb.TheVariants.{Check, Flat, Replay};
 ghost use Rattle.run_words.specs.declared.verbs.Verb.TheVariants.{Fragment, Equations, Explain};
-ghost use Rattle.run_words.specs.Jobs.{IsJob};
+ghost use Rattle.run_words.specs.Jobs.{IsAsked};
 ghost use Rattle.table_text.specs.Texts.{IsTableText};
 ghost use Rattle.zdd_families.specs.Sections.{IsCounted, IsMoreThan};
 ghost use Rattle.altarica_run.specs.Follows.{Call, Gave, IsKnown, Wrote};
@@ -40,9 +41,9 @@ use ready_laws::laws::jobs_agree;
 /// A job over files of which something is told, and which a stage refuses, is answered with that
 /// refusal, its line and its status, or is stopped.
 pub fn refusals_are_told()
-    ensures { (c : Call) (s : Status) (job : Job) (r : Refusal) → Gave c s
-        → ((name : List ℕ) → IsKnown (c.files name)) → IsJob c.words job
-        → Passes c.files job (Err r) → IsToldAs c s r }
+    ensures { (c : Call) (s : Status) (asked : Asked) (r : Refusal) → Gave c s
+        → ((name : List ℕ) → IsKnown (c.files name)) → IsAsked c.words asked
+        → Passes c.files asked (Err r) → IsToldAs c s r }
 {
     one_job();
     one_passing();
@@ -52,12 +53,12 @@ pub fn refusals_are_told()
 /// text that it tells, whole, or is stopped. A job that does not tell of cuts has one text and one
 /// way to end: where it tells a text, it is answered with just this one.
 pub fn jobs_are_told()
-    ensures told { (c : Call) (s : Status) (job : Job) (w : Ready) → Gave c s
-        → ((name : List ℕ) → IsKnown (c.files name)) → IsJob c.words job
-        → Passes c.files job (Ok w) → IsAnswered c job w s ⊎ IsStopped c s }
-    ensures exact { (c : Call) (s : Status) (job : Job) (w : Ready) (text : List ℕ)
-        (ends : Status) → Gave c s → ((name : List ℕ) → IsKnown (c.files name)) → IsJob c.words job
-        → lists_cuts job.command ≡ false → Passes c.files job (Ok w) → Tells job w text ends
+    ensures told { (c : Call) (s : Status) (asked : Asked) (w : Ready) → Gave c s
+        → ((name : List ℕ) → IsKnown (c.files name)) → IsAsked c.words asked
+        → Passes c.files asked (Ok w) → IsAnswered c asked w s ⊎ IsStopped c s }
+    ensures exact { (c : Call) (s : Status) (asked : Asked) (w : Ready) (text : List ℕ)
+        (ends : Status) → Gave c s → ((name : List ℕ) → IsKnown (c.files name)) → IsAsked c.words asked
+        → lists_cuts asked.job.command ≡ false → Passes c.files asked (Ok w) → Tells asked w text ends
         → ((s ≡ ends) × Wrote c text) ⊎ IsStopped c s }
 {
     one_job();
@@ -79,44 +80,44 @@ pub fn jobs_are_told()
 ///   family of the cuts itself has more counted sections than the job's limit of nodes, it is answered with the
 ///   line `nodes: N` and with Nodes, or is stopped.
 pub fn texts_are_told()
-    ensures check { (c : Call) (s : Status) (job : Job) (w : Ready) → Gave c s
-        → ((name : List ℕ) → IsKnown (c.files name)) → IsJob c.words job → job.command ≡ Check
-        → Passes c.files job (Ok w)
+    ensures check { (c : Call) (s : Status) (asked : Asked) (w : Ready) → Gave c s
+        → ((name : List ℕ) → IsKnown (c.files name)) → IsAsked c.words asked → asked.job.command ≡ Check
+        → Passes c.files asked (Ok w)
         → ((s ≡ status.Done) × Wrote c (check_text w.source.declarations)) ⊎ IsStopped c s }
-    ensures flat { (c : Call) (s : Status) (job : Job) (w : Ready) → Gave c s
-        → ((name : List ℕ) → IsKnown (c.files name)) → IsJob c.words job → job.command ≡ Flat
-        → Passes c.files job (Ok w)
+    ensures flat { (c : Call) (s : Status) (asked : Asked) (w : Ready) → Gave c s
+        → ((name : List ℕ) → IsKnown (c.files name)) → IsAsked c.words asked → asked.job.command ≡ Flat
+        → Passes c.files asked (Ok w)
         → IsToldWith c s status.Done (IsFlatText w.source) ⊎ IsStopped c s }
-    ensures fragment { (c : Call) (s : Status) (job : Job) (w : Ready) → Gave c s
-        → ((name : List ℕ) → IsKnown (c.files name)) → IsJob c.words job → job.command ≡ Fragment
-        → Passes c.files job (Ok w)
+    ensures fragment { (c : Call) (s : Status) (asked : Asked) (w : Ready) → Gave c s
+        → ((name : List ℕ) → IsKnown (c.files name)) → IsAsked c.words asked → asked.job.command ≡ Fragment
+        → Passes c.files asked (Ok w)
         → IsToldWith c s status.Done (IsForestText (naming_of w.source.declarations)
         w.source.system w.dropped) ⊎ IsStopped c s }
-    ensures equations { (c : Call) (s : Status) (job : Job) (w : Ready) (wanted : Wanted)
-        → Gave c s → ((name : List ℕ) → IsKnown (c.files name)) → IsJob c.words job
-        → job.command ≡ Equations → Passes c.files job (Ok w) → w.wanted ≡ Some wanted
+    ensures equations { (c : Call) (s : Status) (asked : Asked) (w : Ready) (wanted : Wanted)
+        → Gave c s → ((name : List ℕ) → IsKnown (c.files name)) → IsAsked c.words asked
+        → asked.job.command ≡ Equations → Passes c.files asked (Ok w) → w.wanted ≡ Some wanted
         → IsToldWith c s status.Done (λ text. IsTableText
         (variables w.source.declarations.model w.source.declarations.units)
         (naming_of w.source.declarations) w.source.system w.dropped wanted.observer wanted.value
         text) ⊎ IsStopped c s }
-    ensures replay { (c : Call) (s : Status) (job : Job) (w : Ready) → Gave c s
-        → ((name : List ℕ) → IsKnown (c.files name)) → IsJob c.words job → job.command ≡ Replay
-        → Passes c.files job (Ok w)
+    ensures replay { (c : Call) (s : Status) (asked : Asked) (w : Ready) → Gave c s
+        → ((name : List ℕ) → IsKnown (c.files name)) → IsAsked c.words asked → asked.job.command ≡ Replay
+        → Passes c.files asked (Ok w)
         → ((end : End) × IsToldWith c s (status_at end) (λ text. IsReplay
         (naming_of w.source.declarations) w.source.system w.commands text end)) ⊎ IsStopped c s }
-    ensures explain { (c : Call) (s : Status) (job : Job) (w : Ready) → Gave c s
-        → ((name : List ℕ) → IsKnown (c.files name)) → IsJob c.words job → job.command ≡ Explain
-        → Passes c.files job (Ok w)
+    ensures explain { (c : Call) (s : Status) (asked : Asked) (w : Ready) → Gave c s
+        → ((name : List ℕ) → IsKnown (c.files name)) → IsAsked c.words asked → asked.job.command ≡ Explain
+        → Passes c.files asked (Ok w)
         → (IsToldWith c s status.Done (IsExplained w)
         ⊎ IsToldWith c s status.Fault (IsFaultLine (naming_of w.source.declarations)
         w.source.system w.commands)) ⊎ IsStopped c s }
-    ensures too_many_cuts_are_told { (c : Call) (s : Status) (job : Job) (w : Ready) → Gave c s
-        → ((name : List ℕ) → IsKnown (c.files name)) → IsJob c.words job
-        → lists_cuts job.command ≡ true → Passes c.files job (Ok w) → (has : HasCuts w)
+    ensures too_many_cuts_are_told { (c : Call) (s : Status) (asked : Asked) (w : Ready) → Gave c s
+        → ((name : List ℕ) → IsKnown (c.files name)) → IsAsked c.words asked
+        → lists_cuts asked.job.command ≡ true → Passes c.files asked (Ok w) → (has : HasCuts w)
         (sets : List (List ℕ))
-        → AreListed (Cut w.source.system w.dropped has.observed has.wanted.value) sets
-        → IsMoreThan job.nodes (IsCounted sets)
-        → ((s ≡ status.Nodes) × Wrote c (nodes_line job.nodes)) ⊎ IsStopped c s }
+        → AreListed (AndUpTo w.order (Cut w.source.system w.dropped has.observed has.wanted.value)) sets
+        → IsMoreThan asked.job.nodes (IsCounted sets)
+        → ((s ≡ status.Nodes) × Wrote c (nodes_line asked.job.nodes)) ⊎ IsStopped c s }
 {
     jobs_are_told();
 }
@@ -130,17 +131,17 @@ pub fn texts_are_told()
 ///   that its command writes of the cuts, and with Done, or is stopped: with the whole listing, with the cuts
 ///   of the model that is made counted, with what is to be said of the list, or with the modules.
 pub fn cuts_are_told()
-    ensures conflicts_are_told { (c : Call) (s : Status) (job : Job) (w : Ready) → Gave c s
-        → ((name : List ℕ) → IsKnown (c.files name)) → IsJob c.words job
-        → lists_cuts job.command ≡ true → Passes c.files job (Ok w) → HasConflict w
-        → (MayNeedMore w job.nodes → ⊥)
-        → IsToldWith c s status.Fault (λ text. IsConflictText (naming_of w.source.declarations)
+    ensures conflicts_are_told { (c : Call) (s : Status) (asked : Asked) (w : Ready) → Gave c s
+        → ((name : List ℕ) → IsKnown (c.files name)) → IsAsked c.words asked
+        → lists_cuts asked.job.command ≡ true → Passes c.files asked (Ok w) → HasConflict w
+        → (MayNeedMore w asked.job.nodes → ⊥)
+        → IsToldWith c s status.Fault (λ text. IsConflictText w.order (naming_of w.source.declarations)
         w.source.system w.dropped text) ⊎ IsStopped c s }
-    ensures cuts_are_told { (c : Call) (s : Status) (job : Job) (w : Ready) → Gave c s
-        → ((name : List ℕ) → IsKnown (c.files name)) → IsJob c.words job
-        → lists_cuts job.command ≡ true → Passes c.files job (Ok w)
-        → IsConflictFree w.source.system w.dropped → (MayNeedMore w job.nodes → ⊥)
-        → IsToldWith c s status.Done (λ text. IsTextOfCuts job.command job w text) ⊎ IsStopped c s }
+    ensures cuts_are_told { (c : Call) (s : Status) (asked : Asked) (w : Ready) → Gave c s
+        → ((name : List ℕ) → IsKnown (c.files name)) → IsAsked c.words asked
+        → lists_cuts asked.job.command ≡ true → Passes c.files asked (Ok w)
+        → IsConflictFreeUpTo w.order w.source.system w.dropped → (MayNeedMore w asked.job.nodes → ⊥)
+        → IsToldWith c s status.Done (λ text. IsTextOfCuts asked.job.command asked w text) ⊎ IsStopped c s }
 {
     jobs_are_told();
     enough_nodes_suffice();
@@ -150,10 +151,10 @@ pub fn cuts_are_told()
 /// is the line `nodes: N` of the job's limit, and more nodes than this may be needed.
 pub fn nodes_are_told()
     ensures { (files : List ℕ → Told) → ((name : List ℕ) → IsKnown (files name))
-        → (words : List (List ℕ)) (job : Job) (w : Ready) (text : List ℕ) → IsJob words job
-        → Passes files job (Ok w) → Says files words text status.Nodes
-        → (lists_cuts job.command ≡ true) × (text ≡ nodes_line job.nodes)
-        × MayNeedMore w job.nodes }
+        → (words : List (List ℕ)) (asked : Asked) (w : Ready) (text : List ℕ) → IsAsked words asked
+        → Passes files asked (Ok w) → Says files words text status.Nodes
+        → (lists_cuts asked.job.command ≡ true) × (text ≡ nodes_line asked.job.nodes)
+        × MayNeedMore w asked.job.nodes }
 {
     one_job();
     one_passing();

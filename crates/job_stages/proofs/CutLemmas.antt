@@ -1,5 +1,5 @@
 -- The cuts of a job, as they are written.
-use Rattle.std.proofs.Common.{◌≡◌, ◌≢◌, ◌≤◌, true, ℕ, zero, suc, Some, List, [], ◌∷◌, Result, Ok, Err, length, map, reverse, refl, sym, ◌∙◌, ap, subst, arith}
+use Rattle.std.proofs.Common.{◌≡◌, ◌≢◌, ◌≤◌, true, ℕ, zero, suc, Option, Some, None, List, [], ◌∷◌, Result, Ok, Err, length, map, reverse, refl, sym, ◌∙◌, ap, subst, arith}
 use Rattle.std.proofs.lemmas.Option.{same_Some}
 use Rattle.ar_base.specs.Lists.{Stands}
 use Rattle.ar_base.specs.Lists as l
@@ -19,18 +19,20 @@ use Rattle.ar_meaning.specs.Image.{Expr_renames, IsImage}
 use Rattle.ar_meaning.proofs.ByNumber.{keyed}
 use Rattle.ar_meaning.proofs.FlatSystems.{flat_image, flat_back}
 use Rattle.ar_firing.specs.Static.{IsKeyedStatic}
-use Rattle.ar_firing.specs.Cuts.{AreEvents, Conflicts, Cut, ConflictSet, IsConflictFree, Makes, Reaches}
+use Rattle.ar_firing.specs.Cuts.{AreEvents, Conflicts, Cut, ConflictSet, IsConflictFreeUpTo, Makes, Reaches, UpTo}
+use Rattle.ar_base.proofs.Sets.{within_self}
 use Rattle.ar_firing.specs.Forest.{ModeTree, IsForest, IsLine}
 use Rattle.ar_firing.specs.Listed.{AreListed}
 use Rattle.ar_firing.specs.Operands.{Agrees}
-use Rattle.ar_firing.proofs.RulesHold.{all_static}
+use Rattle.ar_firing.proofs.RulesHold.{asked_static}
+use Rattle.ar_firing.proofs.SmallSets.{free_within, told_free}
 use Rattle.ar_firing.proofs.Shapes.{are_trees}
 use Rattle.ar_firing.proofs.ImageCuts.{meets_there, cut_there, cut_back}
-use Rattle.ar_firing.proofs.Cutting.{no_conflict}
+use Rattle.ar_firing.proofs.Cutting.{calm_within}
 use Rattle.ar_firing.proofs.ImageModes.{firable_there, line_there}
 use Rattle.ar_firing.proofs.Meeting.{met_is_conflicting}
 use Rattle.ar_firing.proofs.Lines.{line_is_legal}
-use Rattle.ar_firing.proofs.MakingLines.{line_makes}
+use Rattle.ar_firing.proofs.MakingLines.{line_within}
 use Rattle.ar_firing.proofs.OneListing.{listed_as, listed_same}
 use Rattle.gts_core.proofs.Lawfulness.{system_lawful, observer_kind}
 use Rattle.gts_core.proofs.Systems.{one_system as views_one}
@@ -59,19 +61,22 @@ use Rattle.table_steps.specs.Table.{IsTable}
 use Rattle.table_laws.specs.GateLaws.{TableIsOrdered, TableAgrees}
 use Rattle.table_laws.proofs.Agreeing.{agrees as table_meant}
 use Rattle.tree_equations.specs.Gives as gives
-use Rattle.gate_diagrams.specs.Answers.{IsAnswer}
-use Rattle.firable_families.specs.Firable.{IsFirableOf}
+use Rattle.gate_diagrams.specs.Answers.{IsAnswerUpTo}
+use Rattle.firable_families.specs.Firable.{AndUpTo, IsFirableOf}
+use Rattle.firable_families.proofs.Few.{firable_of, small_of, firable_up_to}
+use Rattle.cut_text.proofs.UpToOrder.{has_it, is_small, has_other}
 use Rattle.firable_families.proofs.InForests.{firable_in_trees, firable_in_system}
-use Rattle.gate_diagrams.specs.NodeLimits.{IsConflictAt, NodesMay}
+use Rattle.gate_diagrams.specs.NodeLimits.{IsConflictUpTo, NodesMayUpTo}
 use Rattle.gate_diagrams.specs.declared.answer.Drawn.{Drawn}
-use Rattle.table_laws.specs.Drawn.{AreDrawn}
-use Rattle.table_laws.specs.DrawnLaws.{DrawnAreMeant, NodesByNumbers}
+use Rattle.table_laws.specs.Drawn.{AreDrawnUpTo}
+use Rattle.table_laws.specs.DrawnLaws.{DrawnAreMeantUpTo, NodesByNumbersUpTo}
 use Rattle.min_cuts.specs.Lines.{AreInFiringOrder}
 use Rattle.min_cuts.specs.Sizes.{count, largest}
 use Rattle.cut_text.proofs.Source.{replays as source_replays}
 use Rattle.cut_text.specs.Answers.{Prints}
 use Rattle.cut_text.specs.Printed.{edges_of, labels_in, cuts_text, conflict_text, IsForestOf}
-use Rattle.check_text.specs.Texts.{IsCheckText}
+use Rattle.check_text.specs.Texts.{IsCheckText, within_order, lines_in}
+use Rattle.cut_check.specs.Verdicts.{IsMissing}
 use Rattle.cut_check.specs.Flat.{AreVerdicts}
 use Rattle.cut_check.specs.declared.checking.Verdict.{Verdict}
 use Rattle.cut_text.specs.Texts.{IsCutText, IsConflictText}
@@ -81,7 +86,7 @@ use Rattle.job_inputs.specs.CutLists.{CutLine}
 use Rattle.job_inputs.specs.declared.wanting.Wanted.{Wanted}
 use Rattle.cut_text.specs.declared.faults.PrintFault.{PrintFault}
 use Rattle.cut_text.specs.declared.faults.PrintFault.TheVariants as print
-use Rattle.run_words.specs.declared.jobs.Job.{Job}
+use Rattle.run_words.specs.declared.jobs.Asked.{Asked}
 use Rattle.run_words.specs.declared.verbs.Verb.TheVariants.{Cuts, Make, CheckCuts, Modules}
 use Rattle.job_stages.specs.Passing.{HasForest, IsGateTable, HasGates}
 use Rattle.job_stages.specs.Stages.{Ready, lists_cuts}
@@ -118,11 +123,12 @@ none_printed {old} told r d i j =
     (nothing refl)
 
 -- a text with its count
-pub counted_text : (old new : SinkState) (p : GtsParts) (edges : List Edge) (lists : List (List ℕ)) (n m : ℕ) → n ≡ m
-    → (r : Result (Unit {0}) PrintFault) → Prints old new (cuts_text p edges lists n) r
-    → Prints old new (cuts_text p edges lists m) r
-counted_text old new p edges lists n m e r h =
-    subst (λ (k : ℕ). Prints old new (cuts_text p edges lists k) r) e h
+pub counted_text : (old new : SinkState) (p : GtsParts) (edges : List Edge) (order : Option ℕ) (lists : List (List ℕ))
+    (n m : ℕ) → n ≡ m
+    → (r : Result (Unit {0}) PrintFault) → Prints old new (cuts_text p edges order lists n) r
+    → Prints old new (cuts_text p edges order lists m) r
+counted_text old new p edges order lists n m e r h =
+    subst (λ (k : ℕ). Prints old new (cuts_text p edges order lists k) r) e h
 
 -- What is counted
 
@@ -143,10 +149,10 @@ few_counted sections room s n limit sound is few more =
     absurd (omega (arith, k, few))
 
 -- more nodes may be needed
-pub nodes_told : (job : Job) (w : Ready) → lists_cuts job.command ≡ true → (n : ℕ) → job.nodes ≡ n → MayNeedMore w n
-    → Tells job w (nodes_line n) Nodes
-nodes_told job w e n same may =
-    subst (λ (z : ℕ). Tells job w (nodes_line z) Nodes) same
+pub nodes_told : (asked : Asked) (w : Ready) → lists_cuts asked.job.command ≡ true → (n : ℕ) → asked.job.nodes ≡ n → MayNeedMore w n
+    → Tells asked w (nodes_line n) Nodes
+nodes_told asked w e n same may =
+    subst (λ (z : ℕ). Tells asked w (nodes_line z) Nodes) same
     (nodes e (subst (λ (z : ℕ). MayNeedMore w z) (sym same) may))
 
 -- What stands ready
@@ -166,11 +172,12 @@ module _ (w : Ready) (p : GtsParts) (forest : Forest) (gates : GateTable) (is : 
 
   pub forest_is : IsForestOf w.source p flat w.dropped forest
   forest_is = record {
+    order = w.order;
     is_flat = is.flat;
     views = is.flat.views;
     keeps = own.keeps flat is.flat.views;
     is_forest = own.is_forest flat is.flat.views;
-    own = is.forest.written.own;
+    own = is.forest.own;
   }
 
   pub seen : (o : Observer) × Stands p.observers.items table.wanted.observer o
@@ -190,7 +197,7 @@ module _ (w : Ready) (p : GtsParts) (forest : Forest) (gates : GateTable) (is : 
   pub both : IsKeyedStatic flat w.dropped
   both = record {
     keyed = subst (λ (z : Net ℕ). AreKeyed z) (sym is.flat.views.net) (keyed (net_of p) (are_numbered p));
-    static = all_static flat w.dropped (own.keeps flat is.flat.views);
+    static = asked_static w.order flat w.dropped (own.keeps flat is.flat.views);
   }
 
   -- the table's gates are in order
@@ -221,8 +228,9 @@ module _ (w : Ready) (p : GtsParts) (forest : Forest) (gates : GateTable) (is : 
           table.wanted.value (table_of gates.equations)) (sym is.flat.views.net) by_trees)
 
       -- what is drawn
-      pub are_drawn : DrawnAreMeant → (d : Drawn) → IsAnswer (trees_of (λ n. n) forest) (table_of gates.equations) d
-          → AreDrawn flat w.dropped (numbered seen.0.value) table.wanted.value d
+      pub are_drawn : DrawnAreMeantUpTo w.order → (d : Drawn)
+          → IsAnswerUpTo w.order (trees_of (λ n. n) forest) (table_of gates.equations) d
+          → AreDrawnUpTo w.order flat w.dropped (numbered seen.0.value) table.wanted.value d
       are_drawn meant d h =
           meant flat w.dropped (kind_by_number p) seen.0.kind (number_in p) forest
           (numbered seen.0.value)
@@ -264,34 +272,50 @@ module _ (w : Ready) (p : GtsParts) (forest : Forest) (gates : GateTable) (is : 
       table_meant sys dropped kinds kind trees observer wanted t lawful static.static forest observed steps)
 
   -- the table's conflict operand is true at each set that meets a conflict
-  conflict_true : (set : List ℕ) → ConflictSet w.source.system w.dropped set
-      → IsConflictAt own_trees (table_of gates.equations) set
+  conflict_true : (set : List ℕ) → AndUpTo w.order (ConflictSet w.source.system w.dropped) set
+      → IsConflictUpTo w.order own_trees (table_of gates.equations) set
   conflict_true set h =
       let met = met_is_conflicting flat w.dropped both.keyed both.static (numbered seen.0.value) table.wanted.value
       (value_at (table_of gates.equations).gates (table_of gates.equations).conflict)
       (value_at (table_of gates.equations).gates (table_of gates.equations).top) sound_agrees {set = set}
-      (meets_there (IsNumber things) w.source.system flat there w.dropped h.has) in
+      (meets_there (IsNumber things) w.source.system flat there w.dropped
+      (has_it w.order (ConflictSet w.source.system w.dropped) set h).has) in
       record {
-        is_firable = firable_in_trees flat w.dropped both.keyed both.static own_trees own_forest set met.values
-            met.is_firable;
+        is_firable = firable_up_to w.order own_trees set
+            (firable_in_trees flat w.dropped both.keyed both.static own_trees own_forest set met.values met.is_firable)
+            (is_small w.order (ConflictSet w.source.system w.dropped) set h);
         holds = met.holds;
       }
 
+  -- where no set of the source meets a conflict, none of the flat system does, and the other way round
+  free_there : IsConflictFreeUpTo w.order w.source.system w.dropped → IsConflictFreeUpTo w.order flat w.dropped
+  free_there free = told_free w.order flat w.dropped (λ s u m.
+      free_within w.order w.source.system w.dropped free s u s (within_self s)
+      (meets_there (turned (IsNumber things)) flat w.source.system behind w.dropped m))
+
+  free_back : IsConflictFreeUpTo w.order flat w.dropped → IsConflictFreeUpTo w.order w.source.system w.dropped
+  free_back free = told_free w.order w.source.system w.dropped (λ s u m.
+      free_within w.order flat w.dropped free s u s (within_self s)
+      (meets_there (IsNumber things) w.source.system flat there w.dropped m))
+
   -- and at no firable set where no set meets one
-  conflict_false : IsConflictFree w.source.system w.dropped → (set : List ℕ)
-      → IsConflictAt own_trees (table_of gates.equations) set → ⊥
+  conflict_false : IsConflictFreeUpTo w.order w.source.system w.dropped → (set : List ℕ)
+      → IsConflictUpTo w.order own_trees (table_of gates.equations) set → ⊥
   conflict_false free set t =
-      let f = firable_in_system flat w.dropped both.keyed both.static own_trees own_forest set t.is_firable in
-      let no = no_conflict flat w.dropped both.keyed both.static (numbered seen.0.value) table.wanted.value
+      let f = firable_in_system flat w.dropped both.keyed both.static own_trees own_forest set
+      (firable_of w.order own_trees set t.is_firable) in
+      let no = calm_within flat w.dropped both.keyed both.static (numbered seen.0.value) table.wanted.value
       (value_at (table_of gates.equations).gates (table_of gates.equations).conflict)
-      (value_at (table_of gates.equations).gates (table_of gates.equations).top) sound_agrees
-      (λ s m. free s (meets_there (turned (IsNumber things)) flat w.source.system behind w.dropped m)) set f.0 f.1 in
+      (value_at (table_of gates.equations).gates (table_of gates.equations).top) sound_agrees set
+      (free_within w.order flat w.dropped (free_there free) set (small_of w.order own_trees set t.is_firable))
+      set f.0 (within_self set) f.1 in
       let yes : value_at (table_of gates.equations).gates (table_of gates.equations).conflict set ≡ true =
       t.holds in
       cc
 
   -- more nodes may be needed
-  pub may_need : NodesByNumbers → (n : ℕ) → NodesMay (trees_of (λ n. n) forest) (table_of gates.equations) n
+  pub may_need : NodesByNumbersUpTo w.order → (n : ℕ)
+      → NodesMayUpTo w.order (trees_of (λ n. n) forest) (table_of gates.equations) n
       → MayNeedMore w n
   may_need law n h =
       let may = law (λ n. n) (number_in p) forest (table_of gates.equations) n h in
@@ -301,7 +325,10 @@ module _ (w : Ready) (p : GtsParts) (forest : Forest) (gates : GateTable) (is : 
         table = table_of gates.equations;
         is_table = table.is_table;
         firable = may.all;
-        are_firable = listed_as firable_there_in firable_back_in may.is_all;
+        are_firable = listed_as
+            (has_other w.order (IsFirableOf own_trees) (IsFirableSet w.source.system w.dropped) firable_there_in)
+            (has_other w.order (IsFirableSet w.source.system w.dropped) (IsFirableOf own_trees) firable_back_in)
+            may.is_all;
         where_conflict = λ set c. may.where_some set (conflict_true set c);
         where_free = λ free. may.where_none (conflict_false free);
       }
@@ -332,25 +359,29 @@ module _ (w : Ready) (p : GtsParts) (forest : Forest) (gates : GateTable) (is : 
   pub renamed : Expr_renames (IsNumber things) source_observer (numbered seen.0.value)
   renamed = sourced.2
 
-  abbrev has_cuts : IsConflictFree flat w.dropped → HasCuts w
+  abbrev has_cuts : IsConflictFreeUpTo w.order flat w.dropped → HasCuts w
   has_cuts free = record {
     wanted = table.wanted;
     are_wanted = table.are;
     observed = source_observer;
     is_observed = sourced.1;
-    conflict_free = λ set m. free set (meets_there (IsNumber things) w.source.system flat there w.dropped m);
+    conflict_free = free_back free;
   }
 
   -- the source's cuts are those of the flat system
-  pub listed_of_source : (sets : Sets)
-      → AreListed (Cut flat w.dropped (numbered seen.0.value) table.wanted.value) sets
-      → AreListed (Cut w.source.system w.dropped source_observer table.wanted.value) sets
-  listed_of_source sets listed =
+  pub listed_of_source : (order : Option ℕ) (sets : Sets)
+      → AreListed (AndUpTo order (Cut flat w.dropped (numbered seen.0.value) table.wanted.value)) sets
+      → AreListed (AndUpTo order (Cut w.source.system w.dropped source_observer table.wanted.value)) sets
+  listed_of_source order sets listed =
       listed_as
+      (has_other order (Cut flat w.dropped (numbered seen.0.value) table.wanted.value)
+      (Cut w.source.system w.dropped source_observer table.wanted.value)
       (λ s c. cut_back (IsNumber things) w.source.system flat there w.dropped source_observer (numbered seen.0.value)
-      renamed table.wanted.value s c)
+      renamed table.wanted.value s c))
+      (has_other order (Cut w.source.system w.dropped source_observer table.wanted.value)
+      (Cut flat w.dropped (numbered seen.0.value) table.wanted.value)
       (λ s c. cut_there (IsNumber things) w.source.system flat there w.dropped source_observer (numbered seen.0.value)
-      renamed table.wanted.value s c)
+      renamed table.wanted.value s c))
       listed
 
   -- the events of a line of the source are those of its set
@@ -359,23 +390,26 @@ module _ (w : Ready) (p : GtsParts) (forest : Forest) (gates : GateTable) (is : 
       (line_is_legal flat w.dropped both.keyed both.static
       (line_there (IsNumber things) w.source.system flat there w.dropped h)).events
 
-  pub cuts_told : (job : Job) → job.command ≡ Cuts → (sets : Sets) (text : List ℕ) → (free : IsConflictFree flat w.dropped)
-      → AreListed (Cut flat w.dropped (numbered seen.0.value) table.wanted.value) sets
-      → IsCutText (naming_of w.source.declarations) w.source.system w.dropped source_observer table.wanted.value text
-      → ((sets : List (List ℕ)) → AreListed (Cut w.source.system w.dropped source_observer table.wanted.value) sets
+  pub cuts_told : (asked : Asked) → asked.job.command ≡ Cuts → (sets : Sets) (text : List ℕ)
+      → (free : IsConflictFreeUpTo w.order flat w.dropped)
+      → AreListed (AndUpTo w.order (Cut flat w.dropped (numbered seen.0.value) table.wanted.value)) sets
+      → IsCutText w.order (naming_of w.source.declarations) w.source.system w.dropped source_observer table.wanted.value
+      text
+      → ((sets : List (List ℕ))
+      → AreListed (AndUpTo w.order (Cut w.source.system w.dropped source_observer table.wanted.value)) sets
       → (set : List ℕ) → l.IsOneOf sets set → (ls : List Label) → IsLine w.source.system w.dropped set ls
       → (t : List Value) × Reaches w.source.system w.dropped (reverse ls) t × Reaches w.source.system [] (reverse ls) t
       × Yields (HasValue w.source.system.net t) (out-Expr Thing source_observer) table.wanted.value)
-      → (IsMoreThan job.nodes (IsCounted sets) → ⊥) → Tells job w text Done
-  cuts_told job i sets text free listed t replays few =
+      → (IsMoreThan asked.job.nodes (IsCounted sets) → ⊥) → Tells asked w text Done
+  cuts_told asked i sets text free listed t replays few =
       let same : t.sets ≡ sets = listed_same t.sets sets
-      (Cut w.source.system w.dropped source_observer table.wanted.value) t.are_listed
-      (listed_of_source sets listed) in
+      (AndUpTo w.order (Cut w.source.system w.dropped source_observer table.wanted.value)) t.are_listed
+      (listed_of_source w.order sets listed) in
       cuts i
       (record {
         has = has_cuts free;
         is_text = t;
-        few = λ more. few (subst (λ (z : Sets). IsMoreThan job.nodes (IsCounted z)) same more);
+        few = λ more. few (subst (λ (z : Sets). IsMoreThan asked.job.nodes (IsCounted z)) same more);
         replay = λ k set ls s h.
             let g = along_on _ _ t.are_lines k set s in
             let line = subst (λ (z : List Label). IsLine w.source.system w.dropped set z)
@@ -385,34 +419,37 @@ module _ (w : Ready) (p : GtsParts) (forest : Forest) (gates : GateTable) (is : 
       })
 
   -- the line of a set that makes the value replays
-  line_replays : IsConflictFree flat w.dropped → (set : List ℕ) (ls : List Label)
+  line_replays : IsConflictFreeUpTo w.order flat w.dropped → (set : List ℕ) (ls : List Label) → UpTo w.order set
       → Makes w.source.system w.dropped source_observer table.wanted.value set
       → IsLine w.source.system w.dropped set ls
       → Replays w.source.system source_observer table.wanted.value set ls
-  line_replays free set ls makes line =
+  line_replays free set ls small makes line =
       let fails = value_at (table_of gates.equations).gates (table_of gates.equations).conflict in
       let wins = value_at (table_of gates.equations).gates (table_of gates.equations).top in
       let run = source_replays w.source p flat w.dropped forest (views_one p) forest_is source_observer
-      (numbered seen.0.value) renamed table.wanted.value
-      (λ s ks m k. line_makes flat w.dropped both.keyed both.static (numbered seen.0.value) table.wanted.value fails
+      (numbered seen.0.value) renamed table.wanted.value set
+      (λ ks m k. line_within flat w.dropped both.keyed both.static (numbered seen.0.value) table.wanted.value fails
       wins sound_agrees
-      (no_conflict flat w.dropped both.keyed both.static (numbered seen.0.value) table.wanted.value fails wins
-      sound_agrees free) m k) set ls makes line in
+      (calm_within flat w.dropped both.keyed both.static (numbered seen.0.value) table.wanted.value fails wins
+      sound_agrees set (free_within w.order flat w.dropped free set small)) m k) ls makes line in
       record { events = line_events set ls line; values = run.0; reaches = run.2; shows = run.3 }
 
   -- what is to be said of the lines of a list
-  pub checks_told : (job : Job) → job.command ≡ CheckCuts → (chains : List Chain) → w.lines ≡ map (cut_of p) chains
-      → (sets : Sets) (text : List ℕ) → IsConflictFree flat w.dropped
-      → AreListed (Cut flat w.dropped (numbered seen.0.value) table.wanted.value) sets
-      → IsCheckText (naming_of w.source.declarations) w.source.system w.dropped source_observer table.wanted.value
-      (map (cut_of p) chains) text
-      → (IsMoreThan job.nodes (IsCounted sets) → ⊥) → Tells job w text Done
-  checks_told job i chains same sets text free listed t few =
-      let given : IsCheckText (naming_of w.source.declarations) w.source.system w.dropped source_observer
+  pub checks_told : (asked : Asked) → asked.job.command ≡ CheckCuts → (chains : List Chain)
+      → w.lines ≡ map (cut_of p) chains
+      → (sets : Sets) (text : List ℕ) → IsConflictFreeUpTo w.order flat w.dropped
+      → AreListed (AndUpTo w.order (Cut flat w.dropped (numbered seen.0.value) table.wanted.value)) sets
+      → IsCheckText w.order (naming_of w.source.declarations) w.source.system w.dropped source_observer
+      table.wanted.value (map (cut_of p) chains) text
+      → (IsMoreThan asked.job.nodes (IsCounted sets) → ⊥) → Tells asked w text Done
+  checks_told asked i chains same sets text free listed t few =
+      let given : IsCheckText w.order (naming_of w.source.declarations) w.source.system w.dropped source_observer
       table.wanted.value w.lines text =
-      subst (λ (z : List CutLine). IsCheckText (naming_of w.source.declarations) w.source.system w.dropped
+      subst (λ (z : List CutLine). IsCheckText w.order (naming_of w.source.declarations) w.source.system w.dropped
       source_observer table.wanted.value z text)
       (sym same) t in
+      let lacks = IsMissing w.source.system w.dropped source_observer table.wanted.value
+      (lines_in (within_order w.order w.lines)) in
       checks i
       (record {
         has = has_cuts free;
@@ -421,68 +458,83 @@ module _ (w : Ready) (p : GtsParts) (forest : Forest) (gates : GateTable) (is : 
             let g = along_on _ _ given.are_lines k set s in
             let line = subst (λ (z : List Label). IsLine w.source.system w.dropped set z)
             (stands_one given.lines k g.0 ls g.1 h) g.2 in
-            line_replays free set ls (given.are_missing.sound k set s).is_cut.has line;
+            let missing = given.are_missing.sound k set s in
+            line_replays free set ls (is_small w.order lacks set missing) (has_it w.order lacks set missing).is_cut.has line;
         sets = sets;
-        are_listed = listed_of_source sets listed;
+        are_listed = listed_of_source w.order sets listed;
         few = few;
       })
 
-  -- the cuts in short
-  pub short_told : (job : Job) → job.command ≡ Modules → (sets : Sets) (text : List ℕ) → IsConflictFree flat w.dropped
+  -- where all cuts are asked for, what is listed are all
+  pub listed_all : w.order ≡ None → (sets : Sets)
+      → AreListed (AndUpTo w.order (Cut flat w.dropped (numbered seen.0.value) table.wanted.value)) sets
       → AreListed (Cut flat w.dropped (numbered seen.0.value) table.wanted.value) sets
+  listed_all all sets listed = subst
+      (λ (o : Option ℕ). AreListed (AndUpTo o (Cut flat w.dropped (numbered seen.0.value) table.wanted.value)) sets) all
+      listed
+
+  -- the cuts in short
+  pub short_told : (asked : Asked) → asked.job.command ≡ Modules → w.order ≡ None → (sets : Sets) (text : List ℕ)
+      → IsConflictFreeUpTo w.order flat w.dropped
+      → AreListed (AndUpTo w.order (Cut flat w.dropped (numbered seen.0.value) table.wanted.value)) sets
       → IsModuleText w.source w.dropped source_observer table.wanted.value text
-      → (IsMoreThan job.nodes (IsCounted sets) → ⊥) → Tells job w text Done
-  short_told job i sets text free listed t few =
+      → (IsMoreThan asked.job.nodes (IsCounted sets) → ⊥) → Tells asked w text Done
+  short_told asked i all sets text free listed t few =
       let same : t.cuts ≡ sets = listed_same t.cuts sets
       (Cut w.source.system w.dropped source_observer table.wanted.value) t.are_listed
-      (listed_of_source sets listed) in
+      (listed_of_source None sets (listed_all all sets listed)) in
       in_short i
       (record {
+        all = all;
         has = has_cuts free;
         is_text = t;
-        few = λ more. few (subst (λ (z : Sets). IsMoreThan job.nodes (IsCounted z)) same more);
+        few = λ more. few (subst (λ (z : Sets). IsMoreThan asked.job.nodes (IsCounted z)) same more);
       })
 
   -- how many there are
-  pub make_told : (job : Job) → job.command ≡ Make → (number : ℕ) → job.number ≡ number → (sets : Sets) (text : List ℕ)
-      → IsConflictFree flat w.dropped
-      → AreListed (Cut flat w.dropped (numbered seen.0.value) table.wanted.value) sets
+  pub make_told : (asked : Asked) → asked.job.command ≡ Make → w.order ≡ None → (number : ℕ)
+      → asked.job.number ≡ number → (sets : Sets) (text : List ℕ)
+      → IsConflictFreeUpTo w.order flat w.dropped
+      → AreListed (AndUpTo w.order (Cut flat w.dropped (numbered seen.0.value) table.wanted.value)) sets
       → text ≡ make_lines number (length p.units.items) (length p.events.items) (count sets)
       (largest sets)
-      → (IsMoreThan job.nodes (IsCounted sets) → ⊥) → Tells job w text Done
-  make_told job i number same sets text free listed t few =
+      → (IsMoreThan asked.job.nodes (IsCounted sets) → ⊥) → Tells asked w text Done
+  make_told asked i all number same sets text free listed t few =
       make i
       (record {
+        all = all;
         has = has_cuts free;
         sets = sets;
-        are_listed = listed_of_source sets listed;
+        are_listed = subst
+            (λ (o : Option ℕ). AreListed (AndUpTo o (Cut w.source.system w.dropped source_observer table.wanted.value)) sets)
+            all (listed_of_source w.order sets listed);
         is_text = t ∙ made_same (sym same) (many_units w.source p is.flat) (many_events w.source p is.flat)
             (count sets) (largest sets);
         few = few;
       })
 
   -- the conflict
-  module _ (job : Job) (e : lists_cuts job.command ≡ true)
+  module _ (asked : Asked) (e : lists_cuts asked.job.command ≡ true)
       (meets : (set : List ℕ) (sets : List (List ℕ)) (events : List ℕ) (lists : List (List ℕ))
-      → AreListed (ConflictSet flat w.dropped) (set ∷ sets)
+      → AreListed (AndUpTo w.order (ConflictSet flat w.dropped)) (set ∷ sets)
       → AreInFiringOrder (trees_of (λ n. n) forest) (set ∷ sets) (events ∷ lists)
       → (fault : FlowFault) × Conflicts flat w.dropped
       (reverse (labels_in p (edges_of forest.trees.items) events)) fault)
       (is_text : (set : List ℕ) (sets : List (List ℕ)) (events : List ℕ) (lists : List (List ℕ)) (fault : FlowFault)
-      → AreListed (ConflictSet flat w.dropped) (set ∷ sets)
+      → AreListed (AndUpTo w.order (ConflictSet flat w.dropped)) (set ∷ sets)
       → AreInFiringOrder (trees_of (λ n. n) forest) (set ∷ sets) (events ∷ lists)
       → Conflicts flat w.dropped (reverse (labels_in p (edges_of forest.trees.items) events)) fault
-      → IsConflictText (naming_of w.source.declarations) w.source.system w.dropped
+      → IsConflictText w.order (naming_of w.source.declarations) w.source.system w.dropped
       (conflict_text p (edges_of forest.trees.items) events fault)) where
     pub conflict_printed : (old new : SinkState) (r : Result (Unit {0}) PrintFault) (sets lists : List (List ℕ))
         → sets ≢ []
-        → AreListed (ConflictSet flat w.dropped) sets → AreInFiringOrder (trees_of (λ n. n) forest) sets lists
+        → AreListed (AndUpTo w.order (ConflictSet flat w.dropped)) sets → AreInFiringOrder (trees_of (λ n. n) forest) sets lists
         → ((system : System ℕ) → Views p system
         → (dropped events : List ℕ) (later : List (List ℕ)) (fault : FlowFault)
         → lists ≡ events ∷ later
         → Conflicts system dropped (reverse (labels_in p (edges_of forest.trees.items) events)) fault
         → Prints old new (conflict_text p (edges_of forest.trees.items) events fault) r)
-        → (text : List ℕ) × Tells job w text Fault × Prints old new text r
+        → (text : List ℕ) × Tells asked w text Fault × Prints old new text r
     conflict_printed old new r sets lists some listed l.none prints = absurd (some refl)
     conflict_printed old new r sets lists some listed (l.one_and {a = set} {b = events} {xs = xs} {ys = ys} h hs)
         prints =

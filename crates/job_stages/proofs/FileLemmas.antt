@@ -5,7 +5,7 @@ use Rattle.std.specs.Global.{Global}
 use Rattle.ar_base.specs.Counts.{limit_of}
 use Rattle.ar_io.specs.Outside.{Told, MayBeLonger, IsFile}
 use Rattle.run_words.specs.Generator.{generated}
-use Rattle.run_words.specs.declared.jobs.Job.{Job}
+use Rattle.run_words.specs.declared.jobs.Asked.{Asked}
 use Rattle.job_stages.specs.Files.{File, Loaded, none, long, later, whole, Loads, this, next, script_files, files_where, IsText, first, made}
 use Rattle.job_stages.specs.Jobs.{makes_model}
 use Rattle.job_stages.specs.Loading.{AnswersFile, RefusesFiles, limited, not_read, AnswersFiles, AnswersTexts, AreTexts, script_texts, texts_of, texts_where}
@@ -134,37 +134,37 @@ named name n word e i = ap script_files e ∙ ap (λ (z : List ℕ). script_file
 
 -- The texts of a job
 
-module _ (told : List ℕ → Told) (rose : List ℕ → Type 0) (job : Job) where
+module _ (told : List ℕ → Told) (rose : List ℕ → Type 0) (asked : Asked) where
   -- the model is made, and nothing is loaded
-  pub made_told : makes_model job.command ≡ true → job.script ≡ None → (t : Texts) → t.script ≡ None
-      → t.model.items ≡ generated job.number → length t.model.items ≤ limit_of ModelBytes
-      → AnswersTexts told rose job (Ok t)
+  pub made_told : makes_model asked.job.command ≡ true → asked.job.script ≡ None → (t : Texts) → t.script ≡ None
+      → t.model.items ≡ generated asked.job.number → length t.model.items ≤ limit_of ModelBytes
+      → AnswersTexts told rose asked (Ok t)
   made_told e no_name t no_script is short = record {
-    loaded = subst (λ (b : Bool). Loaded told (files_where b job) (Ok (texts_where b t))) (sym e)
+    loaded = subst (λ (b : Bool). Loaded told (files_where b asked) (Ok (texts_where b t))) (sym e)
         (subst (λ (s : Option (List ℕ)). Loaded told (script_files s) (Ok (script_texts t.script))) (sym no_name)
         (subst (λ (s : Option (Vec ℕ Global)). Loaded told [] (Ok (script_texts s))) (sym no_script) none));
-    is_text = subst (λ (z : List ℕ). IsText job (texts_of job t) z) (sym is) (made e);
+    is_text = subst (λ (z : List ℕ). IsText asked (texts_of asked t) z) (sym is) (made e);
     short = short;
   }
 
   -- the files are loaded
-  pub files_told : makes_model job.command ≡ false → (r : Result Texts Stop)
-      → AnswersFiles (texts_where false) told rose (files_where false job) r → AnswersTexts told rose job r
+  pub files_told : makes_model asked.job.command ≡ false → (r : Result Texts Stop)
+      → AnswersFiles (texts_where false) told rose (files_where false asked) r → AnswersTexts told rose asked r
   files_told e (Ok t) h = record {
-    loaded = subst (λ (b : Bool). Loaded told (files_where b job) (Ok (texts_where b t))) (sym e) h;
-    is_text = subst (λ (b : Bool). IsText job (texts_where b t) t.model.items) (sym e) (first e);
+    loaded = subst (λ (b : Bool). Loaded told (files_where b asked) (Ok (texts_where b t))) (sym e) h;
+    is_text = subst (λ (b : Bool). IsText asked (texts_where b t) t.model.items) (sym e) (first e);
     short = (loaded_first told _ _ _ _ h).0.short;
   }
   files_told e (Err (Refused r)) h =
-      subst (λ (b : Bool). RefusesFiles told rose (files_where b job) r) (sym e) h
+      subst (λ (b : Bool). RefusesFiles told rose (files_where b asked) r) (sym e) h
   files_told e (Err Memory) h = tt
 
   -- the script is loaded in both cases
-  pub script_loaded : (t : Texts) → AreTexts told job t
-      → Loaded told (script_files job.script) (Ok (script_texts t.script))
-  script_loaded t h = go (makes_model job.command) h.loaded
+  pub script_loaded : (t : Texts) → AreTexts told asked t
+      → Loaded told (script_files asked.job.script) (Ok (script_texts t.script))
+  script_loaded t h = go (makes_model asked.job.command) h.loaded
     where
-      go : (b : Bool) → Loaded told (files_where b job) (Ok (texts_where b t))
-          → Loaded told (script_files job.script) (Ok (script_texts t.script))
+      go : (b : Bool) → Loaded told (files_where b asked) (Ok (texts_where b t))
+          → Loaded told (script_files asked.job.script) (Ok (script_texts t.script))
       go true l = l
       go false l = (loaded_first told _ _ _ _ l).1

@@ -1,5 +1,5 @@
 -- The dropped events and the forest of a job.
-use Rattle.std.proofs.Common.{◌≡◌, ℕ, List, [], Ok, Err, map, refl, sym, ◌∙◌, ap, subst}
+use Rattle.std.proofs.Common.{◌≡◌, ◌≤◌, ℕ, length, Option, List, [], Ok, Err, map, refl, sym, ◌∙◌, ap, subst}
 use Rattle.ar_base.specs.Lists.{IsOneOf}
 use Rattle.ar_base.specs.Numbers.{EventId}
 use Rattle.ar_base.specs.Texts.{text_at}
@@ -9,18 +9,20 @@ use Rattle.ar_meaning.specs.Systems.{System}
 use Rattle.ar_meaning.specs.FlatOf.{IsNumber}
 use Rattle.ar_meaning.specs.TraceText.{Naming}
 use Rattle.ar_meaning.proofs.FlatSystems.{flat_back}
-use Rattle.ar_firing.specs.Rules.{Rule, rule_number, Spot, AtEvent, AtUnit, AtVariable, AtObserver, AtWhole, IsFirstBroken, KeepsAll}
-use Rattle.ar_firing.proofs.ImageRules.{first_broken_there, keeps_all_there}
+use Rattle.ar_firing.specs.Rules.{Rule, rule_number, Spot, AtEvent, AtUnit, AtVariable, AtObserver, AtWhole, IsFirstBroken, KeepsUpTo}
+use Rattle.ar_firing.proofs.ImageRules.{first_broken_there, keeps_asked_there}
 use Rattle.gts_core.specs.View.{Views}
 use Rattle.gts_core.specs.declared.system.GtsParts.{GtsParts}
 use Rattle.gts_flatten.specs.Elaborating.{Elaborated}
 use Rattle.gts_flatten.specs.Flat.{IsFlat}
 use Rattle.hierarchy.specs.Listing.{variables}
+use Rattle.cut_text.specs.ForestPrinted.{edge_count}
+use Rattle.mode_trees.specs.Ways.{OwnTheirWays}
 use Rattle.mode_trees.specs.Views.{trees_of, number_in}
 use Rattle.mode_trees.specs.declared.forests.Forest.{Forest}
-use Rattle.static_fragment.specs.Recognised.{IsRecognised, IsOutside, spot_of}
+use Rattle.static_fragment.specs.Recognised.{IsRecognisedUpTo, IsOutsideUpTo, spot_of}
 use Rattle.static_fragment.specs.declared.faults.Spot as there
-use Rattle.job_stages.specs.Passing.{IsStageOf, AreDropped, CanBeWritten, HasForest}
+use Rattle.job_stages.specs.Passing.{IsStageOf, AreDropped, HasForest}
 use Rattle.job_stages.specs.Spots.{path_in}
 use Rattle.job_stages.specs.Stages.{Ready, Static, keeps, outside, spot_path}
 use Rattle.job_stages.specs.declared.refusals.Refusal.{Refusal}
@@ -36,10 +38,10 @@ none_dropped p events e = record {
 
 -- the source has the rules that its flat system keeps or breaks, and calls its things alike
 module _ (x : Elaborated) (p : GtsParts) (of : IsFlat x p) (dropped : List ℕ) where
-  pub source_keeps : KeepsAll of.flat dropped → KeepsAll x.system dropped
-  source_keeps h =
+  pub source_keeps : (order : Option ℕ) → KeepsUpTo order of.flat dropped → KeepsUpTo order x.system dropped
+  source_keeps order h =
       let things = variables x.declarations.model x.declarations.units in
-      keeps_all_there (turned (IsNumber things)) of.flat x.system (flat_back things x.system of.flat of.is_flat) dropped
+      keeps_asked_there (turned (IsNumber things)) of.flat x.system (flat_back things x.system of.flat of.is_flat) dropped
       h
 
   pub source_breaks : {rule : Rule} {spot : Spot} → IsFirstBroken of.flat dropped rule spot
@@ -60,26 +62,28 @@ module _ (x : Elaborated) (p : GtsParts) (of : IsFlat x p) (dropped : List ℕ) 
 
 module _ (w : Ready) (p : GtsParts) (of : IsFlat w.source p) where
   pub forest_given : (f : Forest)
-      → ((system : System ℕ) → Views p system → IsRecognised system w.dropped (trees_of (number_in p) f))
-      → CanBeWritten p f → IsStageOf (HasForest p) (Static w) (Ok f)
-  forest_given f all written = (
+      → ((system : System ℕ) → Views p system → IsRecognisedUpTo w.order system w.dropped (trees_of (number_in p) f))
+      → OwnTheirWays p f.trees.items → edge_count f.trees.items ≤ length p.events.items
+      → IsStageOf (HasForest p) (Static w) (Ok f)
+  forest_given f all own few = (
     w,
-    keeps (source_keeps w.source p of w.dropped (all of.flat of.views).keeps),
+    keeps (source_keeps w.source p of w.dropped w.order (all of.flat of.views).keeps),
     record {
-      written = written;
+      own = own;
+      few = few;
       keeps = λ flat views. (all flat views).keeps;
       is_forest = λ flat views. (all flat views).forest;
     },
   )
 
   pub outside_given : (number : ℕ) (path : List ℕ) (s : there.Spot)
-      → IsOutside of.flat w.dropped number s → path ≡ path_in p (spot_of s)
+      → IsOutsideUpTo w.order of.flat w.dropped number s → path ≡ path_in p (spot_of s)
       → IsStageOf {X = Forest} (HasForest p) (Static w) (Err (Refused (Outside number path)))
   outside_given number path s out e =
       subst (λ (z : Refusal). Static w (Err z))
       (sym (refusals number (rule_number out.rule) path (spot_path w.source (spot_of s)) (sym out.is_rule)
       (e ∙ same_path w.source p of w.dropped (spot_of s))))
-      (outside (source_breaks w.source p of w.dropped out.first))
+      (outside out.asked (source_breaks w.source p of w.dropped out.first))
     where
       refusals : (m n : ℕ) (a b : List ℕ) → m ≡ n → a ≡ b → Outside m a ≡ Outside n b
       refusals m n a b i j = cc

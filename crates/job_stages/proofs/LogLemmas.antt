@@ -4,11 +4,11 @@ use Rattle.std.specs.Global.{Global}
 use Rattle.ar_base.specs.Counts.{limit_of}
 use Rattle.ar_io.specs.Loads.{Load, load_of}
 use Rattle.ar_io.specs.declared.outside.LoadFault.{LoadFault}
-use Rattle.run_words.specs.declared.jobs.Job.{Job}
+use Rattle.run_words.specs.declared.jobs.Asked.{Asked}
 use Rattle.job_stages.specs.Files.{File, files_of, files_where, script_files}
 use Rattle.job_stages.specs.Jobs.{makes_model}
 use Rattle.job_stages.specs.Loading.{AnswersLoads, seen, one_text, texts_of, texts_where, script_texts}
-use Rattle.job_stages.specs.Logs.{asked, stop_of, Came, none, stops, later, whole, Grew}
+use Rattle.job_stages.specs.Logs.{logged, stop_of, Came, none, stops, later, whole, Grew}
 use Rattle.job_stages.specs.declared.loading.Texts.{Texts}
 use Rattle.job_stages.specs.declared.stops.Stop.{Stop}
 use Rattle.job_stages.specs.declared.stops.Stop.TheVariants.{Refused, Memory}
@@ -19,7 +19,7 @@ module _ (f : File) (n : ℕ) (same : n ≡ limit_of f.count) (a b : List Load) 
   pub one_came : (bytes : Vec ℕ Global) → length bytes.items ≤ n → b ≡ a ++ (load_of f.name n (Ok bytes) ∷ [])
       → Grew a b (λ loads. Came (f ∷ []) loads (Ok (one_text bytes)))
   one_came bytes h e = (
-    asked f (Ok bytes.items) ∷ [],
+    logged f (Ok bytes.items) ∷ [],
     e ∙ ap (λ (m : ℕ). a ++ (record { name = f.name; most = m; got = Ok bytes.items } ∷ [])) same,
     whole bytes.items (subst (λ (m : ℕ). length bytes.items ≤ m) same h) none,
   )
@@ -27,7 +27,7 @@ module _ (f : File) (n : ℕ) (same : n ≡ limit_of f.count) (a b : List Load) 
   pub one_stops : (why got : LoadFault) → got ≡ why → b ≡ a ++ (load_of f.name n (Err got) ∷ [])
       → Grew a b (λ loads. Came (f ∷ []) loads (Err (stop_of f why)))
   one_stops why got is e = (
-    asked f (Err why) ∷ [],
+    logged f (Err why) ∷ [],
     e ∙ ap (λ (x : LoadFault). a ++ (load_of f.name n (Err x) ∷ [])) is
         ∙ ap (λ (m : ℕ). a ++ (record { name = f.name; most = m; got = Err why } ∷ [])) same,
     stops why,
@@ -35,7 +35,7 @@ module _ (f : File) (n : ℕ) (same : n ≡ limit_of f.count) (a b : List Load) 
 
 -- what the load of one file was
 only_whole : (f : File) (loads : List Load) (text : List ℕ) → Came (f ∷ []) loads (Ok (text ∷ []))
-    → (loads ≡ asked f (Ok text) ∷ []) × (length text ≤ limit_of f.count)
+    → (loads ≡ logged f (Ok text) ∷ []) × (length text ≤ limit_of f.count)
 only_whole f loads text (whole t h none) = (refl, h)
 
 -- the first file did not come
@@ -47,7 +47,7 @@ only_stopped f fs loads s (later t h c) = elim c [ ]
 -- the first file came, and the others came or stopped
 came_behind : (f : File) (fs : List File) (loads : List Load) (text : List ℕ) {X : Type 0} (texts : X → List (List ℕ))
     → length text ≤ limit_of f.count → (r : Result X Stop) → Came fs loads (seen texts r)
-    → Came (f ∷ fs) (asked f (Ok text) ∷ loads) (seen (λ x. text ∷ texts x) r)
+    → Came (f ∷ fs) (logged f (Ok text) ∷ loads) (seen (λ x. text ∷ texts x) r)
 came_behind f fs loads text texts h (Ok x) c = whole text h c
 came_behind f fs loads text texts h (Err s) c = later text h c
 
@@ -85,16 +85,16 @@ module _ (a b : List Load) where
       → Grew a c (λ loads. Came (g ∷ fs) loads (seen (λ x. text ∷ texts x) r))
   then_came c f g fs text texts r is p q =
       let one = only_whole f p.0 text p.2 in (
-        asked g (Ok text) ∷ q.0,
+        logged g (Ok text) ∷ q.0,
         q.1 ∙ ap (λ (z : List Load). z ++ q.0) (p.1 ∙ ap (λ (z : List Load). a ++ z)
-            (one.0 ∙ ap (λ (z : File). asked z (Ok text) ∷ []) is))
-            ∙ append_assoc a (asked g (Ok text) ∷ []) q.0,
+            (one.0 ∙ ap (λ (z : File). logged z (Ok text) ∷ []) is))
+            ∙ append_assoc a (logged g (Ok text) ∷ []) q.0,
         came_behind g fs q.0 text texts (subst (λ (z : File). length text ≤ limit_of z.count) is one.1) r q.2,
       )
 
 -- The texts of a job
 
-module _ (job : Job) (a b : List Load) where
+module _ (asked : Asked) (a b : List Load) where
   answers : (files : List File) (texts : Texts → List (List ℕ)) (r : Result Texts Stop) (loads : List Load)
       → Came files loads (seen texts r) → AnswersLoads texts files r loads
   answers files texts (Ok t) loads c = c
@@ -102,36 +102,36 @@ module _ (job : Job) (a b : List Load) where
   answers files texts (Err Memory) loads c = (Err Memory, c)
 
   -- the files are loaded
-  pub files_came : makes_model job.command ≡ false → (r : Result Texts Stop)
-      → Grew a b (λ loads. Came (files_where false job) loads (seen (texts_where false) r))
-      → Grew a b (AnswersLoads (texts_of job) (files_of job) r)
+  pub files_came : makes_model asked.job.command ≡ false → (r : Result Texts Stop)
+      → Grew a b (λ loads. Came (files_where false asked) loads (seen (texts_where false) r))
+      → Grew a b (AnswersLoads (texts_of asked) (files_of asked) r)
   files_came e r g = (
     g.0,
     g.1,
-    subst (λ (z : Bool). AnswersLoads (texts_where z) (files_where z job) r g.0) (sym e)
-        (answers (files_where false job) (texts_where false) r g.0 g.2),
+    subst (λ (z : Bool). AnswersLoads (texts_where z) (files_where z asked) r g.0) (sym e)
+        (answers (files_where false asked) (texts_where false) r g.0 g.2),
   )
 
   -- the model is made, and nothing is loaded
-  module _ (e : makes_model job.command ≡ true) (no_script : job.script ≡ None) (same : b ≡ a) where
-    made_none : Came (files_of job) [] (Ok [])
+  module _ (e : makes_model asked.job.command ≡ true) (no_script : asked.job.script ≡ None) (same : b ≡ a) where
+    made_none : Came (files_of asked) [] (Ok [])
     made_none =
-        subst (λ (z : Bool). Came (files_where z job) [] (Ok [])) (sym e)
+        subst (λ (z : Bool). Came (files_where z asked) [] (Ok [])) (sym e)
         (subst (λ (z : Option (List ℕ)). Came (script_files z) [] (Ok [])) (sym no_script) none)
 
-    pub made_came : (t : Texts) → t.script ≡ None → Grew a b (AnswersLoads (texts_of job) (files_of job) (Ok t))
+    pub made_came : (t : Texts) → t.script ≡ None → Grew a b (AnswersLoads (texts_of asked) (files_of asked) (Ok t))
     made_came t is = (
       [],
       same ∙ sym (append-nil a),
-      subst (λ (z : Bool). Came (files_of job) [] (Ok (texts_where z t))) (sym e)
-          (subst (λ (z : Option (Vec ℕ Global)). Came (files_of job) [] (Ok (script_texts z))) (sym is) made_none),
+      subst (λ (z : Bool). Came (files_of asked) [] (Ok (texts_where z t))) (sym e)
+          (subst (λ (z : Option (Vec ℕ Global)). Came (files_of asked) [] (Ok (script_texts z))) (sym is) made_none),
     )
 
     pub made_stopped : (r : Result Texts Stop) (d : Stop) → r ≡ Err d → d ≡ Memory
-        → Grew a b (AnswersLoads (texts_of job) (files_of job) r)
+        → Grew a b (AnswersLoads (texts_of asked) (files_of asked) r)
     made_stopped r d i j = (
       [],
       same ∙ sym (append-nil a),
-      subst (λ (z : Result Texts Stop). AnswersLoads (texts_of job) (files_of job) z []) (sym (i ∙ ap Err j))
+      subst (λ (z : Result Texts Stop). AnswersLoads (texts_of asked) (files_of asked) z []) (sym (i ∙ ap Err j))
           (Ok [], made_none),
     )

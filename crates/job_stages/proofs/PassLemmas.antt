@@ -5,8 +5,8 @@ use Rattle.std.proofs.lemmas.Option.{same_Some}
 use Rattle.std.specs.Global.{Global}
 use Rattle.ar_base.specs.Counts.{limit_of}
 use Rattle.ar_base.specs.Numbers.{EventId}
-use Rattle.ar_base.specs.declared.counts.Count.TheVariants.{CutLines, ScriptBytes}
-use Rattle.ar_base.proofs.Standing.{stands_within}
+use Rattle.ar_base.specs.declared.counts.Count.TheVariants.{CutLines, Events, ScriptBytes}
+use Rattle.ar_base.proofs.Standing.{stands_within, along_length}
 use Rattle.ar_base.specs.Stages.{IsRefusal, Where}
 use Rattle.ar_base.specs.Stages as then
 use Rattle.job_inputs.specs.Naming.{AnswersEvents}
@@ -29,11 +29,13 @@ use Rattle.job_inputs.specs.declared.wanting.Wanted.{Wanted}
 use Rattle.job_inputs.specs.declared.wanting.WantedFault.{WantedFault}
 use Rattle.job_inputs.specs.declared.wanting.WantedFault.TheVariants as wanted
 use Rattle.run_words.specs.Commands.{shape_of}
-use Rattle.run_words.specs.declared.jobs.Job.{Job}
+use Rattle.run_words.specs.declared.jobs.Asked.{Asked}
 use Rattle.run_words.specs.declared.verbs.Verb.{Verb}
 use Rattle.run_words.specs.declared.verbs.Verb.TheVariants.{Check, Flat, Replay, Fragment, Equations, Cuts, Make, Explain, CheckCuts, Modules}
 use Rattle.job_stages.specs.Passing as passing
-use Rattle.job_stages.specs.Passing.{stop_of_wanted, stop_of_script, stop_of_cuts, stop_of_list, stop_told, IsStageOf, IsThere, AreCommands, ReadsScript, gives, bad, AreLines, ReadsCuts, lists, bad_line, too_many, ReadsList, no_list, names, names_none, AreDropped, ReadsWanted, IsWantedIn, ReadsShown, shows, shows_none, IsShown, with_lines, IsRequestOf}
+use Rattle.job_stages.specs.Passing.{stop_of_wanted, stop_of_script, stop_of_cuts, stop_of_list, stop_told, IsStageOf, IsThere, AreCommands, ReadsScript, gives, bad, AreLines, ReadsCuts, lists, bad_line, too_many, ReadsList, no_list, names, names_none, AreDropped, ReadsWanted, IsWantedIn, ReadsShown, shows, shows_none, IsShown, IsFlattened, with_lines, IsRequestOf}
+use Rattle.job_stages.specs.declared.elaborating.Flattened.{Flattened}
+use Rattle.job_stages.proofs.TellLemmas.{many_events}
 use Rattle.job_stages.specs.Stages.{Ready, has_table, observer_asked, Drops, Wanting, Showing, AsksByWords}
 use Rattle.job_stages.specs.Stages as stages
 use Rattle.job_stages.specs.declared.refusals.Refusal.{Refusal}
@@ -216,73 +218,76 @@ pub drops_bad : (list : Option (List ℕ)) (w : Ready) (r : Refusal) → ReadsLi
     → Drops list w (Err r)
 drops_bad list w r (names_none i h) = stages.names_none i h
 
-pub drops_good : (list : Option (List ℕ)) (x : Elaborated) (cuts : List CutLine) (events : List ℕ)
+pub drops_good : (list : Option (List ℕ)) (order : Option ℕ) (x : Elaborated) (cuts : List CutLine) (events : List ℕ)
     → ReadsList list x (Ok events)
-    → Drops list (with_lines x cuts) (Ok (record (with_lines x cuts) { dropped = events }))
-drops_good list x cuts events (no_list i) = stages.no_list i
-drops_good list x cuts events (names i h) = stages.names i h
+    → Drops list (with_lines order x cuts) (Ok (record (with_lines order x cuts) { dropped = events }))
+drops_good list order x cuts events (no_list i) = stages.no_list i
+drops_good list order x cuts events (names i h) = stages.names i h
 
-module _ (job : Job) (x : Elaborated) (cuts : List CutLine) (p : GtsParts) (table : has_table job.command ≡ true)
-    (path : List ℕ) (asked : observer_asked job ≡ Some path) where
+module _ (asked : Asked) (x : Elaborated) (cuts : List CutLine) (p : GtsParts) (table : has_table asked.job.command ≡ true)
+    (path : List ℕ) (path_is : observer_asked asked ≡ Some path) where
   abbrev start : Ready
-  start = with_lines x cuts
+  start = with_lines asked.order x cuts
 
   abbrev asks : Result Ready Refusal → Type 0
-  asks = AsksByWords job start
+  asks = AsksByWords asked start
 
-  wants : (w : Ready) (r : Result Ready Refusal) → Wanting (observer_asked job) job.value w r
-      → Where (has_table job.command) (Wanting (observer_asked job) job.value) w r
-  wants w r h = subst (λ (b : Bool). Where b (Wanting (observer_asked job) job.value) w r) (sym table) h
+  wants : (w : Ready) (r : Result Ready Refusal) → Wanting (observer_asked asked) asked.job.value w r
+      → Where (has_table asked.job.command) (Wanting (observer_asked asked) asked.job.value) w r
+  wants w r h = subst (λ (b : Bool). Where b (Wanting (observer_asked asked) asked.job.value) w r) (sym table) h
 
   -- a refusal, or want of memory
   refused_at : {A : Type 0} (Q : Result A Refusal → Type 0) → ((e : Refusal) → Q (Err e) → asks (Err e))
       → (r : Result Request Stop) (d e : Stop) → r ≡ Err d → d ≡ e → IsRefusal Q (stop_told e)
-      → IsStageOf (IsRequestOf x cuts) asks r
+      → IsStageOf (IsRequestOf asked.order x cuts) asks r
   refused_at Q on r d e i j h =
-      subst (λ (z : Result Request Stop). IsStageOf (IsRequestOf x cuts) asks z) (sym (i ∙ ap Err j)) (go e h)
+      subst (λ (z : Result Request Stop). IsStageOf (IsRequestOf asked.order x cuts) asks z) (sym (i ∙ ap Err j)) (go e h)
     where
-      go : (e : Stop) → IsRefusal Q (stop_told e) → IsStageOf {X = Request} (IsRequestOf x cuts) asks (Err e)
+      go : (e : Stop) → IsRefusal Q (stop_told e) → IsStageOf {X = Request} (IsRequestOf asked.order x cuts) asks (Err e)
       go (Refused f) h = on f h
       go Memory h = tt
 
   pub dropped_refused : (r : Result Request Stop) (d e : Stop) → r ≡ Err d → d ≡ e
-      → IsRefusal (ReadsList job.dropped x) (stop_told e) → IsStageOf (IsRequestOf x cuts) asks r
-  dropped_refused = refused_at (ReadsList job.dropped x) (λ f h. then.refuses (drops_bad job.dropped start f h))
+      → IsRefusal (ReadsList asked.job.dropped x) (stop_told e) → IsStageOf (IsRequestOf asked.order x cuts) asks r
+  dropped_refused = refused_at (ReadsList asked.job.dropped x) (λ f h. then.refuses (drops_bad asked.job.dropped start f h))
 
-  module _ (events : List ℕ) (named : ReadsList job.dropped x (Ok events)) where
+  module _ (events : List ℕ) (named : ReadsList asked.job.dropped x (Ok events)) where
     abbrev without : Ready
     without = record start { dropped = events }
 
-    wants_bad : (f : Refusal) → ReadsWanted path job.value x (Err f)
-        → Wanting (observer_asked job) job.value without (Err f)
-    wants_bad f (passing.no_observer h) = stages.no_observer asked h
-    wants_bad f (passing.no_value h) = stages.no_value asked h
+    wants_bad : (f : Refusal) → ReadsWanted path asked.job.value x (Err f)
+        → Wanting (observer_asked asked) asked.job.value without (Err f)
+    wants_bad f (passing.no_observer h) = stages.no_observer path_is h
+    wants_bad f (passing.no_value h) = stages.no_value path_is h
 
-    wants_good : (w : Wanted) → ReadsWanted path job.value x (Ok w)
-        → Wanting (observer_asked job) job.value without (Ok (record without { wanted = Some w }))
-    wants_good w (passing.wants h) = stages.wants asked h
+    wants_good : (w : Wanted) → ReadsWanted path asked.job.value x (Ok w)
+        → Wanting (observer_asked asked) asked.job.value without (Ok (record without { wanted = Some w }))
+    wants_good w (passing.wants h) = stages.wants path_is h
 
     pub wanted_refused : (r : Result Request Stop) (d e : Stop) → r ≡ Err d → d ≡ e
-        → IsRefusal (ReadsWanted path job.value x) (stop_told e) → IsStageOf (IsRequestOf x cuts) asks r
-    wanted_refused = refused_at (ReadsWanted path job.value x) (λ f h.
-        then.passes without (drops_good job.dropped x cuts events named)
+        → IsRefusal (ReadsWanted path asked.job.value x) (stop_told e) → IsStageOf (IsRequestOf asked.order x cuts) asks r
+    wanted_refused = refused_at (ReadsWanted path asked.job.value x) (λ f h.
+        then.passes without (drops_good asked.job.dropped asked.order x cuts events named)
         (then.refuses (wants without (Err f) (wants_bad f h))))
 
     pub all_given : (request : Request) → IsFlat x request.system → request.system ≡ p
+        → length p.events.items ≤ limit_of Events
         → AreDropped p events request.dropped.items
-        → (w : Wanted) → ReadsWanted path job.value x (Ok w) → IsWantedIn p w request.wanted
-        → IsStageOf (IsRequestOf x cuts) asks (Ok request)
-    all_given request flat same drops w reads is = (
+        → (w : Wanted) → ReadsWanted path asked.job.value x (Ok w) → IsWantedIn p w request.wanted
+        → IsStageOf (IsRequestOf asked.order x cuts) asks (Ok request)
+    all_given request flat same few drops w reads is = (
       record without { wanted = Some w },
-      then.passes without (drops_good job.dropped x cuts events named)
+      then.passes without (drops_good asked.job.dropped asked.order x cuts events named)
           (then.passes (record without { wanted = Some w })
           (wants without (Ok (record without { wanted = Some w })) (wants_good w reads))
-          (subst (λ (b : Bool). Where b (Showing job.observer) (record without { wanted = Some w })
-          (Ok (record without { wanted = Some w }))) (sym (table_explains job.command table)) refl)),
+          (subst (λ (b : Bool). Where b (Showing asked.job.observer) (record without { wanted = Some w })
+          (Ok (record without { wanted = Some w }))) (sym (table_explains asked.job.command table)) refl)),
       record {
+        same_order = refl;
         source = refl;
         lines = refl;
         requested = record {
+          few = subst (λ (z : GtsParts). length z.events.items ≤ limit_of Events) (sym same) few;
           flat = flat;
           dropped = subst (λ (z : GtsParts). AreDropped z events request.dropped.items) (sym same) drops;
           wanted = ap Some is.are;
@@ -290,3 +295,12 @@ module _ (job : Job) (x : Elaborated) (cuts : List CutLine) (p : GtsParts) (tabl
         };
       },
     )
+
+-- a flat system has no more events than there may be
+pub few_events : (x : Elaborated) (model : Flattened) → IsFlattened x model
+    → length model.system.events.items ≤ limit_of Events
+few_events x model of =
+    let tree = of.is_tree.events_few in
+    let long = along_length _ _ of.is_tree.events_are in
+    let same = many_events x model.system of.flat in
+    omega (arith, tree, long, same)

@@ -26,7 +26,7 @@ use Rattle.replayer.specs.Replays.{IsReplay, AnswersReplay}
 use Rattle.replayer.specs.Replays as replays
 use Rattle.replayer.specs.declared.replaying.End.{End}
 use Rattle.replayer.specs.declared.replaying.ReplayFault.{ReplayFault}
-use Rattle.run_words.specs.declared.jobs.Job.{Job}
+use Rattle.run_words.specs.declared.jobs.Asked.{Asked}
 use Rattle.run_words.specs.declared.verbs.Verb.TheVariants.{Check, Flat, Replay, Fragment, Equations}
 use Rattle.job_stages.specs.Passing.{IsGateTable}
 use Rattle.job_stages.specs.Stages.{Ready}
@@ -74,38 +74,38 @@ module _ (x : Elaborated) (p : GtsParts) (is : IsFlat x p) where
 
 -- The commands
 
-module _ (job : Job) (w : Ready) (p : GtsParts) (is : IsFlat w.source p) where
-  pub checked : {old new : SinkState} → job.command ≡ Check → (s : Status) (r : Result (Unit {0}) SinkFailed)
+module _ (asked : Asked) (w : Ready) (p : GtsParts) (is : IsFlat w.source p) where
+  pub checked : {old new : SinkState} → asked.job.command ≡ Check → (s : Status) (r : Result (Unit {0}) SinkFailed)
       → s ≡ status_written Done r
       → Writes old new (counts_line (length p.units.items) (length p.variables.items)
       (length p.events.items) (length p.observers.items)) r
-      → IsWritten (Tells job w) old new s
+      → IsWritten (Tells asked w) old new s
   checked e s r k h =
       let i = counted w.source p is in
-      text_written (Tells job w) _ Done s r k (subst (λ (z : List ℕ). Tells job w z Done) (sym i) (check e)) h
+      text_written (Tells asked w) _ Done s r k (subst (λ (z : List ℕ). Tells asked w z Done) (sym i) (check e)) h
 
-  pub flattened : {old new : SinkState} → job.command ≡ Flat → IsSound p
+  pub flattened : {old new : SinkState} → asked.job.command ≡ Flat → IsSound p
       → (s : Status) (r : Result (Unit {0}) SinkFailed)
       → s ≡ status_written Done r → Writes old new (flat_text p) r
-      → IsWritten (Tells job w) old new s
+      → IsWritten (Tells asked w) old new s
   flattened e sound s r k h =
-      text_written (Tells job w) (flat_text p) Done s r k
+      text_written (Tells asked w) (flat_text p) Done s r k
       (flat e (record { parts = p; is_sound = sound; is_flat = is; is_text = refl })) h
 
-  pub forest_told : {old new : SinkState} (forest : Forest) → job.command ≡ Fragment
+  pub forest_told : {old new : SinkState} (forest : Forest) → asked.job.command ≡ Fragment
       → IsForestText (naming_of w.source.declarations) w.source.system w.dropped (forest_text p forest)
       → (s : Status) (r : Result (Unit {0}) SinkFailed) → s ≡ status_written Done r
-      → Writes old new (forest_text p forest) r → IsWritten (Tells job w) old new s
-  forest_told forest e t s r k h = text_written (Tells job w) (forest_text p forest) Done s r k (fragment e t) h
+      → Writes old new (forest_text p forest) r → IsWritten (Tells asked w) old new s
+  forest_told forest e t s r k h = text_written (Tells asked w) (forest_text p forest) Done s r k (fragment e t) h
 
-  pub table_told : {old new : SinkState} (forest : Forest) (table : GateTable) → job.command ≡ Equations
+  pub table_told : {old new : SinkState} (forest : Forest) (table : GateTable) → asked.job.command ≡ Equations
       → IsGateTable p forest w table
       → (events : List (List ℕ)) → events ≡ table.events.items → (s : Status) (r : Result (Unit {0}) SinkFailed)
       → s ≡ status_written Done r → Writes old new (equations_text events (table_of table.equations)) r
-      → IsWritten (Tells job w) old new s
+      → IsWritten (Tells asked w) old new s
   table_told forest table e own events same s r k h =
       let names = same ∙ own.events ∙ ap (λ (n : Naming). n.events) is.names in
-      text_written (Tells job w) _ Done s r k
+      text_written (Tells asked w) _ Done s r k
       (equations e own.are (record {
         table = table_of table.equations;
         is_table = own.is_table;
@@ -115,10 +115,10 @@ module _ (job : Job) (w : Ready) (p : GtsParts) (is : IsFlat w.source p) where
   module _ (commands : List Given) (same : w.commands ≡ map (command_of p) commands)
       (there : (cs : List Command) (text : List ℕ) (end : End)
       → IsReplay (naming_of_parts p) is.flat cs text end
-      → IsReplay (naming_of w.source.declarations) w.source.system cs text end) (e : job.command ≡ Replay) where
+      → IsReplay (naming_of w.source.declarations) w.source.system cs text end) (e : asked.job.command ≡ Replay) where
     said : (text : List ℕ) (end : End)
         → IsReplay (naming_of_parts p) is.flat (map (command_of p) commands) text end
-        → Tells job w text (status_at end)
+        → Tells asked w text (status_at end)
     said text end h =
         replay e
         (subst (λ (z : List Command). IsReplay (naming_of w.source.declarations) w.source.system z text end)
@@ -127,12 +127,12 @@ module _ (job : Job) (w : Ready) (p : GtsParts) (is : IsFlat w.source p) where
 
     pub replayed : {old new : SinkState} (s : Status) (r : Result End ReplayFault) → s ≡ status_replayed r
         → AnswersReplay (naming_of_parts p) is.flat (map (command_of p) commands) old new r
-        → IsWrittenFor job (Tells job w) old new s
-    replayed {old} {new} s r i h = subst (λ (z : Status). IsWrittenFor job (Tells job w) old new z) (sym i) (go r h)
+        → IsWrittenFor asked (Tells asked w) old new s
+    replayed {old} {new} s r i h = subst (λ (z : Status). IsWrittenFor asked (Tells asked w) old new z) (sym i) (go r h)
       where
         go : (r : Result End ReplayFault)
             → AnswersReplay (naming_of_parts p) is.flat (map (command_of p) commands) old new r
-            → IsWrittenFor job (Tells job w) old new (status_replayed r)
+            → IsWrittenFor asked (Tells asked w) old new (status_replayed r)
         go r (replays.whole {text = text} {end = end} h a k) = written (whole (said text end h) a k)
         go r (replays.write {text = text} {end = end} h c k) = written (cut (said text end h) c k)
         go r (replays.memory {text = text} {end = end} h c k) = stopped e (said text end h) c k

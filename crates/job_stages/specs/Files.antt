@@ -5,7 +5,7 @@ use Rattle.ar_base.specs.declared.counts.Count.{Count}
 use Rattle.ar_base.specs.declared.counts.Count.TheVariants.{ModelBytes, ScriptBytes}
 use Rattle.ar_io.specs.Outside.{Told, MayBeLonger, IsFile}
 use Rattle.run_words.specs.Generator.{generated}
-use Rattle.run_words.specs.declared.jobs.Job.{Job}
+use Rattle.run_words.specs.declared.jobs.Asked.{Asked}
 use Rattle.job_stages.specs.Jobs.{makes_model}
 use Rattle.job_stages.specs.declared.refusals.FileKind.{FileKind}
 use Rattle.job_stages.specs.declared.refusals.FileKind.TheVariants.{Model, Script}
@@ -28,12 +28,12 @@ script_files None = []
 script_files (Some name) = record { kind = Script; name = name; count = ScriptBytes } ∷ []
 
 -- the files of a job, in the order in which they are loaded: the model, unless the command makes it, and the script
-abbrev pub files_where : Bool → Job → List File
-files_where true job = script_files job.script
-files_where false job = model_file job.model ∷ script_files job.script
+abbrev pub files_where : Bool → Asked → List File
+files_where true asked = script_files asked.job.script
+files_where false asked = model_file asked.job.model ∷ script_files asked.job.script
 
-abbrev pub files_of : Job → List File
-files_of job = files_where (makes_model job.command) job
+abbrev pub files_of : Asked → List File
+files_of asked = files_where (makes_model asked.job.command) asked
 
 -- the bytes of the files, or the limit of the first one that may be longer; told: what the shelf tells of each name
 pub data Loaded (told : List ℕ → Told) : List File → Result (List (List ℕ)) Refusal → Type 0 where
@@ -55,6 +55,6 @@ pub data Loads (told : List ℕ → Told) : List File → FileKind → List ℕ 
       → Loads told fs kind name → Loads told (f ∷ fs) kind name
 
 -- the model's text is that of the first file, or the one that is generated for the number of the words
-pub data IsText (job : Job) : List (List ℕ) → List ℕ → Type 0 where
-  first : {text : List ℕ} {more : List (List ℕ)} → makes_model job.command ≡ false → IsText job (text ∷ more) text
-  made : {texts : List (List ℕ)} → makes_model job.command ≡ true → IsText job texts (generated job.number)
+pub data IsText (asked : Asked) : List (List ℕ) → List ℕ → Type 0 where
+  first : {text : List ℕ} {more : List (List ℕ)} → makes_model asked.job.command ≡ false → IsText asked (text ∷ more) text
+  made : {texts : List (List ℕ)} → makes_model asked.job.command ≡ true → IsText asked texts (generated asked.job.number)

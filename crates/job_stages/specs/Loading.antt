@@ -5,7 +5,7 @@ use Rattle.ar_base.specs.Counts.{limit_of}
 use Rattle.ar_base.specs.declared.counts.Count.TheVariants.{ModelBytes}
 use Rattle.ar_io.specs.Loads.{Load}
 use Rattle.ar_io.specs.Outside.{Told, MayBeLonger, IsFile}
-use Rattle.run_words.specs.declared.jobs.Job.{Job}
+use Rattle.run_words.specs.declared.jobs.Asked.{Asked}
 use Rattle.job_stages.specs.Files.{File, files_of, Loaded, Loads, IsText}
 use Rattle.job_stages.specs.Jobs.{makes_model}
 use Rattle.job_stages.specs.Logs.{Came, AreLoads}
@@ -46,20 +46,20 @@ abbrev pub texts_where : Bool → Texts → List (List ℕ)
 texts_where true t = script_texts t.script
 texts_where false t = t.model.items ∷ script_texts t.script
 
-abbrev pub texts_of : Job → Texts → List (List ℕ)
-texts_of job t = texts_where (makes_model job.command) t
+abbrev pub texts_of : Asked → Texts → List (List ℕ)
+texts_of asked t = texts_where (makes_model asked.job.command) t
 
 -- the texts with which a job goes on: its files are loaded, and the model's text is that of the first, or is made
-pub record AreTexts (told : List ℕ → Told) (job : Job) (t : Texts) : Type 0 where
-  pub loaded : Loaded told (files_of job) (Ok (texts_of job t))
-  pub is_text : IsText job (texts_of job t) t.model.items
+pub record AreTexts (told : List ℕ → Told) (asked : Asked) (t : Texts) : Type 0 where
+  pub loaded : Loaded told (files_of asked) (Ok (texts_of asked t))
+  pub is_text : IsText asked (texts_of asked t) t.model.items
   pub short : length t.model.items ≤ limit_of ModelBytes
 
 -- the texts with which a job goes on, or a refusal, or want of memory
-abbrev pub AnswersTexts : (List ℕ → Told) → (List ℕ → Type 0) → Job → Result Texts Stop → Type 0
-AnswersTexts told rose job (Ok t) = AreTexts told job t
-AnswersTexts told rose job (Err (Refused r)) = RefusesFiles told rose (files_of job) r
-AnswersTexts told rose job (Err Memory) = Unit {0}
+abbrev pub AnswersTexts : (List ℕ → Told) → (List ℕ → Type 0) → Asked → Result Texts Stop → Type 0
+AnswersTexts told rose asked (Ok t) = AreTexts told asked t
+AnswersTexts told rose asked (Err (Refused r)) = RefusesFiles told rose (files_of asked) r
+AnswersTexts told rose asked (Err Memory) = Unit {0}
 
 -- What the log of the shelf says of an answer
 

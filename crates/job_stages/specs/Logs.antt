@@ -4,7 +4,7 @@ use Rattle.ar_base.specs.Counts.{limit_of}
 use Rattle.ar_io.specs.Loads.{Load}
 use Rattle.ar_io.specs.declared.outside.LoadFault.{LoadFault}
 use Rattle.ar_io.specs.declared.outside.LoadFault.TheVariants as fault
-use Rattle.run_words.specs.declared.jobs.Job.{Job}
+use Rattle.run_words.specs.declared.jobs.Asked.{Asked}
 use Rattle.job_stages.specs.Files.{File, files_of, IsText}
 use Rattle.job_stages.specs.Stages.{Ready, Stages}
 use Rattle.job_stages.specs.declared.refusals.Refusal.{Refusal}
@@ -13,8 +13,8 @@ use Rattle.job_stages.specs.declared.stops.Stop.{Stop}
 use Rattle.job_stages.specs.declared.stops.Stop.TheVariants.{Refused, Memory}
 
 -- the load of a file, at most as many bytes as its limit, of which this came
-abbrev pub asked : File → Result (List ℕ) LoadFault → Load
-asked f got = record { name = f.name; most = limit_of f.count; got = got }
+abbrev pub logged : File → Result (List ℕ) LoadFault → Load
+logged f got = record { name = f.name; most = limit_of f.count; got = got }
 
 -- what a job stops with where a file did not come
 abbrev pub stop_of : File → LoadFault → Stop
@@ -27,13 +27,13 @@ stop_of f fault.Memory = Memory
 pub data Came : List File → List Load → Result (List (List ℕ)) Stop → Type 0 where
   none : Came [] [] (Ok [])
   stops : {f : File} {fs : List File} (why : LoadFault)
-      → Came (f ∷ fs) (asked f (Err why) ∷ []) (Err (stop_of f why))
+      → Came (f ∷ fs) (logged f (Err why) ∷ []) (Err (stop_of f why))
   later : {f : File} {fs : List File} {loads : List Load} {s : Stop} (text : List ℕ)
       → length text ≤ limit_of f.count → Came fs loads (Err s)
-      → Came (f ∷ fs) (asked f (Ok text) ∷ loads) (Err s)
+      → Came (f ∷ fs) (logged f (Ok text) ∷ loads) (Err s)
   whole : {f : File} {fs : List File} {loads : List Load} {texts : List (List ℕ)} (text : List ℕ)
       → length text ≤ limit_of f.count → Came fs loads (Ok texts)
-      → Came (f ∷ fs) (asked f (Ok text) ∷ loads) (Ok (text ∷ texts))
+      → Came (f ∷ fs) (logged f (Ok text) ∷ loads) (Ok (text ∷ texts))
 
 -- the loads are those of the files, in their order, up to the first file that did not come, and no others
 abbrev pub AreLoads : List File → List Load → Type 0
@@ -45,8 +45,8 @@ Grew old new P = (loads : List Load) × (new ≡ old ++ loads) × P loads
 
 -- what stands ready once all stages of the job are passed over the texts that these loads gave, or the first refusal: a
 -- file that did not come is one
-pub data PassesBy (loads : List Load) (job : Job) : Result Ready Refusal → Type 0 where
-  not_come : {r : Refusal} → Came (files_of job) loads (Err (Refused r)) → PassesBy loads job (Err r)
-  come : {x : Result Ready Refusal} {text : List ℕ} (texts : List (List ℕ)) → Came (files_of job) loads (Ok texts)
-      → IsText job texts text
-      → Stages job texts text x → PassesBy loads job x
+pub data PassesBy (loads : List Load) (asked : Asked) : Result Ready Refusal → Type 0 where
+  not_come : {r : Refusal} → Came (files_of asked) loads (Err (Refused r)) → PassesBy loads asked (Err r)
+  come : {x : Result Ready Refusal} {text : List ℕ} (texts : List (List ℕ)) → Came (files_of asked) loads (Ok texts)
+      → IsText asked texts text
+      → Stages asked texts text x → PassesBy loads asked x

@@ -2,13 +2,13 @@
 use Rattle.std.specs.Prelude.{◌≡◌, ◌<◌, ◌≤◌, ℕ, true, List, [], Option, Some, None, Result, Ok, Err, map, length, slice_get, Vec}
 use Rattle.std.specs.Global.{Global}
 use Rattle.ar_base.specs.Counts.{limit_of}
-use Rattle.ar_base.specs.declared.counts.Count.TheVariants.{Nesting, ScriptBytes, Gates, CutLines}
+use Rattle.ar_base.specs.declared.counts.Count.TheVariants.{Nesting, ScriptBytes, Events, Gates, CutLines}
 use Rattle.ar_base.specs.declared.faults.RuleFault.{RuleFault}
 use Rattle.ar_base.specs.declared.faults.RuleFault.TheVariants as rules
 use Rattle.ar_base.specs.Numbers.{EventId}
 use Rattle.ar_base.specs.Stages.{IsStage}
 use Rattle.ar_firing.specs.Forest.{IsForest}
-use Rattle.ar_firing.specs.Rules.{KeepsAll}
+use Rattle.ar_firing.specs.Rules.{KeepsUpTo}
 use Rattle.ar_meaning.specs.Runs as runs
 use Rattle.ar_meaning.specs.Systems.{System}
 use Rattle.ar_parser.specs.declared.fault.ParseFault.{ParseFault}
@@ -18,7 +18,7 @@ use Rattle.job_inputs.specs.Naming.{NamesEvents, HasUnknown, AreEventsOf}
 use Rattle.job_inputs.specs.declared.reading.ListFault.{ListFault}
 use Rattle.job_inputs.specs.declared.reading.ListFault.TheVariants as list
 use Rattle.cut_text.specs.ForestPrinted.{edge_count}
-use Rattle.gate_diagrams.specs.Answers.{IsAnswer, store_of}
+use Rattle.gate_diagrams.specs.Answers.{IsAnswerUpTo, store_of}
 use Rattle.gate_diagrams.specs.declared.answer.Drawn.{Drawn}
 use Rattle.gts_core.specs.Sound.{IsSound}
 use Rattle.gts_core.specs.View.{Views}
@@ -37,7 +37,7 @@ use Rattle.job_inputs.specs.Scripts.{BadLine, Commands}
 use Rattle.job_inputs.specs.declared.commands.Command.{Command}
 use Rattle.job_inputs.specs.declared.commands.ScriptFault.{ScriptFault}
 use Rattle.job_inputs.specs.declared.commands.ScriptFault.TheVariants as script
-use Rattle.run_words.specs.declared.jobs.Job.{Job}
+use Rattle.run_words.specs.declared.jobs.Asked.{Asked}
 use Rattle.run_words.specs.declared.jobs.JobFault.{JobFault}
 use Rattle.run_words.specs.declared.jobs.JobFault.TheVariants as words
 use Rattle.tree_equations.specs.Gives.{AtObserver}
@@ -203,35 +203,34 @@ pub record IsScripted (w : Ready) (p : GtsParts) (cs : List Command) (observer :
 
 -- The request
 
--- the system is that of the source, and what is requested of it is what stands ready
+-- the system is that of the source, with no more events than there may be, and what is requested of it is what stands ready
 pub record IsRequested (w : Ready) (request : Request) : Type 0 where
+  pub few : length request.system.events.items ≤ limit_of Events
   pub flat : IsFlat w.source request.system
   pub dropped : AreDropped request.system w.dropped request.dropped.items
   pub wanted : w.wanted ≡ Some request.wanted
   pub inside : request.wanted.observer < length request.system.observers.items
 
--- the system with the cut lines of a list
-abbrev pub with_lines : Elaborated → List CutLine → Ready
-with_lines x cuts = record (bare x) { lines = cuts }
+-- the system with the cut lines of a list, and the number of events
+abbrev pub with_lines : Option ℕ → Elaborated → List CutLine → Ready
+with_lines order x cuts = record (bare order x) { lines = cuts }
 
--- the same of this source, with these cut lines
-pub record IsRequestOf (x : Elaborated) (cuts : List CutLine) (w : Ready) (request : Request) : Type 0 where
-  pub source : w.source ≡ x
-  pub lines : w.lines ≡ cuts
-  pub requested : IsRequested w request
+-- the same of this source, with this number of events and these cut lines
+pub record IsRequestOf (order : Option ℕ) (x : Elaborated) (cuts : List CutLine) (w : Ready) (request : Request) : Type 0
+  where
+    pub same_order : w.order ≡ order
+    pub source : w.source ≡ x
+    pub lines : w.lines ≡ cuts
+    pub requested : IsRequested w request
 
 -- The static fragment
 
--- the forest can be written: its edges have ways of their own events, and are few
-pub record CanBeWritten (p : GtsParts) (forest : Forest) : Type 0 where
-  pub own : OwnTheirWays p forest.trees.items
-  pub few : edge_count forest.trees.items ≤ 2048
-
--- the system keeps the rules of the static fragment without the dropped events, and the forest is its own, which can be
--- written
+-- the system keeps the rules of the static fragment that are asked without the dropped events, and the forest is its own: its
+-- edges have ways of their own events, and there are no more edges than events
 pub record HasForest (p : GtsParts) (w : Ready) (forest : Forest) : Type 0 where
-  pub written : CanBeWritten p forest
-  pub keeps : (flat : System ℕ) → Views p flat → KeepsAll flat w.dropped
+  pub own : OwnTheirWays p forest.trees.items
+  pub few : edge_count forest.trees.items ≤ length p.events.items
+  pub keeps : (flat : System ℕ) → Views p flat → KeepsUpTo w.order flat w.dropped
   pub is_forest : (flat : System ℕ) → Views p flat → IsForest flat w.dropped (trees_of (number_in p) forest)
 
 -- The gate table
@@ -257,15 +256,15 @@ pub record HasGates (w : Ready) (p : GtsParts) (f : Forest) (t : GateTable) : Ty
 -- The cuts
 
 -- what is drawn answers the gate table of what stands ready, with no more nodes than the job may have
-pub record IsDrawnFor (job : Job) (w : Ready) (p : GtsParts) (forest : Forest) (drawn : Drawn) : Type 0 where
-  pub lists : lists_cuts job.command ≡ true
+pub record IsDrawnFor (asked : Asked) (w : Ready) (p : GtsParts) (forest : Forest) (drawn : Drawn) : Type 0 where
+  pub lists : lists_cuts asked.job.command ≡ true
   pub table : GateTable
   pub gates : HasGates w p forest table
-  pub answer : IsAnswer (trees_of (λ n. n) forest) (table_of table.equations) drawn
-  pub within : length (store_of drawn).families ≤ job.nodes
+  pub answer : IsAnswerUpTo w.order (trees_of (λ n. n) forest) (table_of table.equations) drawn
+  pub within : length (store_of drawn).families ≤ asked.job.nodes
 
 -- what is drawn, or that more nodes may be needed than the job may have, or want of memory
-abbrev pub AnswersDrawn : Job → Ready → GtsParts → Forest → Result Drawn NodeFault → Type 0
-AnswersDrawn job w p forest (Ok drawn) = IsDrawnFor job w p forest drawn
-AnswersDrawn job w p forest (Err node_fault.Full) = MayNeedMore w job.nodes
-AnswersDrawn job w p forest (Err node_fault.Memory) = Unit {0}
+abbrev pub AnswersDrawn : Asked → Ready → GtsParts → Forest → Result Drawn NodeFault → Type 0
+AnswersDrawn asked w p forest (Ok drawn) = IsDrawnFor asked w p forest drawn
+AnswersDrawn asked w p forest (Err node_fault.Full) = MayNeedMore w asked.job.nodes
+AnswersDrawn asked w p forest (Err node_fault.Memory) = Unit {0}

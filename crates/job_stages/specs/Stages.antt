@@ -4,7 +4,7 @@ use Rattle.ar_base.specs.Counts.{limit_of}
 use Rattle.ar_base.specs.Stages.{Then, Where}
 use Rattle.ar_base.specs.Texts.{text_at}
 use Rattle.ar_base.specs.declared.counts.Count.TheVariants.{Gates, CutLines}
-use Rattle.ar_firing.specs.Rules.{Rule, rule_number, Spot, AtEvent, AtUnit, AtVariable, AtObserver, AtWhole, IsFirstBroken, KeepsAll}
+use Rattle.ar_firing.specs.Rules.{Rule, rule_number, Spot, AtEvent, AtUnit, AtVariable, AtObserver, AtWhole, IsFirstBroken, IsAskedUpTo, KeepsUpTo}
 use Rattle.ar_io.specs.Outside.{Told}
 use Rattle.ar_meaning.specs.Runs.{Command}
 use Rattle.eq_core.specs.Gates.{Table}
@@ -16,7 +16,7 @@ use Rattle.hierarchy.specs.Paths.{unit_path}
 use Rattle.job_inputs.specs.CutLists.{CutLine, CutList}
 use Rattle.job_inputs.specs.Scripts.{BadLine, Commands, Why, IsNoCommand, LacksWay, NamesNoEvent}
 use Rattle.run_words.specs.Commands.{shape_of, is_script, is_list, to_forest, to_table, to_cuts}
-use Rattle.run_words.specs.declared.jobs.Job.{Job}
+use Rattle.run_words.specs.declared.jobs.Asked.{Asked}
 use Rattle.run_words.specs.declared.verbs.Verb.{Verb}
 use Rattle.table_text.specs.Texts.{IsTableFor}
 use Rattle.job_inputs.specs.Wanting.{IsWanted, NamesObserver, NamesNone, WantsNone}
@@ -28,8 +28,8 @@ use Rattle.job_stages.specs.declared.refusals.Refusal.{Refusal}
 use Rattle.job_stages.specs.declared.refusals.Refusal.TheVariants.{NoCommand, NoCut, NeedsWay, NoEvent, NoDropped, NoObserver, NoValue, Size, Outside}
 
 -- what stands ready: the source's system over paths with its names, the commands of the script, the cut lines of the
--- list, the events that are dropped, the observer and the value that are asked for, and the observer alone whose cone
--- is to be explained
+-- list, the events that are dropped, the observer and the value that are asked for, the observer alone whose cone
+-- is to be explained, and, where only cuts of at most so many events are asked for, their number
 pub record Ready : Type 0 where
   pub source : Elaborated
   pub commands : List Command
@@ -37,10 +37,12 @@ pub record Ready : Type 0 where
   pub dropped : List ℕ
   pub wanted : Option Wanted
   pub shown : Option ℕ
+  pub order : Option ℕ
 
--- the system alone
-abbrev pub bare : Elaborated → Ready
-bare x = record { source = x; commands = []; lines = []; dropped = []; wanted = None; shown = None }
+-- the system alone, and the number of events
+abbrev pub bare : Option ℕ → Elaborated → Ready
+bare order x =
+    record { source = x; commands = []; lines = []; dropped = []; wanted = None; shown = None; order = order }
 
 -- The script
 
@@ -110,8 +112,8 @@ path_asked true given = Some (codes "lost")
 path_asked false given = given
 
 -- the same of a job: `lost` where its command makes the model, else what its words give as `--observer`
-abbrev pub observer_asked : Job → Option (List ℕ)
-observer_asked job = path_asked (makes_model job.command) job.observer
+abbrev pub observer_asked : Asked → Option (List ℕ)
+observer_asked asked = path_asked (makes_model asked.job.command) asked.job.observer
 
 -- The observer to explain
 
@@ -124,17 +126,17 @@ pub data Showing (observer : Option (List ℕ)) (w : Ready) : Result Ready Refus
       → Showing observer w (Err NoObserver)
 
 -- what the words ask for, once the files are read
-abbrev pub AsksByWords : Job → Ready → Result Ready Refusal → Type 0
-AsksByWords job =
-    Then (Drops job.dropped)
-    (Then (Where (has_table job.command) (Wanting (observer_asked job) job.value))
-    (Where (shape_of job.command).explains (Showing job.observer)))
+abbrev pub AsksByWords : Asked → Ready → Result Ready Refusal → Type 0
+AsksByWords asked =
+    Then (Drops asked.job.dropped)
+    (Then (Where (has_table asked.job.command) (Wanting (observer_asked asked) asked.job.value))
+    (Where (shape_of asked.job.command).explains (Showing asked.job.observer)))
 
 -- what the words, the script, the list and the command ask of the system
-abbrev pub Asks : Job → List (List ℕ) → Elaborated → Result Ready Refusal → Type 0
-Asks job texts x =
-    Then (Where (is_script (shape_of job.command).files) (Scripted texts))
-    (Then (Where (is_list (shape_of job.command).files) (ListsCuts texts)) (AsksByWords job)) (bare x)
+abbrev pub Asks : Asked → List (List ℕ) → Elaborated → Result Ready Refusal → Type 0
+Asks asked texts x =
+    Then (Where (is_script (shape_of asked.job.command).files) (Scripted texts))
+    (Then (Where (is_list (shape_of asked.job.command).files) (ListsCuts texts)) (AsksByWords asked)) (bare asked.order x)
 
 -- The static fragment
 
@@ -150,10 +152,10 @@ spot_path x (AtVariable n) = text_at (naming_of x.declarations).variables n
 spot_path x (AtObserver n) = text_at (naming_of x.declarations).observers n
 spot_path x AtWhole = codes "main"
 
--- the system without the dropped events keeps the rules of the static fragment, or the first that it breaks
+-- the system without the dropped events keeps the rules of the static fragment that are asked, or the first that it breaks
 pub data Static (w : Ready) : Result Ready Refusal → Type 0 where
-  keeps : KeepsAll w.source.system w.dropped → Static w (Ok w)
-  outside : {rule : Rule} {spot : Spot} → IsFirstBroken w.source.system w.dropped rule spot
+  keeps : KeepsUpTo w.order w.source.system w.dropped → Static w (Ok w)
+  outside : {rule : Rule} {spot : Spot} → IsAskedUpTo w.order rule → IsFirstBroken w.source.system w.dropped rule spot
       → Static w (Err (Outside (rule_number rule) (spot_path w.source spot)))
 
 -- The gate table
@@ -185,16 +187,16 @@ abbrev pub Demands : Verb → Ready → Result Ready Refusal → Type 0
 Demands command = Then (Where (is_static command) Static) (Where (has_table command) Tabled)
 
 -- from the system on
-abbrev pub Readies : Job → List (List ℕ) → Elaborated → Result Ready Refusal → Type 0
-Readies job texts = Then (Asks job texts) (Demands job.command)
+abbrev pub Readies : Asked → List (List ℕ) → Elaborated → Result Ready Refusal → Type 0
+Readies asked texts = Then (Asks asked texts) (Demands asked.job.command)
 
 -- from the model's text on, where the job's files have these texts
-abbrev pub Stages : Job → List (List ℕ) → List ℕ → Result Ready Refusal → Type 0
-Stages job texts = Then (Elaborates job.main) (Readies job texts)
+abbrev pub Stages : Asked → List (List ℕ) → List ℕ → Result Ready Refusal → Type 0
+Stages asked texts = Then (Elaborates asked.job.main) (Readies asked texts)
 
 -- what stands ready once all stages of the job are passed, or the first refusal
-pub data Passes (files : List ℕ → Told) (job : Job) : Result Ready Refusal → Type 0 where
-  not_loaded : {r : Refusal} → Loaded files (files_of job) (Err r) → Passes files job (Err r)
-  loaded : {x : Result Ready Refusal} {text : List ℕ} (texts : List (List ℕ)) → Loaded files (files_of job) (Ok texts)
-      → IsText job texts text
-      → Stages job texts text x → Passes files job x
+pub data Passes (files : List ℕ → Told) (asked : Asked) : Result Ready Refusal → Type 0 where
+  not_loaded : {r : Refusal} → Loaded files (files_of asked) (Err r) → Passes files asked (Err r)
+  loaded : {x : Result Ready Refusal} {text : List ℕ} (texts : List (List ℕ)) → Loaded files (files_of asked) (Ok texts)
+      → IsText asked texts text
+      → Stages asked texts text x → Passes files asked x

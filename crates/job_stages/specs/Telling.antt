@@ -8,7 +8,7 @@ use Rattle.cut_text.specs.declared.faults.PrintFault.TheVariants as print
 use Rattle.replayer.specs.declared.replaying.End.{End}
 use Rattle.replayer.specs.declared.replaying.ReplayFault.{ReplayFault}
 use Rattle.replayer.specs.declared.replaying.ReplayFault.TheVariants as fault
-use Rattle.run_words.specs.declared.jobs.Job.{Job}
+use Rattle.run_words.specs.declared.jobs.Asked.{Asked}
 use Rattle.run_words.specs.declared.verbs.Verb.TheVariants.{Replay}
 use Rattle.job_stages.specs.Tells.{status_at}
 use Rattle.job_stages.specs.declared.status.Status.{Status}
@@ -49,8 +49,8 @@ pub data IsWritten (told : List ℕ → Status → Type 0) (old new : SinkState)
 
 -- such a text of a job; a replay writes as it goes, so where memory is refused to it some first bytes may stand, though
 -- the sink met no fault
-pub data IsWrittenFor (job : Job) (told : List ℕ → Status → Type 0) (old new : SinkState) : Status → Type 0 where
-  written : {ends : Status} → IsWritten told old new ends → IsWrittenFor job told old new ends
-  stopped : {text : List ℕ} {ends : Status} → job.command ≡ Replay → told text ends
+pub data IsWrittenFor (asked : Asked) (told : List ℕ → Status → Type 0) (old new : SinkState) : Status → Type 0 where
+  written : {ends : Status} → IsWritten told old new ends → IsWrittenFor asked told old new ends
+  stopped : {text : List ℕ} {ends : Status} → asked.job.command ≡ Replay → told text ends
       → WroteFront old.bytes new.bytes text → new.faults ≡ old.faults
-      → IsWrittenFor job told old new Memory
+      → IsWrittenFor asked told old new Memory

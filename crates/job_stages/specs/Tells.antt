@@ -2,8 +2,9 @@
 use Rattle.std.specs.Prelude.{◌≡◌, ℕ, ◌++◌, true, List, [], Option, Some, None, length, reverse, codes, decimal}
 use Rattle.ar_base.specs.Lists.{Stands}
 use Rattle.ar_base.specs.Texts.{line}
-use Rattle.ar_firing.specs.Cuts.{AreEvents, Cut, ConflictSet, IsConflictFree, IsFirable, Reaches}
+use Rattle.ar_firing.specs.Cuts.{AreEvents, Cut, ConflictSet, IsConflictFreeUpTo, IsFirable, Reaches}
 use Rattle.ar_firing.specs.Listed.{AreListed}
+use Rattle.firable_families.specs.Firable.{AndUpTo}
 use Rattle.ar_meaning.specs.Facts.{HasValue}
 use Rattle.ar_meaning.specs.Runs.{Label}
 use Rattle.ar_meaning.specs.Systems.{System}
@@ -27,7 +28,7 @@ use Rattle.replayer.specs.Replays.{IsReplay}
 use Rattle.replayer.specs.Settles.{Settles, IsFaultLine}
 use Rattle.replayer.specs.declared.replaying.End.{End}
 use Rattle.replayer.specs.declared.replaying.End.TheVariants as end
-use Rattle.run_words.specs.declared.jobs.Job.{Job}
+use Rattle.run_words.specs.declared.jobs.Asked.{Asked}
 use Rattle.run_words.specs.declared.verbs.Verb.TheVariants.{Check, Flat, Replay, Fragment, Equations, Cuts, Make, Explain, CheckCuts, Modules}
 use Rattle.source_meaning.specs.Systems.{Declarations}
 use Rattle.table_text.specs.Texts.{IsTableText}
@@ -60,13 +61,14 @@ pub record IsFlatText (x : Elaborated) (text : List ℕ) : Type 0 where
   pub is_flat : IsFlat x parts
   pub is_text : text ≡ flat_text parts
 
--- an observer and its value are asked for, and no set of events that are not dropped meets a conflict
+-- an observer and its value are asked for, and no set of events that are not dropped, of at most as many as are asked for, meets
+-- a conflict
 pub record HasCuts (w : Ready) : Type 0 where
   pub wanted : Wanted
   pub are_wanted : w.wanted ≡ Some wanted
   pub observed : Expr Thing
   pub is_observed : Stands w.source.system.observers wanted.observer observed
-  pub conflict_free : IsConflictFree w.source.system w.dropped
+  pub conflict_free : IsConflictFreeUpTo w.order w.source.system w.dropped
 
 -- the labels have the events of the set, each once; fired as they stand in the whole system, dropped events included,
 -- they meet no fault, and the observer then has the wanted value
@@ -81,7 +83,7 @@ pub record Replays {V : Type 0} (sys : System V) (observer : Expr V) (wanted : V
 -- sections
 pub record IsCutsText (w : Ready) (limit : ℕ) (text : List ℕ) : Type 0 where
   pub has : HasCuts w
-  pub is_text : IsCutText (naming_of w.source.declarations) w.source.system w.dropped has.observed has.wanted.value text
+  pub is_text : IsCutText w.order (naming_of w.source.declarations) w.source.system w.dropped has.observed has.wanted.value text
   pub few : IsMoreThan limit (IsCounted is_text.sets) → ⊥
   pub replay : (k : ℕ) (set : List ℕ) (ls : List Label) → Stands is_text.sets k set → Stands is_text.lines k ls
       → Replays w.source.system has.observed has.wanted.value set ls
@@ -90,17 +92,18 @@ pub record IsCutsText (w : Ready) (limit : ℕ) (text : List ℕ) : Type 0 where
 -- the family of the cuts itself has at most so many counted sections
 pub record IsCheckedText (w : Ready) (limit : ℕ) (text : List ℕ) : Type 0 where
   pub has : HasCuts w
-  pub is_text : IsCheckText (naming_of w.source.declarations) w.source.system w.dropped has.observed has.wanted.value
+  pub is_text : IsCheckText w.order (naming_of w.source.declarations) w.source.system w.dropped has.observed has.wanted.value
       w.lines text
   pub replay : (k : ℕ) (set : List ℕ) (ls : List Label) → Stands is_text.missing k set → Stands is_text.lines k ls
       → Replays w.source.system has.observed has.wanted.value set ls
   pub sets : List (List ℕ)
-  pub are_listed : AreListed (Cut w.source.system w.dropped has.observed has.wanted.value) sets
+  pub are_listed : AreListed (AndUpTo w.order (Cut w.source.system w.dropped has.observed has.wanted.value)) sets
   pub few : IsMoreThan limit (IsCounted sets) → ⊥
 
--- the text of the modules of the cuts, and of the cuts in short; their family itself has at most so many counted
+-- the text of the modules of the cuts, and of the cuts in short, all of them; their family itself has at most so many counted
 -- sections
 pub record IsShortText (w : Ready) (limit : ℕ) (text : List ℕ) : Type 0 where
+  pub all : w.order ≡ None
   pub has : HasCuts w
   pub is_text : IsModuleText w.source w.dropped has.observed has.wanted.value text
   pub few : IsMoreThan limit (IsCounted is_text.cuts) → ⊥
@@ -128,6 +131,7 @@ make_lines n u e k l =
 -- the text of `make` for so many components: how many units and events the model has, how many cuts, and how many
 -- events the largest of them; their family itself has at most so many counted sections
 pub record IsMakeText (w : Ready) (number limit : ℕ) (text : List ℕ) : Type 0 where
+  pub all : w.order ≡ None
   pub has : HasCuts w
   pub sets : List (List ℕ)
   pub are_listed : AreListed (Cut w.source.system w.dropped has.observed has.wanted.value) sets
@@ -139,18 +143,19 @@ pub record IsMakeText (w : Ready) (number limit : ℕ) (text : List ℕ) : Type 
 abbrev pub IsFirableSet : {V : Type 0} → System V → List ℕ → List ℕ → Type 0
 IsFirableSet sys dropped set = (t : List Value) × IsFirable sys dropped set t
 
--- more nodes than so many may be needed for the gate table of the source: where a set of events meets a conflict, more
--- for the conflict operand alone, and where none does, more for it and the operand of the observer's value together
+-- more nodes than so many may be needed for the gate table of the source, over the firable sets of at most as many events as are
+-- asked for: where such a set meets a conflict, more for the conflict operand alone, and where none does, more for it and the
+-- operand of the observer's value together
 pub record MayNeedMore (w : Ready) (limit : ℕ) : Type 0 where
   pub wanted : Wanted
   pub are_wanted : w.wanted ≡ Some wanted
   pub table : Table
   pub is_table : IsTableOf w.source w.dropped wanted table
   pub firable : Family
-  pub are_firable : AreListed (IsFirableSet w.source.system w.dropped) firable
-  pub where_conflict : (set : List ℕ) → ConflictSet w.source.system w.dropped set
+  pub are_firable : AreListed (AndUpTo w.order (IsFirableSet w.source.system w.dropped)) firable
+  pub where_conflict : (set : List ℕ) → AndUpTo w.order (ConflictSet w.source.system w.dropped) set
       → IsMoreThan limit (IsNeeded firable table.gates table.conflict)
-  pub where_free : IsConflictFree w.source.system w.dropped → IsMoreThan limit (IsNeededByBoth firable table)
+  pub where_free : IsConflictFreeUpTo w.order w.source.system w.dropped → IsMoreThan limit (IsNeededByBoth firable table)
 
 -- `nodes: N`
 abbrev pub nodes_line : ℕ → List ℕ
@@ -162,25 +167,25 @@ status_at end.Done = Done
 status_at end.Fault = Fault
 
 -- the job, for which this stands ready, has this text and ends so
-pub data Tells (job : Job) (w : Ready) : List ℕ → Status → Type 0 where
-  check : job.command ≡ Check → Tells job w (check_text w.source.declarations) Done
-  flat : {text : List ℕ} → job.command ≡ Flat → IsFlatText w.source text → Tells job w text Done
-  replay : {text : List ℕ} {ends : End} → job.command ≡ Replay
+pub data Tells (asked : Asked) (w : Ready) : List ℕ → Status → Type 0 where
+  check : asked.job.command ≡ Check → Tells asked w (check_text w.source.declarations) Done
+  flat : {text : List ℕ} → asked.job.command ≡ Flat → IsFlatText w.source text → Tells asked w text Done
+  replay : {text : List ℕ} {ends : End} → asked.job.command ≡ Replay
       → IsReplay (naming_of w.source.declarations) w.source.system w.commands text ends
-      → Tells job w text (status_at ends)
-  fragment : {text : List ℕ} → job.command ≡ Fragment
-      → IsForestText (naming_of w.source.declarations) w.source.system w.dropped text → Tells job w text Done
-  equations : {text : List ℕ} {wanted : Wanted} → job.command ≡ Equations → w.wanted ≡ Some wanted
+      → Tells asked w text (status_at ends)
+  fragment : {text : List ℕ} → asked.job.command ≡ Fragment
+      → IsForestText (naming_of w.source.declarations) w.source.system w.dropped text → Tells asked w text Done
+  equations : {text : List ℕ} {wanted : Wanted} → asked.job.command ≡ Equations → w.wanted ≡ Some wanted
       → IsTableText (variables w.source.declarations.model w.source.declarations.units)
       (naming_of w.source.declarations)
-      w.source.system w.dropped wanted.observer wanted.value text → Tells job w text Done
-  cuts : {text : List ℕ} → job.command ≡ Cuts → IsCutsText w job.nodes text → Tells job w text Done
-  make : {text : List ℕ} → job.command ≡ Make → IsMakeText w job.number job.nodes text → Tells job w text Done
-  checks : {text : List ℕ} → job.command ≡ CheckCuts → IsCheckedText w job.nodes text → Tells job w text Done
-  in_short : {text : List ℕ} → job.command ≡ Modules → IsShortText w job.nodes text → Tells job w text Done
-  explains : {text : List ℕ} → job.command ≡ Explain → IsExplained w text → Tells job w text Done
-  unsettled : {text : List ℕ} → job.command ≡ Explain
-      → IsFaultLine (naming_of w.source.declarations) w.source.system w.commands text → Tells job w text Fault
-  conflict : {text : List ℕ} → lists_cuts job.command ≡ true
-      → IsConflictText (naming_of w.source.declarations) w.source.system w.dropped text → Tells job w text Fault
-  nodes : lists_cuts job.command ≡ true → MayNeedMore w job.nodes → Tells job w (nodes_line job.nodes) Nodes
+      w.source.system w.dropped wanted.observer wanted.value text → Tells asked w text Done
+  cuts : {text : List ℕ} → asked.job.command ≡ Cuts → IsCutsText w asked.job.nodes text → Tells asked w text Done
+  make : {text : List ℕ} → asked.job.command ≡ Make → IsMakeText w asked.job.number asked.job.nodes text → Tells asked w text Done
+  checks : {text : List ℕ} → asked.job.command ≡ CheckCuts → IsCheckedText w asked.job.nodes text → Tells asked w text Done
+  in_short : {text : List ℕ} → asked.job.command ≡ Modules → IsShortText w asked.job.nodes text → Tells asked w text Done
+  explains : {text : List ℕ} → asked.job.command ≡ Explain → IsExplained w text → Tells asked w text Done
+  unsettled : {text : List ℕ} → asked.job.command ≡ Explain
+      → IsFaultLine (naming_of w.source.declarations) w.source.system w.commands text → Tells asked w text Fault
+  conflict : {text : List ℕ} → lists_cuts asked.job.command ≡ true
+      → IsConflictText w.order (naming_of w.source.declarations) w.source.system w.dropped text → Tells asked w text Fault
+  nodes : lists_cuts asked.job.command ≡ true → MayNeedMore w asked.job.nodes → Tells asked w (nodes_line asked.job.nodes) Nodes

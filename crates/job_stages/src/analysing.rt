@@ -17,7 +17,7 @@ use cut_text::forest_laws::forests_of_the_source;
 use gts_core::Gts;
 use job_inputs::read_events;
 use mode_trees::Forest;
-use static_fragment::{FragmentFault, recognise};
+use static_fragment::{FragmentFault, recognise_up_to};
 use std::alloc::Global;
 
 /// The events that the list names, where there is one.
@@ -42,16 +42,21 @@ pub fn dropped_of(
 }
 
 /// The trees of modes of the system without the dropped events, or the rule of the static fragment that
-/// it breaks.
-pub fn forest_of(alloc: Global, system: &Gts, dropped: &[EventId]) -> Result<Forest, Stop>
+/// it breaks. Where the cuts of at most so many events are asked for, any number of events may have a live edge.
+pub fn forest_of(
+    alloc: Global,
+    system: &Gts,
+    dropped: &[EventId],
+    order: Option<u32>,
+) -> Result<Forest, Stop>
     requires { AreEventsOf system.now dropped.now }
     ensures { (w : Ready) → IsFlat w.source system.now
-        → w.dropped ≡ map (λ (e : EventNumber). e.n) dropped.now
+        → w.dropped ≡ map (λ (e : EventNumber). e.n) dropped.now → w.order ≡ order
         → IsStageOf (HasForest system.now) (Static w) result }
 {
-    match recognise(alloc, system, dropped) {
+    match recognise_up_to(alloc, system, dropped, order) {
         Ok(forest) => {
-            // A forest has few edges.
+            // A forest has no more edges than the system has events.
             forests_of_the_source();
             Ok(forest)
         }

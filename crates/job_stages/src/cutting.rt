@@ -3,7 +3,7 @@
 ghost use Rattle.std.specs.Prelude.{◌≡◌, ◌≤◌, true};
 ghost use Rattle.ar_io.specs.Writing.{Writes};
 ghost use Rattle.gts_core.specs.declared.system.GtsParts.{GtsParts};
-ghost use Rattle.run_words.specs.declared.jobs.Job.{Job};
+ghost use Rattle.run_words.specs.declared.jobs.Asked.{Asked};
 ghost use Rattle.run_words.specs.declared.verbs.Verb.TheVariants.{Cuts as CutsAsked};
 ghost use Rattle.job_stages.specs.Passing.{HasGates, IsDrawnFor, AnswersDrawn};
 ghost use Rattle.job_stages.specs.Stages.{Ready, lists_cuts};
@@ -15,7 +15,7 @@ use crate::tabling::GateTable;
 use ar_io::{Sink, SinkFailed, write_number, write_text};
 use cut_text::laws::{cuts_of_the_source, edges_of_forests};
 use cut_text::{PrintFault, print_conflict, print_cuts};
-use gate_diagrams::{Drawn, Family, diagrams};
+use gate_diagrams::{Drawn, Family, diagrams_up_to};
 use gts_core::Gts;
 use gts_core::laws::lawful_systems;
 use min_cuts::{Lister, counts};
@@ -24,42 +24,44 @@ use std::alloc::Global;
 use table_laws::{drawn_sets, gate_table_laws};
 use zdd_nodes::{NodeFault, store_laws};
 
-/// Draws the conflict sets of a gate table or, where there are none, the cuts of its value, with at most
-/// so many nodes.
+/// Draws the conflict sets of a gate table or, where there are none, the cuts of its value, all or those of at most so many
+/// events, with at most so many nodes.
 pub fn draw(
     alloc: Global,
     table: &GateTable,
     forest: &Forest,
+    order: Option<u32>,
     nodes: u32,
 ) -> Result<Drawn, NodeFault>
     requires analysed { (w : Ready) × (p : GtsParts) × HasGates w p forest.now table.now }
     requires nodes { nodes ≤ 16777216 }
-    ensures { (job : Job) (w : Ready) (p : GtsParts) → HasGates w p forest.now table.now
-        → lists_cuts job.command ≡ true → job.nodes ≡ nodes
-        → AnswersDrawn job w p forest.now result }
+    ensures { (asked : Asked) (w : Ready) (p : GtsParts) → HasGates w p forest.now table.now
+        → lists_cuts asked.job.command ≡ true → w.order ≡ order → asked.job.nodes ≡ nodes
+        → AnswersDrawn asked w p forest.now result }
 {
     // The table's gates are in order, the trees of a static system's forest are trees, and which
     // nodes may be needed does not rest on the numbers of ways.
     gate_table_laws();
     edges_of_forests();
     drawn_sets();
-    diagrams(alloc, &table.equations, forest, nodes)
+    diagrams_up_to(alloc, &table.equations, forest, order, nodes)
 }
 
-/// Writes the cuts, each in an order that replays, and how many there are.
+/// Writes the cuts, each in an order that replays, and how many there are, and up to which order.
 pub fn write_cuts<K: Sink>(
     alloc: Global,
     system: &Gts,
     forest: &Forest,
     family: Family,
+    order: Option<u32>,
     out: &mut K,
 ) -> Result<Status, PrintFault>
-    requires drawn { (job : Job) × (w : Ready)
-        × IsDrawnFor job w system.now forest.now (Drawn.Cuts family) }
-    ensures { (job : Job) (w : Ready)
-        → IsDrawnFor job w system.now forest.now (Drawn.Cuts family)
-        → job.command ≡ CutsAsked
-        → IsWritten (Tells job w) (K.state out.old) (K.state out.new) (status_printed result) }
+    requires drawn { (asked : Asked) × (w : Ready)
+        × IsDrawnFor asked w system.now forest.now (Drawn.Cuts family) }
+    ensures { (asked : Asked) (w : Ready)
+        → IsDrawnFor asked w system.now forest.now (Drawn.Cuts family)
+        → asked.job.command ≡ CutsAsked → w.order ≡ order
+        → IsWritten (Tells asked w) (K.state out.old) (K.state out.new) (status_printed result) }
 {
     // What is drawn are the cuts, they have the text of the source's, each line of it replays, and
     // what is stored has room for their sections.
@@ -73,7 +75,7 @@ pub fn write_cuts<K: Sink>(
     let _sound_store = family.store.len();
     let counted = counts(alloc, &family)?;
     let lister = Lister::open(alloc, family, forest)?;
-    print_cuts(alloc, system, forest, lister, counted.sets, out)?;
+    print_cuts(alloc, system, forest, lister, order, counted.sets, out)?;
     Ok(Status::Done)
 }
 
@@ -85,11 +87,11 @@ pub fn write_conflict<K: Sink>(
     family: Family,
     out: &mut K,
 ) -> Result<Status, PrintFault>
-    requires drawn { (job : Job) × (w : Ready)
-        × IsDrawnFor job w system.now forest.now (Drawn.Conflicts family) }
-    ensures { (job : Job) (w : Ready)
-        → IsDrawnFor job w system.now forest.now (Drawn.Conflicts family)
-        → IsWritten (Tells job w) (K.state out.old) (K.state out.new) (status_printed result) }
+    requires drawn { (asked : Asked) × (w : Ready)
+        × IsDrawnFor asked w system.now forest.now (Drawn.Conflicts family) }
+    ensures { (asked : Asked) (w : Ready)
+        → IsDrawnFor asked w system.now forest.now (Drawn.Conflicts family)
+        → IsWritten (Tells asked w) (K.state out.old) (K.state out.new) (status_printed result) }
 {
     // What is drawn are the conflict sets, and the first of them has the text of the source's
     // conflict.
@@ -106,9 +108,9 @@ pub fn write_conflict<K: Sink>(
 
 /// Writes that the diagrams need more nodes than so many, where they do.
 pub fn write_nodes<K: Sink>(fault: NodeFault, nodes: u32, out: &mut K) -> Result<Status, PrintFault>
-    ensures { (job : Job) (w : Ready) → job.nodes ≡ nodes → lists_cuts job.command ≡ true
+    ensures { (asked : Asked) (w : Ready) → asked.job.nodes ≡ nodes → lists_cuts asked.job.command ≡ true
         → (fault ≡ NodeFault.Full → MayNeedMore w nodes)
-        → IsWritten (Tells job w) (K.state out.old) (K.state out.new) (status_printed result) }
+        → IsWritten (Tells asked w) (K.state out.old) (K.state out.new) (status_printed result) }
 {
     match fault {
         NodeFault::Full => {

@@ -5,7 +5,7 @@ ghost use Rattle.ar_base.specs.Texts.{bytes_of_all};
 ghost use Rattle.job_stages.specs.Jobs.{AnswersJob, makes_model};
 
 use crate::stops::Stop;
-use run_words::{Job, Verb, read_job};
+use run_words::{Asked, Verb, read_asked};
 use std::alloc::Global;
 
 /// Whether a command makes its model; those of the others are files.
@@ -16,9 +16,9 @@ pub fn makes_model(command: Verb) -> bool
 }
 
 /// The job of the words behind the program's name.
-pub fn job_of(alloc: Global, words: &[String]) -> Result<Job, Stop>
+pub fn asked_of(alloc: Global, words: &[String]) -> Result<Asked, Stop>
     ensures { AnswersJob (bytes_of_all words.now) result }
 {
-    let job = read_job(alloc, words)?;
-    Ok(job)
+    let asked = read_asked(alloc, words)?;
+    Ok(asked)
 }

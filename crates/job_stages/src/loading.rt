@@ -2,7 +2,7 @@
 
 ghost use Rattle.std.specs.Prelude.{◌≡◌, ◌≤◌, ℕ, true, false, List, [], ◌∷◌, Option};
 ghost use Rattle.ar_io.specs.Outside.{Rose};
-ghost use Rattle.run_words.specs.Jobs.{IsJob};
+ghost use Rattle.run_words.specs.Jobs.{IsAsked};
 ghost use Rattle.job_stages.specs.Files.{File, files_of, files_where, script_files};
 ghost use Rattle.job_stages.specs.Jobs.{makes_model};
 ghost use Rattle.job_stages.specs.Loading.{AnswersFile, AnswersFiles, AnswersTexts, texts_of, texts_where, script_texts};
@@ -15,7 +15,7 @@ use crate::stops::Stop;
 use ar_base::{Count, Text};
 use ar_io::{LoadFault, Shelf};
 use run_words::laws::one_job;
-use run_words::{Job, make_text};
+use run_words::{Asked, make_text};
 use std::alloc::Global;
 
 /// The texts of a job.
@@ -29,38 +29,38 @@ pub struct Texts {
 
 /// The texts of a job: those of its files, the model first; the model of `make` is made, and then
 /// nothing is loaded.
-pub fn job_texts<H: Shelf>(alloc: Global, shelf: &mut H, job: &Job) -> Result<Texts, Stop>
-    requires { (words : List (List ℕ)) × IsJob words job.now }
-    ensures made { makes_model job.now.command ≡ true → shelf.new ≡ shelf.old }
+pub fn job_texts<H: Shelf>(alloc: Global, shelf: &mut H, asked: &Asked) -> Result<Texts, Stop>
+    requires { (words : List (List ℕ)) × IsAsked words asked.now }
+    ensures made { makes_model asked.now.job.command ≡ true → shelf.new ≡ shelf.old }
     ensures texts { AnswersTexts (H.holds shelf.old)
         (λ name. Rose (H.faults shelf.old name) (H.faults shelf.new name))
-        job.now result }
+        asked.now result }
     ensures came { Grew (H.loads shelf.old) (H.loads shelf.new)
-        (AnswersLoads (texts_of job.now) (files_of job.now) result) }
+        (AnswersLoads (texts_of asked.now) (files_of asked.now) result) }
 {
     // A made model is short.
     one_job();
-    if makes_model(job.command) {
-        let model = make_text(alloc, job.number)?;
+    if makes_model(asked.job.command) {
+        let model = make_text(alloc, asked.job.number)?;
         return Ok(Texts {
             model,
             script: None,
         });
     }
-    load_all(alloc, shelf, job)
+    load_all(alloc, shelf, asked)
 }
 
 // Loads the files of a job, the model first.
-fn load_all<H: Shelf>(alloc: Global, shelf: &mut H, job: &Job) -> Result<Texts, Stop>
+fn load_all<H: Shelf>(alloc: Global, shelf: &mut H, asked: &Asked) -> Result<Texts, Stop>
     ensures loaded { AnswersFiles (texts_where false) (H.holds shelf.old)
         (λ name. Rose (H.faults shelf.old name) (H.faults shelf.new name))
-        (files_where false job.now) result }
+        (files_where false asked.now) result }
     ensures came { Grew (H.loads shelf.old) (H.loads shelf.new)
-        (λ loads. Came (files_where false job.now) loads (seen (texts_where false) result)) }
+        (λ loads. Came (files_where false asked.now) loads (seen (texts_where false) result)) }
 {
-    let name = job.model.as_str();
+    let name = asked.job.model.as_str();
     let model = load(alloc, shelf, name, FileKind::Model, Count::ModelBytes)?;
-    let script = load_script(alloc, shelf, &job.script)?;
+    let script = load_script(alloc, shelf, &asked.job.script)?;
     Ok(Texts { model, script })
 }
 

@@ -18,7 +18,7 @@ use crate::tabling::wanted_of;
 use ar_base::{Count, EventId, Text};
 use gts_core::{Chain, Gts};
 use job_inputs::{Command, ScriptFault, Wanted, observer_named, read_cuts, read_script};
-use run_words::Job;
+use run_words::Asked;
 use std::alloc::Global;
 
 /// A system, and what the words ask of it where that is an observer's value.
@@ -33,16 +33,17 @@ pub struct Request {
 }
 
 /// What the words ask of the system, where that is an observer's value. The tree is let go.
-pub fn request_of(alloc: Global, job: &Job, model: Flattened) -> Result<Request, Stop>
+pub fn request_of(alloc: Global, asked: &Asked, model: Flattened) -> Result<Request, Stop>
     requires source { (x : Elaborated) × IsFlattened x model }
-    requires command { has_table job.now.command ≡ true }
-    requires observer { (path : List ℕ) × (observer_asked job.now ≡ Some path) }
+    requires command { has_table asked.now.job.command ≡ true }
+    requires observer { (path : List ℕ) × (observer_asked asked.now ≡ Some path) }
     ensures same { IfOk result (λ request. request.system ≡ model.system) }
-    ensures asked { (x : Elaborated) (lines : List CutLine) → IsFlattened x model
-        → IsStageOf (IsRequestOf x lines) (AsksByWords job.now (with_lines x lines)) result }
+    ensures sought { (x : Elaborated) (lines : List CutLine) → IsFlattened x model
+        → IsStageOf (IsRequestOf asked.now.order x lines)
+        (AsksByWords asked.now (with_lines asked.now.order x lines)) result }
 {
-    let dropped = dropped_of(alloc, &model, &job.dropped)?;
-    let wanted = wanted_of(alloc, &model, observer_of(job), &job.value)?;
+    let dropped = dropped_of(alloc, &model, &asked.job.dropped)?;
+    let wanted = wanted_of(alloc, &model, observer_of(asked), &asked.job.value)?;
     Ok(Request {
         system: model.system,
         dropped,
@@ -51,14 +52,14 @@ pub fn request_of(alloc: Global, job: &Job, model: Flattened) -> Result<Request,
 }
 
 // The path of the observer that is asked for: that of the words, or of the models that are made.
-fn observer_of(job: &Job) -> &str
-    requires { (path : List ℕ) × (observer_asked job.now ≡ Some path) }
-    ensures { observer_asked job.now ≡ Some result.now }
+fn observer_of(asked: &Asked) -> &str
+    requires { (path : List ℕ) × (observer_asked asked.now ≡ Some path) }
+    ensures { observer_asked asked.now ≡ Some result.now }
 {
-    if makes_model(job.command) {
+    if makes_model(asked.job.command) {
         return "lost";
     }
-    match &job.observer {
+    match &asked.job.observer {
         Some(path) => path.as_str(),
         None => unreachable!(),
     }

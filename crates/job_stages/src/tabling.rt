@@ -1,9 +1,12 @@
 //! The observer and the value that a job asks for, and the gate table.
 
-ghost use Rattle.std.specs.Prelude.{◌≡◌, ◌<◌, Some, length};
+ghost use Rattle.std.specs.Prelude.{◌≡◌, ◌<◌, ◌≤◌, Some, length};
 ghost use Rattle.gts_flatten.specs.Elaborating.{Elaborated};
 ghost use Rattle.gts_flatten.specs.Flat.{IsFlat};
-ghost use Rattle.job_stages.specs.Passing.{IsStageOf, IsFlattened, IsWantedIn, CanBeWritten, HasForest, IsGateTable, ReadsWanted};
+ghost use Rattle.job_stages.specs.Passing.{IsStageOf, IsFlattened, IsWantedIn, HasForest, IsGateTable, ReadsWanted};
+ghost use Rattle.ar_base.specs.Counts.{limit_of};
+ghost use Rattle.ar_base.specs.declared.counts.Count.TheVariants.{Events};
+ghost use Rattle.cut_text.specs.ForestPrinted.{edge_count};
 ghost use Rattle.job_stages.specs.Stages.{Ready, Tabled};
 
 use crate::elaborating::Flattened;
@@ -51,7 +54,7 @@ pub fn table_of(
     wanted: Wanted,
 ) -> Result<GateTable, Stop>
     requires observer { wanted.observer < length system.now.observers.items }
-    requires forest { CanBeWritten system.now forest.now }
+    requires forest { edge_count forest.now.trees.items ≤ limit_of Events }
     ensures { (w : Ready) → IsFlat w.source system.now → w.wanted ≡ Some wanted
         → HasForest system.now w forest.now
         → IsStageOf (IsGateTable system.now forest.now) (Tabled w) result }

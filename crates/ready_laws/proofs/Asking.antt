@@ -3,7 +3,7 @@ use Rattle.std.proofs.Common.{ℕ, List, Option, Some, Result, Ok, Err, refl}
 use Rattle.ar_base.specs.Stages.{Then, Where}
 use Rattle.gts_flatten.specs.Elaborating.{Elaborated}
 use Rattle.run_words.specs.Commands.{shape_of, is_script, is_list}
-use Rattle.run_words.specs.declared.jobs.Job.{Job}
+use Rattle.run_words.specs.declared.jobs.Asked.{Asked}
 use Rattle.run_words.specs.declared.shapes.Shape.{Shape}
 use Rattle.job_stages.specs.Stages.{Ready, bare, Scripted, ListsCuts, Drops, Wanting, has_table, observer_asked, Showing, AsksByWords, Asks}
 use Rattle.job_stages.specs.Stages as s
@@ -35,6 +35,7 @@ module _ (shared : (x y : Elaborated) → SameSource x y → Share x y) where
       dropped = same.dropped;
       wanted = same.wanted;
       shown = same.shown;
+      order = same.order;
     },
   )
   scripted_carries texts w v same _ (s.bad {script = t} {l = l} e h) =
@@ -51,6 +52,7 @@ module _ (shared : (x y : Elaborated) → SameSource x y → Share x y) where
       dropped = same.dropped;
       wanted = same.wanted;
       shown = same.shown;
+      order = same.order;
     },
   )
   lists_carry texts w v same _ (s.bad_line {list = t} {l = l} e h) =
@@ -70,6 +72,7 @@ module _ (shared : (x y : Elaborated) → SameSource x y → Share x y) where
       dropped = refl;
       wanted = same.wanted;
       shown = same.shown;
+      order = same.order;
     },
   )
   drops_carry list w v same _ (s.names_none {text = t} e h) =
@@ -86,6 +89,7 @@ module _ (shared : (x y : Elaborated) → SameSource x y → Share x y) where
       dropped = same.dropped;
       wanted = refl;
       shown = same.shown;
+      order = same.order;
     },
   )
   wanting_carries observer word w v same _ (s.no_observer {path = p} e h) =
@@ -105,6 +109,7 @@ module _ (shared : (x y : Elaborated) → SameSource x y → Share x y) where
       dropped = same.dropped;
       wanted = same.wanted;
       shown = refl;
+      order = same.order;
     },
   )
   showing_carries observer w v same _ (s.shows_none {path = p} e h) =
@@ -112,15 +117,15 @@ module _ (shared : (x y : Elaborated) → SameSource x y → Share x y) where
 
   -- All of them
 
-  module _ (job : Job) (texts : List (List ℕ)) where
+  module _ (asked : Asked) (texts : List (List ℕ)) where
     abbrev shape : Shape
-    shape = shape_of job.command
+    shape = shape_of asked.job.command
 
     abbrev Want : Ready → Result Ready Refusal → Type 0
-    Want = Where (has_table job.command) (Wanting (observer_asked job) job.value)
+    Want = Where (has_table asked.job.command) (Wanting (observer_asked asked) asked.job.value)
 
     abbrev Show : Ready → Result Ready Refusal → Type 0
-    Show = Where shape.explains (Showing job.observer)
+    Show = Where shape.explains (Showing asked.job.observer)
 
     abbrev Script : Ready → Result Ready Refusal → Type 0
     Script = Where (is_script shape.files) (Scripted texts)
@@ -128,29 +133,29 @@ module _ (shared : (x y : Elaborated) → SameSource x y → Share x y) where
     abbrev Cuts : Ready → Result Ready Refusal → Type 0
     Cuts = Where (is_list shape.files) (ListsCuts texts)
 
-    words_carry : Carries SameReady SameReady (AsksByWords job)
+    words_carry : Carries SameReady SameReady (AsksByWords asked)
     words_carry =
-        then_carries SameReady SameReady SameReady (Drops job.dropped) (Then Want Show) (drops_carry job.dropped)
+        then_carries SameReady SameReady SameReady (Drops asked.job.dropped) (Then Want Show) (drops_carry asked.job.dropped)
         (then_carries SameReady SameReady SameReady Want Show
-        (where_carries SameReady (Wanting (observer_asked job) job.value) (has_table job.command)
-        (wanting_carries (observer_asked job) job.value))
-        (where_carries SameReady (Showing job.observer) shape.explains (showing_carries job.observer)))
+        (where_carries SameReady (Wanting (observer_asked asked) asked.job.value) (has_table asked.job.command)
+        (wanting_carries (observer_asked asked) asked.job.value))
+        (where_carries SameReady (Showing asked.job.observer) shape.explains (showing_carries asked.job.observer)))
 
-    all_carry : Carries SameReady SameReady (Then Script (Then Cuts (AsksByWords job)))
+    all_carry : Carries SameReady SameReady (Then Script (Then Cuts (AsksByWords asked)))
     all_carry =
-        then_carries SameReady SameReady SameReady Script (Then Cuts (AsksByWords job))
+        then_carries SameReady SameReady SameReady Script (Then Cuts (AsksByWords asked))
         (where_carries SameReady (Scripted texts) (is_script shape.files) (scripted_carries texts))
-        (then_carries SameReady SameReady SameReady Cuts (AsksByWords job)
+        (then_carries SameReady SameReady SameReady Cuts (AsksByWords asked)
         (where_carries SameReady (ListsCuts texts) (is_list shape.files) (lists_carry texts)) words_carry)
 
-    pub bare_same : (x y : Elaborated) → SameSource x y → SameReady (bare x) (bare y)
+    pub bare_same : (x y : Elaborated) → SameSource x y → SameReady (bare asked.order x) (bare asked.order y)
     bare_same x y same =
-        record { source = same; commands = refl; lines = refl; dropped = refl; wanted = refl; shown = refl }
+        record { source = same; commands = refl; lines = refl; dropped = refl; wanted = refl; shown = refl; order = refl }
 
     given : (y : Elaborated) (a : Result Ready Refusal)
-        → Gives SameReady (Then Script (Then Cuts (AsksByWords job))) (bare y) a → Gives SameReady (Asks job texts) y a
+        → Gives SameReady (Then Script (Then Cuts (AsksByWords asked))) (bare asked.order y) a → Gives SameReady (Asks asked texts) y a
     given y (Ok w) h = h
     given y (Err r) h = h
 
-    pub asks_carries : Carries SameSource SameReady (Asks job texts)
-    asks_carries x y same a h = given y a (all_carry (bare x) (bare y) (bare_same x y same) a h)
+    pub asks_carries : Carries SameSource SameReady (Asks asked texts)
+    asks_carries x y same a h = given y a (all_carry (bare asked.order x) (bare asked.order y) (bare_same x y same) a h)

@@ -1,8 +1,10 @@
 -- Of jobs that stand ready alike the same sets of events meet conflicts, and the same are cuts.
-use Rattle.std.proofs.Common.{◌≡◌, ℕ, List, Some, sym, ◌∙◌, subst}
+use Rattle.std.proofs.Common.{◌≡◌, ℕ, Option, List, Some, sym, ◌∙◌, subst}
 use Rattle.ar_base.specs.Lists.{Stands}
 use Rattle.ar_base.proofs.Standing.{stands_one}
 use Rattle.ar_firing.specs.Cuts.{Cut, MeetsConflict}
+use Rattle.firable_families.specs.Firable.{AndUpTo}
+use Rattle.cut_text.proofs.UpToOrder.{has_other}
 use Rattle.ar_firing.proofs.ImageCuts.{meets_there, cut_there}
 use Rattle.ar_meaning.specs.Image.{Expr_renames, IsImage}
 use Rattle.ar_meaning.specs.Systems.{System}
@@ -33,8 +35,10 @@ module _ (w v : Ready) (same : SameReady w v) where
   pub conflict_alike : HasConflict w → HasConflict v
   conflict_alike h = (
     h.0,
-    subst (λ (z : List ℕ). MeetsConflict there z h.0) same.dropped
-        (meets_there IsSameThing here there image w.dropped h.1),
+    subst (λ (o : Option ℕ). AndUpTo o (MeetsConflict there v.dropped) h.0) same.order
+        (has_other w.order (MeetsConflict here w.dropped) (MeetsConflict there v.dropped)
+        (λ s m. subst (λ (z : List ℕ). MeetsConflict there z s) same.dropped
+        (meets_there IsSameThing here there image w.dropped m)) h.0 h.1),
   )
 
   module _ (a : HasCuts w) (b : HasCuts v) where
@@ -49,10 +53,17 @@ module _ (w v : Ready) (same : SameReady w v) where
         stands_one there.observers a.wanted.observer other.item b.observed other.stands
         (subst (λ (z : Wanted). Stands there.observers z.observer b.observed) (sym asked_same) b.is_observed)
 
-    pub cut_alike : (set : List ℕ) → IsCut w a set → IsCut v b set
-    cut_alike set h =
+    one_cut : (set : List ℕ) → Cut here w.dropped a.observed a.wanted.value set
+        → Cut there v.dropped b.observed b.wanted.value set
+    one_cut set h =
         let over = cut_there IsSameThing here there image w.dropped a.observed other.item other.related
         a.wanted.value set h in
         let without = subst (λ (z : List ℕ). Cut there z other.item a.wanted.value set) same.dropped over in
         let seen = subst (λ (z : Expr Thing). Cut there v.dropped z a.wanted.value set) observed_same without in
         subst (λ (z : Wanted). Cut there v.dropped b.observed z.value set) asked_same seen
+
+    pub cut_alike : (set : List ℕ) → IsCut w a set → IsCut v b set
+    cut_alike set h =
+        subst (λ (o : Option ℕ). AndUpTo o (Cut there v.dropped b.observed b.wanted.value) set) same.order
+        (has_other w.order (Cut here w.dropped a.observed a.wanted.value) (Cut there v.dropped b.observed b.wanted.value)
+        one_cut set h)

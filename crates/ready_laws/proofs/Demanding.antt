@@ -1,16 +1,16 @@
 -- What a command demands of a system it demands of one that is alike: the static fragment, and a gate table that is not
 -- too large.
-use Rattle.std.proofs.Common.{◌≡◌, ℕ, List, Err, refl, sym, ◌∙◌, ap, subst}
+use Rattle.std.proofs.Common.{◌≡◌, ℕ, Option, List, Err, refl, sym, ◌∙◌, ap, subst}
 use Rattle.ar_base.specs.Stages.{Where}
 use Rattle.ar_base.specs.Texts.{text_at}
-use Rattle.ar_firing.specs.Rules.{rule_number, Spot, AtEvent, AtUnit, AtVariable, AtObserver, AtWhole, IsFirstBroken, KeepsAll}
-use Rattle.ar_firing.proofs.ImageRules.{first_broken_there, keeps_all_there}
+use Rattle.ar_firing.specs.Rules.{rule_number, Spot, AtEvent, AtUnit, AtVariable, AtObserver, AtWhole, IsFirstBroken, IsAskedUpTo, KeepsUpTo}
+use Rattle.ar_firing.proofs.ImageRules.{first_broken_there, keeps_asked_there}
 use Rattle.ar_meaning.specs.TraceText.{Naming}
 use Rattle.eq_core.specs.Gates.{Table}
 use Rattle.hierarchy.specs.Units.{Thing}
 use Rattle.gts_flatten.specs.Elaborating.{Elaborated}
 use Rattle.job_inputs.specs.declared.wanting.Wanted.{Wanted}
-use Rattle.run_words.specs.declared.jobs.Job.{Job}
+use Rattle.run_words.specs.declared.jobs.Asked.{Asked}
 use Rattle.run_words.specs.declared.verbs.Verb.{Verb}
 use Rattle.table_text.specs.Texts.{IsTableFor}
 use Rattle.job_stages.specs.Stages.{Ready, spot_path, is_static, Static, keeps, outside, has_table, IsTableOf, Tabled, fits, exceeds, Asks, Demands, Readies}
@@ -40,13 +40,15 @@ module _ (x y : Elaborated) (s : Share x y) where
 module _ (shared : (x y : Elaborated) → SameSource x y → Share x y) where
   static_carries : Carries SameReady SameReady Static
   static_carries w v same _ (keeps h) =
-      let there = keeps_all_there IsSameThing w.source.system v.source.system same.source.system w.dropped h in
-      (v, keeps (subst (λ (z : List ℕ). KeepsAll v.source.system z) same.dropped there), same)
-  static_carries w v same _ (outside {rule = r} {spot = a} h) =
+      let there = keeps_asked_there IsSameThing w.source.system v.source.system same.source.system w.dropped h in
+      let kept = subst (λ (z : List ℕ). KeepsUpTo w.order v.source.system z) same.dropped there in
+      (v, keeps (subst (λ (o : Option ℕ). KeepsUpTo o v.source.system v.dropped) same.order kept), same)
+  static_carries w v same _ (outside {rule = r} {spot = a} q h) =
       let there = first_broken_there IsSameThing w.source.system v.source.system same.source.system w.dropped h in
       subst (λ (z : List ℕ). Static v (Err (Outside (rule_number r) z)))
       (sym (spot_same w.source v.source (shared w.source v.source same.source) a))
-      (outside (subst (λ (z : List ℕ). IsFirstBroken v.source.system z r a) same.dropped there))
+      (outside (subst (λ (o : Option ℕ). IsAskedUpTo o r) same.order q)
+      (subst (λ (z : List ℕ). IsFirstBroken v.source.system z r a) same.dropped there))
 
   table_at : (w v : Ready) → SameReady w v → (wanted : Wanted) (table : Table)
       → IsTableOf w.source w.dropped wanted table → IsTableOf v.source v.dropped wanted table
@@ -67,7 +69,7 @@ module _ (shared : (x y : Elaborated) → SameSource x y → Share x y) where
       (where_carries SameReady Tabled (has_table command) tabled_carries)
 
   -- from the system on
-  pub readies_carry : (job : Job) (texts : List (List ℕ)) → Carries SameSource SameReady (Readies job texts)
-  readies_carry job texts =
-      then_carries SameSource SameReady SameReady (Asks job texts) (Demands job.command)
-      (asks_carries shared job texts) (demands_carry job.command)
+  pub readies_carry : (asked : Asked) (texts : List (List ℕ)) → Carries SameSource SameReady (Readies asked texts)
+  readies_carry asked texts =
+      then_carries SameSource SameReady SameReady (Asks asked texts) (Demands asked.job.command)
+      (asks_carries shared asked texts) (demands_carry asked.job.command)

@@ -1,5 +1,5 @@
 -- Forests, cuts, conflicts and checks of lists have the same texts over systems that are images of each other.
-use Rattle.std.proofs.Common.{◌≡◌, ◌&&◌, ℕ, List, [], ◌∷◌, ◌++◌, length, refl, ◌∙◌, ap}
+use Rattle.std.proofs.Common.{◌≡◌, ◌&&◌, ℕ, Option, List, [], ◌∷◌, ◌++◌, length, refl, ◌∙◌, ap}
 use Rattle.ar_base.specs.Lists.{Along}
 use Rattle.domains.specs.declared.Value.{Value}
 use Rattle.typed_expr.specs.Pairs.{turned}
@@ -10,11 +10,14 @@ use Rattle.ar_meaning.specs.Runs.{Label}
 use Rattle.ar_meaning.specs.TraceText.{Naming, label_text, flow_fault_text}
 use Rattle.ar_meaning.proofs.ImageTurned.{image_turned}
 use Rattle.ar_firing.specs.Forest.{Row, ModeTree, IsLine}
+use Rattle.ar_firing.specs.Cuts.{Cut, ConflictSet}
 use Rattle.ar_firing.specs.Rules.{IsLiveEvent}
+use Rattle.cut_check.specs.Verdicts.{IsMissing}
+use Rattle.cut_text.proofs.UpToOrder.{has_other}
 use Rattle.ar_firing.proofs.ImageCuts.{cut_there, cut_back, conflict_set_there, conflicts_there}
 use Rattle.ar_firing.proofs.ImageModes.{live_there, forest_there, line_there}
 use Rattle.ar_firing.proofs.OneListing.{listed_as}
-use Rattle.check_text.specs.Texts.{missing_lines, IsCheckText, lines_in, said_lines, last_line, all_good, is_none}
+use Rattle.check_text.specs.Texts.{missing_lines, IsCheckText, within_order, lines_in, said_lines, last_line, all_good, is_none}
 use Rattle.cut_check.proofs.LawLemmas.{said_there, missing_there, missing_back}
 use Rattle.cut_text.specs.ForestTexts.{row_lines, tree_lines, events_line, IsForestText}
 use Rattle.cut_text.specs.Texts.{braced, labels_text, label_lists, count_line, fault_line, IsCutText, IsConflictText}
@@ -86,13 +89,16 @@ module _ {V W : Type 0} (same : V → W → Type 0) (here : System V) (there : S
         ∙ ap (λ (z : Naming). tree_lines z there h.trees ++ events_line (length h.events)) called;
   }
 
-  pub conflict_text_there : (text : List ℕ) → IsConflictText names here dropped text
-      → IsConflictText others there dropped text
-  conflict_text_there text h = record {
+  pub conflict_text_there : (order : Option ℕ) (text : List ℕ) → IsConflictText order names here dropped text
+      → IsConflictText order others there dropped text
+  conflict_text_there order text h = record {
     set = h.set;
     later = h.later;
-    are_listed = listed_as (λ s c. conflict_set_there same here there image dropped s c)
-        (λ s c. conflict_set_there (turned same) there here (image_turned same image) dropped s c) h.are_listed;
+    are_listed = listed_as
+        (has_other order (ConflictSet here dropped) (ConflictSet there dropped)
+        (λ s c. conflict_set_there same here there image dropped s c))
+        (has_other order (ConflictSet there dropped) (ConflictSet here dropped)
+        (λ s c. conflict_set_there (turned same) there here (image_turned same image) dropped s c)) h.are_listed;
     labels = h.labels;
     is_line = line_there same here there image dropped h.is_line;
     fault = h.fault;
@@ -103,41 +109,50 @@ module _ {V W : Type 0} (same : V → W → Type 0) (here : System V) (there : S
   }
 
   module _ (observer : Expr V) (other : Expr W) (q : Expr_renames same observer other) (wanted : Value) where
-    abbrev pub cut_text_there : (text : List ℕ) → IsCutText names here dropped observer wanted text
-        → IsCutText others there dropped other wanted text
-    cut_text_there text h = record {
+    abbrev pub cut_text_there : (order : Option ℕ) (text : List ℕ) → IsCutText order names here dropped observer wanted text
+        → IsCutText order others there dropped other wanted text
+    cut_text_there order text h = record {
       sets = h.sets;
-      are_listed = listed_as (λ s c. cut_there same here there image dropped observer other q wanted s c)
-          (λ s c. cut_back same here there image dropped observer other q wanted s c) h.are_listed;
+      are_listed = listed_as
+          (has_other order (Cut here dropped observer wanted) (Cut there dropped other wanted)
+          (λ s c. cut_there same here there image dropped observer other q wanted s c))
+          (has_other order (Cut there dropped other wanted) (Cut here dropped observer wanted)
+          (λ s c. cut_back same here there image dropped observer other q wanted s c)) h.are_listed;
       lines = h.lines;
       are_lines = lines_there same here there image dropped h.are_lines;
-      is_text = h.is_text ∙ ap (λ (z : List ℕ). z ++ count_line (length h.sets))
+      is_text = h.is_text ∙ ap (λ (z : List ℕ). z ++ count_line order (length h.sets))
           (lists_same same here there image names h.lines)
-          ∙ ap (λ (z : Naming). label_lists z there h.lines ++ count_line (length h.sets)) called;
+          ∙ ap (λ (z : Naming). label_lists z there h.lines ++ count_line order (length h.sets)) called;
     }
 
-    abbrev pub check_text_there : (cuts : List CutLine) (text : List ℕ)
-        → IsCheckText names here dropped observer wanted cuts text
-        → IsCheckText others there dropped other wanted cuts text
-    check_text_there cuts text h = record {
+    abbrev pub check_text_there : (order : Option ℕ) (cuts : List CutLine) (text : List ℕ)
+        → IsCheckText order names here dropped observer wanted cuts text
+        → IsCheckText order others there dropped other wanted cuts text
+    check_text_there order cuts text h = record {
       said = h.said;
       are_said = record {
         long = h.are_said.long;
         each = λ n said s.
-            said_there same here there image dropped observer other q wanted (lines_in cuts) n said
+            said_there same here there image dropped observer other q wanted (lines_in (within_order order cuts)) n said
             (h.are_said.each n said s);
       };
       missing = h.missing;
       are_missing = listed_as
-          (λ s m. missing_there same here there image dropped observer other q wanted (lines_in cuts) s m)
-          (λ s m. missing_back same here there image dropped observer other q wanted (lines_in cuts) s m)
+          (has_other order (IsMissing here dropped observer wanted (lines_in (within_order order cuts)))
+          (IsMissing there dropped other wanted (lines_in (within_order order cuts)))
+          (λ s m. missing_there same here there image dropped observer other q wanted (lines_in (within_order order cuts))
+          s m))
+          (has_other order (IsMissing there dropped other wanted (lines_in (within_order order cuts)))
+          (IsMissing here dropped observer wanted (lines_in (within_order order cuts)))
+          (λ s m. missing_back same here there image dropped observer other q wanted (lines_in (within_order order cuts))
+          s m))
           h.are_missing;
       lines = h.lines;
       are_lines = lines_there same here there image dropped h.are_lines;
       is_text = h.is_text
-          ∙ ap (λ (z : List ℕ). said_lines cuts cuts h.said
-          ++ (z ++ last_line (all_good h.said && is_none h.missing)))
+          ∙ ap (λ (z : List ℕ). said_lines order (within_order order cuts) cuts h.said
+          ++ (z ++ last_line order (all_good h.said && is_none h.missing)))
           (missing_same same here there image names h.lines)
-          ∙ ap (λ (z : Naming). said_lines cuts cuts h.said
-          ++ (missing_lines z there h.lines ++ last_line (all_good h.said && is_none h.missing))) called;
+          ∙ ap (λ (z : Naming). said_lines order (within_order order cuts) cuts h.said
+          ++ (missing_lines z there h.lines ++ last_line order (all_good h.said && is_none h.missing))) called;
     }

@@ -11,7 +11,10 @@ use Rattle.ar_meaning.specs.Systems.{System}
 use Rattle.ar_meaning.specs.TraceText.{Naming}
 use Rattle.ar_meaning.proofs.ImageFlows.{Partner, partner, value_there}
 use Rattle.ar_meaning.proofs.ImageTurned.{image_turned}
-use Rattle.ar_firing.specs.Cuts.{IsConflictFree}
+use Rattle.ar_firing.specs.Cuts.{Cut, ConflictSet, IsConflictFreeUpTo}
+use Rattle.ar_base.proofs.Sets.{within_self}
+use Rattle.ar_firing.proofs.SmallSets.{free_within, told_free}
+use Rattle.cut_text.proofs.UpToOrder.{has_other}
 use Rattle.ar_firing.proofs.ImageCuts.{meets_there, reaches_there, cut_there, cut_back, conflict_set_there}
 use Rattle.ar_firing.proofs.ImageModes.{firable_there}
 use Rattle.ar_firing.proofs.OneListing.{listed_as}
@@ -25,10 +28,10 @@ use Rattle.min_cuts.specs.Sizes.{count, largest}
 use Rattle.reason_text.specs.Texts.{IsReasonText}
 use Rattle.replayer.specs.Replays.{IsReplay}
 use Rattle.replayer.specs.Settles.{IsFaultLine}
-use Rattle.run_words.specs.declared.jobs.Job.{Job}
+use Rattle.run_words.specs.declared.jobs.Asked.{Asked}
 use Rattle.table_text.specs.Texts.{IsTableText}
 use Rattle.job_stages.specs.Stages.{Ready}
-use Rattle.job_stages.specs.Tells.{counts_line, check_text, IsFlatText, HasCuts, Replays, IsCutsText, IsCheckedText, IsShortText, IsObserverOf, IsExplained, make_lines, IsMakeText, MayNeedMore, Tells}
+use Rattle.job_stages.specs.Tells.{counts_line, check_text, IsFlatText, HasCuts, Replays, IsCutsText, IsCheckedText, IsShortText, IsObserverOf, IsExplained, make_lines, IsMakeText, IsFirableSet, MayNeedMore, Tells}
 use Rattle.job_stages.specs.Tells as told
 use Rattle.job_stages.specs.declared.status.Status.{Status}
 use Rattle.job_stages.specs.declared.status.Status.TheVariants.{Done}
@@ -50,14 +53,14 @@ moved w y = record w { source = y }
 -- a job that stands ready alike is the same of its own source
 pub is_moved : (w v : Ready) → SameReady w v → moved w v.source ≡ v
 is_moved w v s =
-    go v.source w.commands v.commands w.lines v.lines w.dropped v.dropped w.wanted v.wanted w.shown v.shown s.commands
-    s.lines s.dropped s.wanted s.shown
+    go v.source w.commands v.commands w.lines v.lines w.dropped v.dropped w.wanted v.wanted w.shown v.shown w.order v.order s.commands
+    s.lines s.dropped s.wanted s.shown s.order
   where
     go : (x : Elaborated) (c d : List Command) (k l : List CutLine) (m n : List ℕ) (o p : Option Wanted)
-        (q r : Option ℕ) → c ≡ d → k ≡ l → m ≡ n → o ≡ p → q ≡ r
-        → ◌≡◌ {A = Ready} (record { source = x; commands = c; lines = k; dropped = m; wanted = o; shown = q })
-        (record { source = x; commands = d; lines = l; dropped = n; wanted = p; shown = r })
-    go x c d k l m n o p q r e f g h i = cc
+        (q r a b : Option ℕ) → c ≡ d → k ≡ l → m ≡ n → o ≡ p → q ≡ r → a ≡ b
+        → ◌≡◌ {A = Ready} (record { source = x; commands = c; lines = k; dropped = m; wanted = o; shown = q; order = a })
+        (record { source = x; commands = d; lines = l; dropped = n; wanted = p; shown = r; order = b })
+    go x c d k l m n o p q r a b e f g h i j = cc
 
 -- an order replays over an image
 replays_there : {V W : Type 0} (same : V → W → Type 0) (here : System V) (there : System W) → IsImage same here there
@@ -143,9 +146,11 @@ module _ (shared : (x y : Elaborated) → SameSource x y → Share x y) (w : Rea
 
   -- Cuts
 
-  pub free_there : (dropped : List ℕ) → IsConflictFree x.system dropped → IsConflictFree y.system dropped
-  free_there dropped free =
-      λ set m. free set (meets_there (turned IsSameThing) y.system x.system behind dropped m)
+  pub free_there : (order : Option ℕ) (dropped : List ℕ) → IsConflictFreeUpTo order x.system dropped
+      → IsConflictFreeUpTo order y.system dropped
+  free_there order dropped free = told_free order y.system dropped (λ s u m.
+      free_within order x.system dropped free s u s (within_self s)
+      (meets_there (turned IsSameThing) y.system x.system behind dropped m))
 
   abbrev other : (h : HasCuts w) → Partner (Expr_renames IsSameThing) y.system.observers h.wanted.observer h.observed
   other h = partner image.observers h.wanted.observer h.observed h.is_observed
@@ -156,7 +161,7 @@ module _ (shared : (x y : Elaborated) → SameSource x y → Share x y) (w : Rea
     are_wanted = h.are_wanted;
     observed = (other h).item;
     is_observed = (other h).stands;
-    conflict_free = free_there w.dropped h.conflict_free;
+    conflict_free = free_there w.order w.dropped h.conflict_free;
   }
 
   replays_at : (h : HasCuts w) (set : List ℕ) (ls : List Label) → Replays x.system h.observed h.wanted.value set ls
@@ -169,8 +174,8 @@ module _ (shared : (x y : Elaborated) → SameSource x y → Share x y) (w : Rea
   cuts_text_there limit text h = record {
     has = has_there h.has;
     is_text = cut_text_there IsSameThing x.system y.system image (naming_of x.declarations) (naming_of y.declarations)
-        there.naming w.dropped h.has.observed (other h.has).item (other h.has).related h.has.wanted.value text
-        h.is_text;
+        there.naming w.dropped h.has.observed (other h.has).item (other h.has).related h.has.wanted.value w.order
+        text h.is_text;
     few = h.few;
     replay = λ k set ls s l. replays_at h.has set ls (h.replay k set ls s l);
   }
@@ -180,19 +185,24 @@ module _ (shared : (x y : Elaborated) → SameSource x y → Share x y) (w : Rea
     has = has_there h.has;
     is_text = check_text_there IsSameThing x.system y.system image (naming_of x.declarations)
         (naming_of y.declarations) there.naming w.dropped h.has.observed (other h.has).item (other h.has).related
-        h.has.wanted.value w.lines text h.is_text;
+        h.has.wanted.value w.order w.lines text h.is_text;
     replay = λ k set ls s l. replays_at h.has set ls (h.replay k set ls s l);
     sets = h.sets;
     are_listed = listed_as
+        (has_other w.order (Cut x.system w.dropped h.has.observed h.has.wanted.value)
+        (Cut y.system w.dropped (other h.has).item h.has.wanted.value)
         (λ s c. cut_there IsSameThing x.system y.system image w.dropped h.has.observed (other h.has).item
-        (other h.has).related h.has.wanted.value s c)
+        (other h.has).related h.has.wanted.value s c))
+        (has_other w.order (Cut y.system w.dropped (other h.has).item h.has.wanted.value)
+        (Cut x.system w.dropped h.has.observed h.has.wanted.value)
         (λ s c. cut_back IsSameThing x.system y.system image w.dropped h.has.observed (other h.has).item
-        (other h.has).related h.has.wanted.value s c) h.are_listed;
+        (other h.has).related h.has.wanted.value s c)) h.are_listed;
     few = h.few;
   }
 
   short_there : (limit : ℕ) (text : List ℕ) → IsShortText w limit text → IsShortText (moved w y) limit text
   short_there limit text h = record {
+    all = h.all;
     has = has_there h.has;
     is_text = module_text_there x y there back w.dropped h.has.observed (other h.has).item (other h.has).related
         h.has.wanted.value text h.is_text;
@@ -202,6 +212,7 @@ module _ (shared : (x y : Elaborated) → SameSource x y → Share x y) (w : Rea
   make_there : (number limit : ℕ) (text : List ℕ) → IsMakeText w number limit text
       → IsMakeText (moved w y) number limit text
   make_there number limit text h = record {
+    all = h.all;
     has = has_there h.has;
     sets = h.sets;
     are_listed = listed_as
@@ -227,12 +238,17 @@ module _ (shared : (x y : Elaborated) → SameSource x y → Share x y) (w : Rea
     is_table = table_of_there x y there w.dropped h.wanted h.table h.is_table;
     firable = h.firable;
     are_firable = listed_as
-        (λ s f. (f.0, firable_there IsSameThing x.system y.system image w.dropped f.1))
-        (λ s f. (f.0, firable_there (turned IsSameThing) y.system x.system behind w.dropped f.1)) h.are_firable;
+        (has_other w.order (IsFirableSet x.system w.dropped) (IsFirableSet y.system w.dropped)
+        (λ s f. (f.0, firable_there IsSameThing x.system y.system image w.dropped f.1)))
+        (has_other w.order (IsFirableSet y.system w.dropped) (IsFirableSet x.system w.dropped)
+        (λ s f. (f.0, firable_there (turned IsSameThing) y.system x.system behind w.dropped f.1))) h.are_firable;
     where_conflict = λ set c.
-        h.where_conflict set (conflict_set_there (turned IsSameThing) y.system x.system behind w.dropped set c);
+        h.where_conflict set (has_other w.order (ConflictSet y.system w.dropped) (ConflictSet x.system w.dropped)
+        (λ s d. conflict_set_there (turned IsSameThing) y.system x.system behind w.dropped s d) set c);
     where_free = λ free.
-        h.where_free (λ set m. free set (meets_there IsSameThing x.system y.system image w.dropped m));
+        h.where_free (told_free w.order x.system w.dropped (λ s u m.
+        free_within w.order y.system w.dropped free s u s (within_self s)
+        (meets_there IsSameThing x.system y.system image w.dropped m)));
   }
 
   -- All commands
@@ -252,49 +268,50 @@ module _ (shared : (x y : Elaborated) → SameSource x y → Share x y) (w : Rea
         is_text = h.is_text;
       })
 
-  pub tells_there : (job : Job) (text : List ℕ) (ends : Status) → Tells job w text ends
-      → Tells job (moved w y) text ends
-  tells_there job _ _ (told.check e) =
-      subst (λ (z : List ℕ). Tells job (moved w y) z Done) (sym check_same) (told.check e)
-  tells_there job text _ (told.flat e h) = told.flat e (flat_text_there text h)
-  tells_there job text _ (told.replay {ends = last} e h) =
+  pub tells_there : (asked : Asked) (text : List ℕ) (ends : Status) → Tells asked w text ends
+      → Tells asked (moved w y) text ends
+  tells_there asked _ _ (told.check e) =
+      subst (λ (z : List ℕ). Tells asked (moved w y) z Done) (sym check_same) (told.check e)
+  tells_there asked text _ (told.flat e h) = told.flat e (flat_text_there text h)
+  tells_there asked text _ (told.replay {ends = last} e h) =
       told.replay e
       (subst (λ (z : Naming). IsReplay z y.system w.commands text last) there.naming
       (replay_there IsSameThing x.system y.system image (naming_of x.declarations) w.commands text last h))
-  tells_there job text _ (told.fragment e h) =
+  tells_there asked text _ (told.fragment e h) =
       told.fragment e
       (forest_text_there IsSameThing x.system y.system image (naming_of x.declarations) (naming_of y.declarations)
       there.naming w.dropped text h)
-  tells_there job text _ (told.equations {wanted = a} e i h) = told.equations e i (table_text_there a text h)
-  tells_there job text _ (told.cuts e h) = told.cuts e (cuts_text_there job.nodes text h)
-  tells_there job text _ (told.make e h) = told.make e (make_there job.number job.nodes text h)
-  tells_there job text _ (told.checks e h) = told.checks e (checked_there job.nodes text h)
-  tells_there job text _ (told.in_short e h) = told.in_short e (short_there job.nodes text h)
-  tells_there job text _ (told.explains e h) = told.explains e (explained_there text h)
-  tells_there job text _ (told.unsettled e h) =
+  tells_there asked text _ (told.equations {wanted = a} e i h) = told.equations e i (table_text_there a text h)
+  tells_there asked text _ (told.cuts e h) = told.cuts e (cuts_text_there asked.job.nodes text h)
+  tells_there asked text _ (told.make e h) = told.make e (make_there asked.job.number asked.job.nodes text h)
+  tells_there asked text _ (told.checks e h) = told.checks e (checked_there asked.job.nodes text h)
+  tells_there asked text _ (told.in_short e h) = told.in_short e (short_there asked.job.nodes text h)
+  tells_there asked text _ (told.explains e h) = told.explains e (explained_there text h)
+  tells_there asked text _ (told.unsettled e h) =
       told.unsettled e
       (subst (λ (z : Naming). IsFaultLine z y.system w.commands text) there.naming
       (fault_there IsSameThing x.system y.system image (naming_of x.declarations) w.commands text h))
-  tells_there job text _ (told.conflict e h) =
+  tells_there asked text _ (told.conflict e h) =
       told.conflict e
       (conflict_text_there IsSameThing x.system y.system image (naming_of x.declarations) (naming_of y.declarations)
-      there.naming w.dropped text h)
-  tells_there job _ _ (told.nodes e h) = told.nodes e (needs_more_there job.nodes h)
+      there.naming w.dropped w.order text h)
+  tells_there asked _ _ (told.nodes e h) = told.nodes e (needs_more_there asked.job.nodes h)
 
 -- Jobs that stand ready alike
 
 module _ (shared : (x y : Elaborated) → SameSource x y → Share x y) (w v : Ready) (same : SameReady w v) where
-  pub alike_tells : (job : Job) (text : List ℕ) (ends : Status) → Tells job w text ends → Tells job v text ends
-  alike_tells job text ends h =
-      subst (λ (z : Ready). Tells job z text ends) (is_moved w v same)
-      (tells_there shared w v.source same.source job text ends h)
+  pub alike_tells : (asked : Asked) (text : List ℕ) (ends : Status) → Tells asked w text ends → Tells asked v text ends
+  alike_tells asked text ends h =
+      subst (λ (z : Ready). Tells asked z text ends) (is_moved w v same)
+      (tells_there shared w v.source same.source asked text ends h)
 
   pub alike_needs : (limit : ℕ) → MayNeedMore w limit → MayNeedMore v limit
   alike_needs limit h =
       subst (λ (z : Ready). MayNeedMore z limit) (is_moved w v same)
       (needs_more_there shared w v.source same.source limit h)
 
-  pub alike_free : IsConflictFree w.source.system w.dropped → IsConflictFree v.source.system v.dropped
+  pub alike_free : IsConflictFreeUpTo w.order w.source.system w.dropped
+      → IsConflictFreeUpTo v.order v.source.system v.dropped
   alike_free h =
-      subst (λ (z : Ready). IsConflictFree z.source.system z.dropped) (is_moved w v same)
-      (free_there shared w v.source same.source w.dropped h)
+      subst (λ (z : Ready). IsConflictFreeUpTo z.order z.source.system z.dropped) (is_moved w v same)
+      (free_there shared w v.source same.source w.order w.dropped h)

@@ -111,4 +111,5 @@ ready_back w v s = record {
   dropped = sym s.dropped;
   wanted = sym s.wanted;
   shown = sym s.shown;
+  order = sym s.order;
 }

@@ -1,7 +1,7 @@
 //! Laws of jobs whose sources are alike.
 
 ghost use Rattle.std.specs.Prelude.{◌≡◌, ◌↔◌, ℕ, List, Option, Result, Ok, Err};
-ghost use Rattle.ar_firing.specs.Cuts.{IsConflictFree};
+ghost use Rattle.ar_firing.specs.Cuts.{IsConflictFreeUpTo};
 ghost use Rattle.ar_meaning.specs.Runs.{Command, Label};
 ghost use Rattle.domains.specs.declared.Value.{Value};
 ghost use Rattle.source_meaning.specs.Systems.{Declarations};
@@ -12,7 +12,7 @@ ghost use Rattle.job_inputs.specs.Labels.{IsLabel};
 ghost use Rattle.job_inputs.specs.Naming.{NamesEvents};
 ghost use Rattle.job_inputs.specs.Scripts.{BadLine, Commands};
 ghost use Rattle.job_inputs.specs.Wanting.{NamesObserver, IsWanted};
-ghost use Rattle.run_words.specs.declared.jobs.Job.{Job};
+ghost use Rattle.run_words.specs.declared.jobs.Asked.{Asked};
 ghost use Rattle.altarica_run.specs.Listings.{IsCut};
 ghost use Rattle.altarica_run.specs.Nodes.{HasConflict};
 ghost use Rattle.job_stages.specs.Stages.{Ready, Asks, Readies};
@@ -61,25 +61,26 @@ pub fn jobs_agree()
         → (NamesObserver x path n ↔ NamesObserver y path n) }
     ensures wanted { (x y : Elaborated) → SameSource x y → (path : List ℕ) (word : Option (List ℕ))
         (n : ℕ) (v : Value) → (IsWanted x path word n v ↔ IsWanted y path word n v) }
-    ensures requests_pass { (x y : Elaborated) → SameSource x y → (job : Job) (texts : List (List ℕ))
-        (w : Ready) → Asks job texts x (Ok w)
-        → (v : Ready) × Asks job texts y (Ok v) × SameReady w v }
-    ensures requests_refused { (x y : Elaborated) → SameSource x y → (job : Job) (texts : List (List ℕ))
-        (r : Refusal) → Asks job texts x (Err r) → Asks job texts y (Err r) }
-    ensures readiness_passes { (x y : Elaborated) → SameSource x y → (job : Job) (texts : List (List ℕ))
-        (w : Ready) → Readies job texts x (Ok w)
-        → (v : Ready) × Readies job texts y (Ok v) × SameReady w v }
-    ensures readiness_refused { (x y : Elaborated) → SameSource x y → (job : Job) (texts : List (List ℕ))
-        (r : Refusal) → Readies job texts x (Err r) → Readies job texts y (Err r) }
+    ensures requests_pass { (x y : Elaborated) → SameSource x y → (asked : Asked) (texts : List (List ℕ))
+        (w : Ready) → Asks asked texts x (Ok w)
+        → (v : Ready) × Asks asked texts y (Ok v) × SameReady w v }
+    ensures requests_refused { (x y : Elaborated) → SameSource x y → (asked : Asked) (texts : List (List ℕ))
+        (r : Refusal) → Asks asked texts x (Err r) → Asks asked texts y (Err r) }
+    ensures readiness_passes { (x y : Elaborated) → SameSource x y → (asked : Asked) (texts : List (List ℕ))
+        (w : Ready) → Readies asked texts x (Ok w)
+        → (v : Ready) × Readies asked texts y (Ok v) × SameReady w v }
+    ensures readiness_refused { (x y : Elaborated) → SameSource x y → (asked : Asked) (texts : List (List ℕ))
+        (r : Refusal) → Readies asked texts x (Err r) → Readies asked texts y (Err r) }
     ensures conflict_free { (w v : Ready) → SameReady w v
-        → (IsConflictFree w.source.system w.dropped ↔ IsConflictFree v.source.system v.dropped) }
+        → (IsConflictFreeUpTo w.order w.source.system w.dropped
+        ↔ IsConflictFreeUpTo v.order v.source.system v.dropped) }
     ensures conflicts_agree { (w v : Ready) → SameReady w v → (HasConflict w ↔ HasConflict v) }
     ensures cuts_agree { (w v : Ready) → SameReady w v → (a : HasCuts w) (b : HasCuts v) (set : List ℕ)
         → (IsCut w a set ↔ IsCut v b set) }
     ensures nodes_agree { (w v : Ready) → SameReady w v → (limit : ℕ)
         → (MayNeedMore w limit ↔ MayNeedMore v limit) }
-    ensures texts_agree { (w v : Ready) → SameReady w v → (job : Job) (text : List ℕ) (ends : Status)
-        → (Tells job w text ends ↔ Tells job v text ends) }
+    ensures texts_agree { (w v : Ready) → SameReady w v → (asked : Asked) (text : List ℕ) (ends : Status)
+        → (Tells asked w text ends ↔ Tells asked v text ends) }
 {
     agreement_opens();
 }

@@ -1,6 +1,6 @@
 mod Digits
 mod Pieces
 mod Program
-mod OneJob
+pub mod OneJob
 pub mod Reaches
 mod Lengths

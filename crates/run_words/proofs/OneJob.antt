@@ -1,12 +1,13 @@
 -- Words give at most one job.
 use Rattle.std.proofs.Common.{◌≡◌, ◌∙◌, ◌<◌, ◌^◌, ℕ, List, [], ◌∷◌, arith, refl, sym, ap, subst, codes}
-use Rattle.std.specs.Prelude.{Option, Some, None, if◌then◌else◌}
+use Rattle.std.specs.Prelude.{false, Option, Some, None, if◌then◌else◌}
 use Rattle.std.specs.Str.{bytes_eq}
 use Rattle.std.proofs.lemmas.Fmt.{decimal_injective}
 use Rattle.std.proofs.lemmas.Option.{same_Some}
 use Rattle.run_words.specs.Lines.{CommandWords}
 use Rattle.run_words.specs.Commands.{shape_of, word_of}
-use Rattle.run_words.specs.Jobs.{IsJob, IsJobOf, IsNodes, IsNumberText, NamesFiles}
+use Rattle.run_words.specs.Jobs.{IsJob, IsJobOf, IsAsked, IsAskedOf, IsNodes, IsOrder, IsNumberText, NamesFiles}
+use Rattle.run_words.specs.declared.jobs.Asked.{Asked}
 use Rattle.run_words.specs.declared.jobs.Job.{Job}
 use Rattle.run_words.specs.declared.shapes.Form.{Form}
 use Rattle.run_words.specs.declared.shapes.Form.TheVariants as form
@@ -117,7 +118,7 @@ same_job a b command files nodes main observer value dropped =
     ∙ ap (λ t. record b { nodes = t; number = a.number }) nodes
     ∙ ap (λ t. record b { number = t }) files.number
 
-of_one_line : (l : CommandWords) (a b : Job) → IsJobOf l a → IsJobOf l b → a ≡ b
+pub of_one_line : (l : CommandWords) (a b : Job) → IsJobOf l a → IsJobOf l b → a ≡ b
 of_one_line l a b x y =
     let command = same_command a.command b.command (same_Some _ _ (sym x.command ∙ y.command)) in
     let shape = ap shape_of command in
@@ -130,3 +131,53 @@ of_one_line l a b x y =
 
 pub one_job_of : (words : List (List ℕ)) (a b : Job) → IsJob words a → IsJob words b → a ≡ b
 one_job_of words a b x y = of_one_line _ a b x.job_of y.job_of
+
+-- one option gives at most one order
+same_order : (s : Shape) (given : Option (List ℕ)) (m n : Option ℕ) → IsOrder s given m → IsOrder s given n → m ≡ n
+same_order s None m n a b = a ∙ sym b
+same_order s (Some text) m n a b =
+    a.1.1 ∙ ap (λ k. Some k) (same_number 1 1000 text a.1.0 b.1.0 (omega arith) a.1.2 b.1.2) ∙ sym b.1.1
+
+same_asked : (a b : Asked) → a.job ≡ b.job → a.order ≡ b.order → a ≡ b
+same_asked a b job order = ap (λ j. record a { job = j }) job ∙ ap (λ o. record b { order = o }) order
+
+of_one_asking : (l : CommandWords) (a b : Asked) → IsAskedOf l a → IsAskedOf l b → a ≡ b
+of_one_asking l a b x y =
+    let job = of_one_line l a.job b.job x.job y.job in
+    same_asked a b job (same_order (shape_of b.job.command) l.order a.order b.order
+    (subst (λ (j : Job). IsOrder (shape_of j.command) l.order a.order) job x.order) y.order)
+
+pub one_asked_of : (words : List (List ℕ)) (a b : Asked) → IsAsked words a → IsAsked words b → a ≡ b
+one_asked_of words a b x y = of_one_asking _ a b x.asked_of y.asked_of
+
+-- where the option is not used there is no order
+pub unused : (s : Shape) (given : Option (List ℕ)) (order : Option ℕ) → given ≡ None → IsOrder s given order → order ≡ None
+unused s None order e is = is
+unused s (Some text) order e is = cc
+
+-- and where there is none it is not used
+pub not_used : (s : Shape) (given : Option (List ℕ)) (order : Option ℕ) → order ≡ None → IsOrder s given order → given ≡ None
+not_used s None order e is = refl
+not_used s (Some text) order e is = let is_some = is.1.1 in cc
+
+pub not_taken : (s : Shape) (given : Option (List ℕ)) (order : Option ℕ) → s.order ≡ false → IsOrder s given order
+    → order ≡ None
+not_taken s None order e is = is
+not_taken s (Some text) order e is = let taken = is.0 in cc
+
+pub none_asked : (s : Shape) (given : Option (List ℕ)) → given ≡ None → IsOrder s given None
+none_asked s None e = refl
+none_asked s (Some text) e = cc
+
+pub job_asks : (words : List (List ℕ)) (job : Job) → IsJob words job → IsAsked words (record { job = job; order = None })
+job_asks words job is = record {
+  taken = is.taken;
+  asked_of = record { job = is.job_of; order = none_asked (shape_of job.command) _ is.without_order };
+}
+
+pub asked_gives : (words : List (List ℕ)) (asked : Asked) → IsAsked words asked → asked.order ≡ None → IsJob words asked.job
+asked_gives words asked is none = record {
+  taken = is.taken;
+  job_of = is.asked_of.job;
+  without_order = not_used (shape_of asked.job.command) _ asked.order none is.asked_of.order;
+}

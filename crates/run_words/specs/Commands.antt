@@ -31,6 +31,7 @@ of_system = record {
   observer = takes.Never;
   value = false;
   nodes = false;
+  order = false;
   dropped = false;
   reach = reach.System;
   explains = false;
@@ -49,6 +50,10 @@ of_table = record of_forest { observer = takes.Must; value = true; reach = reach
 abbrev pub of_cuts : Shape
 of_cuts = record of_table { nodes = true; reach = reach.Cuts }
 
+-- about the cuts, or about those of at most so many events alone
+abbrev pub of_listed_cuts : Shape
+of_listed_cuts = record of_cuts { order = true }
+
 -- what each command takes, and how far it goes
 abbrev pub shape_of : Verb → Shape
 shape_of Check = of_system
@@ -57,8 +62,8 @@ shape_of Replay = record of_system { files = form.ModelAndScript }
 shape_of Explain = record of_system { files = form.ModelAndScript; observer = takes.May; explains = true }
 shape_of Fragment = of_forest
 shape_of Equations = of_table
-shape_of Cuts = of_cuts
-shape_of CheckCuts = record of_cuts { files = form.ModelAndList }
+shape_of Cuts = of_listed_cuts
+shape_of CheckCuts = record of_listed_cuts { files = form.ModelAndList }
 shape_of Modules = record of_cuts { units = true }
 shape_of Make = record of_system { files = form.Number; reach = reach.Cuts; main = false }
 

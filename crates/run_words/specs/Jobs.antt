@@ -1,8 +1,9 @@
--- The job of a list of words: what `clap` finds in them, and then the table of the commands.
+-- What a list of words asks for: what `clap` finds in them, and then the table of the commands.
 use Rattle.std.specs.Prelude.{◌≡◌, ◌≢◌, ◌≤◌, ℕ, Bool, true, false, List, [], ◌∷◌, Option, Some, None, codes, decimal}
 use Rattle.clap.specs.Words.{Text, fault_of, matches_of}
 use Rattle.run_words.specs.Commands.{word_of, shape_of}
 use Rattle.run_words.specs.Lines.{CommandWords, command_words_of, program}
+use Rattle.run_words.specs.declared.jobs.Asked.{Asked}
 use Rattle.run_words.specs.declared.jobs.Job.{Job}
 use Rattle.run_words.specs.declared.shapes.Form.{Form}
 use Rattle.run_words.specs.declared.shapes.Form.TheVariants as form
@@ -49,14 +50,20 @@ abbrev pub IsNodes : Shape → Option Text → ℕ → Type 0
 IsNodes shape None nodes = nodes ≡ nodes_by_default shape.files
 IsNodes shape (Some text) nodes = (shape.nodes ≡ true) × IsNumberText 1 16777216 text nodes
 
--- the command takes each option that is used, but for `--nodes`, and the observer is there where it is needed
+-- the most events of the cuts: what `--max-order` writes, a number from 1 to 1000, where the command takes this option and it
+-- is used; else none
+abbrev pub IsOrder : Shape → Option Text → Option ℕ → Type 0
+IsOrder shape None order = order ≡ None
+IsOrder shape (Some text) order = (shape.order ≡ true) × ((n : ℕ) × (order ≡ Some n) × IsNumberText 1 1000 text n)
+
+-- the command takes each option that is used, but for `--nodes` and `--max-order`, and the observer is there where it is needed
 pub record OptionsFit (shape : Shape) (line : CommandWords) : Type 0 where
   pub main : IsTaken shape.main line.main
   pub observer : IsUsed shape.observer line.observer
   pub value : IsTaken shape.value line.value
   pub dropped : IsTaken shape.dropped line.dropped
 
--- the command line gives the job
+-- the command line, but for `--max-order`, gives the job
 pub record IsJobOf (line : CommandWords) (job : Job) : Type 0 where
   pub command : line.command ≡ Some (word_of job.command)
   pub files : NamesFiles (shape_of job.command).files line.files job.model job.script job.number
@@ -67,11 +74,26 @@ pub record IsJobOf (line : CommandWords) (job : Job) : Type 0 where
   pub value : job.value ≡ line.value
   pub dropped : job.dropped ≡ line.dropped
 
+-- the command line asks for the job, with this order
+pub record IsAskedOf (line : CommandWords) (asked : Asked) : Type 0 where
+  pub job : IsJobOf line asked.job
+  pub order : IsOrder (shape_of asked.job.command) line.order asked.order
+
 -- what `clap` is given: the program's word and then the words
 abbrev pub given_words : List Text → List Text
 given_words words = codes "altarica" ∷ words
 
--- the words give the job: `clap` takes them, and what it finds gives it
+-- what `clap` finds in the words
+abbrev pub found_words : List Text → CommandWords
+found_words words = command_words_of (matches_of program (given_words words))
+
+-- the words ask for this: `clap` takes them, and what it finds asks for it
+pub record IsAsked (words : List Text) (asked : Asked) : Type 0 where
+  pub taken : fault_of program (given_words words) ≡ []
+  pub asked_of : IsAskedOf (found_words words) asked
+
+-- the words give the job: `clap` takes them, what it finds gives it, and `--max-order` is not used
 pub record IsJob (words : List Text) (job : Job) : Type 0 where
   pub taken : fault_of program (given_words words) ≡ []
-  pub job_of : IsJobOf (command_words_of (matches_of program (given_words words))) job
+  pub job_of : IsJobOf (found_words words) job
+  pub without_order : (found_words words).order ≡ None

@@ -26,10 +26,10 @@ abbrev pub bare_command : App
 bare_command = on_top (λ s. record s { disable_help_flag = true; disable_version_flag = true })
     (new_app (codes "altarica"))
 
--- the rules of the arguments: the command's word, the files, and the five options
+-- the rules of the arguments: the command's word, the files, and the six options
 abbrev pub rules : List Rule
 rules = command ∷ files ∷ option (codes "main") ∷ option (codes "observer") ∷ option (codes "value")
-    ∷ option (codes "nodes") ∷ option (codes "drop") ∷ []
+    ∷ option (codes "nodes") ∷ option (codes "drop") ∷ option (codes "max-order") ∷ []
 
 -- the program's command: one with these arguments, in their order
 unfoldable pub program : App
@@ -52,6 +52,7 @@ pub record CommandWords : Type 0 where
   pub value : Option Text
   pub nodes : Option Text
   pub dropped : Option Text
+  pub order : Option Text
 
 abbrev pub command_words_of : List Row → CommandWords
 command_words_of rows = record {
@@ -62,4 +63,5 @@ command_words_of rows = record {
   value = first_of (codes "value") rows;
   nodes = first_of (codes "nodes") rows;
   dropped = first_of (codes "drop") rows;
+  order = first_of (codes "max-order") rows;
 }

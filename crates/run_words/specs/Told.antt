@@ -12,4 +12,5 @@ told l = record {
   value = option_map (λ s. s.now) l.value;
   nodes = option_map (λ s. s.now) l.nodes;
   dropped = option_map (λ s. s.now) l.dropped;
+  order = option_map (λ s. s.now) l.order;
 }

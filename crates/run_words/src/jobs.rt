@@ -31,6 +31,15 @@ pub struct Job {
     pub number: u32,
 }
 
+/// What the words ask for: a job, and of how many events the cuts are at most that it is about.
+#[derive(Drop)]
+pub struct Asked {
+    /// The job.
+    pub job: Job,
+    /// The most events of a cut, from 1 to 1,000, where `--max-order` gives a number; without it the job is about all cuts.
+    pub order: Option<u32>,
+}
+
 /// Why words give no job.
 #[derive(Clone, Copy)]
 pub enum JobFault {

@@ -12,7 +12,7 @@ mod shapes;
 mod verbs;
 
 pub use generator::make_text;
-pub use jobs::{Job, JobFault};
-pub use reading::read_job;
+pub use jobs::{Asked, Job, JobFault};
+pub use reading::{read_asked, read_job};
 pub use shapes::{Form, Reach, Shape, Takes};
 pub use verbs::Verb;

@@ -32,6 +32,7 @@ fn arguments<'a>(alloc: Global) -> Result<Vec<Arg<'a>>, AllocError>
         option(alloc, "value"),
         option(alloc, "nodes"),
         option(alloc, "drop"),
+        option(alloc, "max-order"),
     ]?;
     Ok(args)
 }
@@ -77,6 +78,7 @@ pub struct CommandLine<'m, 'a> {
     pub value: Option<&'a str>,
     pub nodes: Option<&'a str>,
     pub dropped: Option<&'a str>,
+    pub order: Option<&'a str>,
 }
 
 // What the matches say.
@@ -91,5 +93,6 @@ pub(crate) fn command_line<'m, 'a>(matches: &'m ArgMatches<'a>) -> CommandLine<'
         value: matches.get_str("value"),
         nodes: matches.get_str("nodes"),
         dropped: matches.get_str("drop"),
+        order: matches.get_str("max-order"),
     }
 }

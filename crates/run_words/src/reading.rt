@@ -2,13 +2,14 @@
 
 ghost use Rattle.std.specs.Prelude.{◌≡◌, ◌↔◌, ℕ, Option, map, option_map, IfOk, IfErr, IsTrue, MatchOption, Some};
 ghost use Rattle.ar_base.specs.Texts.{bytes_of_all};
+ghost use Rattle.run_words.specs.declared.jobs.Asked.{Asked as AskedOfWords};
 ghost use Rattle.run_words.specs.declared.jobs.Job.{Job as Jobs};
 ghost use Rattle.run_words.specs.declared.jobs.JobFault.TheVariants.{Usage, Memory as OutOfMemory};
-ghost use Rattle.run_words.specs.Jobs.{IsJob, IsJobOf, IsTaken, IsUsed, IsNodes, given_words};
+ghost use Rattle.run_words.specs.Jobs.{IsJob, IsJobOf, IsAsked, IsAskedOf, IsTaken, IsUsed, IsNodes, IsOrder, given_words};
 ghost use Rattle.run_words.specs.Told.{told};
 
 use crate::files::{named_files, text};
-use crate::jobs::{Job, JobFault};
+use crate::jobs::{Asked, Job, JobFault};
 use crate::lines::{CommandLine, command_line, matches};
 use crate::numbers::number;
 use crate::shapes::{Form, Shape, Takes};
@@ -16,11 +17,10 @@ use crate::verbs::named as named_verb;
 use ar_base::{MOST_NODES, Text, USUAL_NODES};
 use std::alloc::Global;
 
-/// Reads the words behind the program's name as a job.
-///
-/// `clap` takes the words apart as one command with the positionals `command` and `file` (any number) and the
-/// options `--main`, `--observer`, `--value`, `--nodes` and `--drop`, each with one value, in any order. Then the
-/// command must be one of the ten, with the files and the options that it takes.
+// The most events that `--max-order` may ask for.
+const MOST_ORDER: u32 = 1000;
+
+/// Reads the words behind the program's name as a job, which they are where `--max-order` is not used.
 ///
 /// # Errors
 /// `Usage` exactly where the words give no job; `Memory` where memory was refused.
@@ -28,11 +28,31 @@ pub fn read_job(alloc: Global, words: &[String]) -> Result<Job, JobFault>
     ensures found { IfOk result (λ job. IsJob (bytes_of_all words.now) job) }
     ensures usage { result ≡ Err Usage → (job : Jobs) → IsJob (bytes_of_all words.now) job → ⊥ }
 {
+    let asked = read_asked(alloc, words)?;
+    match asked.order {
+        None => Ok(asked.job),
+        Some(_) => Err(JobFault::Usage),
+    }
+}
+
+/// Reads what the words behind the program's name ask for.
+///
+/// `clap` takes the words apart as one command with the positionals `command` and `file` (any number) and the
+/// options `--main`, `--observer`, `--value`, `--nodes`, `--drop` and `--max-order`, each with one value, in any order.
+/// Then the command must be one of the ten, with the files and the options that it takes.
+///
+/// # Errors
+/// `Usage` exactly where the words ask for nothing; `Memory` where memory was refused.
+pub fn read_asked(alloc: Global, words: &[String]) -> Result<Asked, JobFault>
+    ensures found { IfOk result (λ asked. IsAsked (bytes_of_all words.now) asked) }
+    ensures usage { result ≡ Err Usage
+        → (asked : AskedOfWords) → IsAsked (bytes_of_all words.now) asked → ⊥ }
+{
     let given = with_program(alloc, words)?;
     let found = matches(alloc, given.as_slice())?;
     let line = command_line(&found);
-    let job = job_of(alloc, &line)?;
-    Ok(job)
+    let asked = asked_of(alloc, &line)?;
+    Ok(asked)
 }
 
 // The program's word and then the words.
@@ -49,7 +69,17 @@ fn with_program<'a>(alloc: Global, words: &'a [String]) -> Result<Vec<&'a str>, 
     Ok(given)
 }
 
-// The job that a command line gives.
+// What a command line asks for.
+fn asked_of(alloc: Global, line: &CommandLine<'_, '_>) -> Result<Asked, JobFault>
+    ensures found { IfOk result (λ asked. IsAskedOf (told line.now) asked) }
+    ensures usage { result ≡ Err Usage → (asked : AskedOfWords) → IsAskedOf (told line.now) asked → ⊥ }
+{
+    let job = job_of(alloc, line)?;
+    let order = order_of(job.command.shape(), line.order)?;
+    Ok(Asked { job, order })
+}
+
+// The job that a command line gives, `--max-order` left aside.
 fn job_of(alloc: Global, line: &CommandLine<'_, '_>) -> Result<Job, JobFault>
     ensures found { IfOk result (λ job. IsJobOf (told line.now) job) }
     ensures usage { result ≡ Err Usage → (job : Jobs) → IsJobOf (told line.now) job → ⊥ }
@@ -114,6 +144,25 @@ fn nodes_of(shape: Shape, given: Option<&str>) -> Option<u32>
         None => Some(USUAL_NODES),
         Some(word) if shape.nodes => number(word, 1, MOST_NODES),
         Some(_) => None,
+    }
+}
+
+// The most events of a cut, where a number is given.
+fn order_of(shape: Shape, given: Option<&str>) -> Result<Option<u32>, JobFault>
+    ensures found { IfOk result (λ order. IsOrder shape (option_map (λ s. s.now) given.entry) order) }
+    ensures usage { IfErr result (λ e. e ≡ Usage) }
+    ensures none { result ≡ Err Usage
+        → (order : Option ℕ) → IsOrder shape (option_map (λ s. s.now) given.entry) order → ⊥ }
+{
+    let Some(word) = given else {
+        return Ok(None);
+    };
+    if !shape.order {
+        return Err(JobFault::Usage);
+    }
+    match number(word, 1, MOST_ORDER) {
+        Some(order) => Ok(Some(order)),
+        None => Err(JobFault::Usage),
     }
 }
 

@@ -55,6 +55,8 @@ pub struct Shape {
     pub value: bool,
     /// Whether it takes `--nodes`.
     pub nodes: bool,
+    /// Whether it takes `--max-order`.
+    pub order: bool,
     /// Whether it takes `--drop`.
     pub dropped: bool,
     /// How far it goes.
@@ -81,6 +83,7 @@ const OF_SYSTEM: Shape = Shape {
     observer: Takes::Never,
     value: false,
     nodes: false,
+    order: false,
     dropped: false,
     reach: Reach::System,
     explains: false,
@@ -109,6 +112,12 @@ const OF_CUTS: Shape = Shape {
     ..OF_TABLE
 };
 
+// A command about cuts, or about those of at most so many events alone.
+const OF_LISTED_CUTS: Shape = Shape {
+    order: true,
+    ..OF_CUTS
+};
+
 impl Verb {
     /// The command's row of the table.
     pub fn shape(self) -> Shape
@@ -128,10 +137,10 @@ impl Verb {
             },
             Verb::Fragment => OF_FOREST,
             Verb::Equations => OF_TABLE,
-            Verb::Cuts => OF_CUTS,
+            Verb::Cuts => OF_LISTED_CUTS,
             Verb::CheckCuts => Shape {
                 files: Form::ModelAndList,
-                ..OF_CUTS
+                ..OF_LISTED_CUTS
             },
             Verb::Modules => Shape {
                 units: true,

@@ -1,11 +1,11 @@
 -- What the searches say of the rules, one rule after the other.
-use Rattle.std.proofs.Common.{◌≡◌, ◌+◌, ℕ, ◌⊎◌, inl, inr, Bool, true, false, cond, nat_lt, List, length, Option, Some, None, Result, Ok, Err, IfErr, refl, sym, ap, ◌∙◌, subst, arith}
+use Rattle.std.proofs.Common.{◌≡◌, ◌+◌, ◌<◌, ℕ, ◌⊎◌, inl, inr, Bool, true, false, cond, nat_lt, List, length, Option, Some, None, Result, Ok, Err, IfErr, refl, sym, ap, ◌∙◌, subst, arith}
 use Rattle.std.proofs.lemmas.Bool.{cases_eq, ltb-false}
 use Rattle.ar_base.specs.Numbers.{VarId}
 use Rattle.ar_meaning.specs.Systems.{System}
-use Rattle.ar_firing.specs.Rules.{BreaksS3, BreaksS4, BreaksS5, BreaksS6, AtEvent, AtUnit, AtVariable, AtObserver, AtWhole, IsShownBefore, variables, Rule, S1, S2, S3, S4, S5, S6, S7, S8, BreaksStaticRule, s3, s4, s5, s6, s8, KeepsStaticRule, KeepsAll, rule_number}
+use Rattle.ar_firing.specs.Rules.{BreaksS3, BreaksS4, BreaksS5, BreaksS6, AtEvent, AtUnit, AtVariable, AtObserver, AtWhole, IsShownBefore, variables, Rule, S1, S2, S3, S4, S5, S6, S7, S8, BreaksStaticRule, s3, s4, s5, s6, s8, KeepsStaticRule, KeepsUpTo, IsAskedUpTo, rule_number}
 use Rattle.ar_firing.specs.Rules as rules
-use Rattle.ar_firing.proofs.RulesHold.{rule_of, numbered}
+use Rattle.ar_firing.proofs.RulesHold.{rule_of, numbered, asked_below}
 use Rattle.ar_firing.proofs.Unbroken.{keeps_s3, keeps_s4, keeps_s5, keeps_s6}
 use Rattle.gts_core.specs.View.{Views}
 use Rattle.gts_core.specs.Sound.{IsSound}
@@ -35,8 +35,8 @@ use Rattle.static_fragment.proofs.Listing.{shared_breaks, breaks_shared, unbroke
 use Rattle.static_fragment.proofs.Entering.{again_breaks, breaks_again, unbroken_s6}
 use Rattle.static_fragment.specs.declared.faults.FragmentFault.{FragmentFault}
 use Rattle.static_fragment.specs.declared.faults.FragmentFault.TheVariants.{Outside, Memory}
-use Rattle.static_fragment.specs.Recognised.{IsRefused}
-use Rattle.static_fragment.specs.Shown.{IsShown, IsShownWith, IsWideShown, IsCounted, lesser_of}
+use Rattle.static_fragment.specs.Recognised.{IsRefusedUpTo}
+use Rattle.static_fragment.specs.Shown.{IsShown, IsShownWith, IsWideShown, IsCountedUpTo, lesser_of}
 use Rattle.static_fragment.specs.declared.stages.Units.{Units}
 use Rattle.static_fragment.specs.Stages.{KeepsBelow, OnResult, HasUnits, HasReaches, HasSharing, IsSeen}
 
@@ -102,27 +102,45 @@ module _ (system : System ℕ) (dropped : List ℕ) where
         dropped) same k)
   ]
 
-  outside : (r : Rule) (spot : rules.Spot) → KeepsBelow system dropped (rule_number r)
+  -- every rule is kept where those below the ninth are
+  all_rules : KeepsBelow system dropped 9 → KeepsUpTo None system dropped
+  all_rules below = record { each = λ rule asked. each rule }
+    where
+      each : (rule : Rule) → KeepsStaticRule system dropped rule
+      each S1 = below S1 (omega arith)
+      each S2 = below S2 (omega arith)
+      each S3 = below S3 (omega arith)
+      each S4 = below S4 (omega arith)
+      each S5 = below S5 (omega arith)
+      each S6 = below S6 (omega arith)
+      each S7 = below S7 (omega arith)
+      each S8 = below S8 (omega arith)
+
+  outside : (order : Option ℕ) (r : Rule) → IsAskedUpTo order r → (spot : rules.Spot)
+      → KeepsBelow system dropped (rule_number r)
       → IsFirstShown system dropped r spot → (e : FragmentFault)
-      → IsShown (rule_number r) spot e → IsRefused system dropped e
-  outside r spot below first (Outside number there) s = record {
+      → IsShown (rule_number r) spot e → IsRefusedUpTo order system dropped e
+  outside order r asked spot below first (Outside number there) s = record {
     rule = r;
     is_rule = sym s.0;
+    asked = asked;
     first = record {
       breaks = subst (BreaksStaticRule system dropped r) (sym s.1) first.breaks;
       lesser_kept = below;
       is_first = λ other k x. first.is_first other (subst (λ (z : rules.Spot). IsShownBefore other z) s.1 k) x;
     };
   }
-  outside r spot below first Memory s = absurd s
+  outside order r asked spot below first Memory s = absurd s
 
   -- the rule is broken first by the least number that was found
-  refuse : (r : Rule) (spot : ℕ → rules.Spot) (P : ℕ → Type 0) → KeepsBelow system dropped (rule_number r)
+  refuse : (order : Option ℕ) (r : Rule) → rule_number r < 8 → (spot : ℕ → rules.Spot) (P : ℕ → Type 0)
+      → KeepsBelow system dropped (rule_number r)
       → ((n : ℕ) → IsLeast P (Some n) → IsFirstShown system dropped r (spot n))
       → (least : Option ℕ) → IsLeast P least → (e : FragmentFault) → IsShownWith (rule_number r) spot least (Err e)
-      → IsRefused system dropped e
-  refuse r spot P below first None h e s = absurd s
-  refuse r spot P below first (Some n) h e s = outside r (spot n) below (first n h) e s
+      → IsRefusedUpTo order system dropped e
+  refuse order r seven spot P below first None h e s = absurd s
+  refuse order r seven spot P below first (Some n) h e s =
+      outside order r (asked_below order r seven) (spot n) below (first n h) e s
 
   -- the same, where it is shown with variables alone
   at_variables : (r : Rule) (P : ℕ → Type 0) → ((n : ℕ) → P n → BreaksStaticRule system dropped r (AtVariable n))
@@ -147,9 +165,10 @@ module _ (system : System ℕ) (dropped : List ℕ) where
   s6_of (s6 b) = b
 
   module _ (p : GtsParts) (views : Views p system) where
-    pub refused1 : (least : Option ℕ) → IsLeast (IsJointAt p) least → (e : FragmentFault)
-        → IsShownWith 1 AtEvent least (Err e) → IsRefused system dropped e
-    refused1 = refuse S1 AtEvent (IsJointAt p) first_rule (first_joint_shown p system views dropped)
+    pub refused1 : (order least : Option ℕ) → IsLeast (IsJointAt p) least → (e : FragmentFault)
+        → IsShownWith 1 AtEvent least (Err e) → IsRefusedUpTo order system dropped e
+    refused1 order = refuse order S1 (omega arith) AtEvent (IsJointAt p) first_rule
+        (first_joint_shown p system views dropped)
 
     pub kept1 : (least : Option ℕ) (u : Unit {0}) → IsLeast (IsJointAt p) least → IsShownWith 1 AtEvent least (Ok u)
         → KeepsBelow system dropped 2
@@ -158,9 +177,9 @@ module _ (system : System ℕ) (dropped : List ℕ) where
 
     module _ (sound : IsSound p) (marks moving : List Bool) (firsts : List (Option VarId))
         (are : AreUnits p dropped marks moving firsts) (below : KeepsBelow system dropped 2) where
-      pub refused2 : (least : Option ℕ) → IsLeast (IsStateless moving firsts) least → (e : FragmentFault)
-          → IsShownWith 2 AtUnit least (Err e) → IsRefused system dropped e
-      refused2 = refuse S2 AtUnit (IsStateless moving firsts) below
+      pub refused2 : (order least : Option ℕ) → IsLeast (IsStateless moving firsts) least → (e : FragmentFault)
+          → IsShownWith 2 AtUnit least (Err e) → IsRefusedUpTo order system dropped e
+      refused2 order = refuse order S2 (omega arith) AtUnit (IsStateless moving firsts) below
           (first_stateless_shown p system views dropped sound marks moving firsts are)
 
       pub kept2 : (least : Option ℕ) (u : Unit {0}) → IsLeast (IsStateless moving firsts) least
@@ -169,21 +188,24 @@ module _ (system : System ℕ) (dropped : List ℕ) where
           (nowhere (IsStateless moving firsts) 2 AtUnit least u h s))
 
     module _ (sound : IsSound p) (below : KeepsBelow system dropped 7) where
-      pub judged7 : (found : Option Wide) → IsFirstWide p found → (r : Result (Unit {0}) FragmentFault)
-          → IsWideShown found r → OnResult (λ u. KeepsBelow system dropped 8) (IsRefused system dropped) r
-      judged7 None h (Ok u) s = next_rule S7 below (none_wide_keeps p system views h)
-      judged7 None h (Err e) s = absurd s
-      judged7 (Some w) h (Ok u) s = absurd s
-      judged7 (Some (wide.Flow n)) h (Err e) s = outside S7 (AtVariable n) below
+      pub judged7 : (order : Option ℕ) (found : Option Wide) → IsFirstWide p found
+          → (r : Result (Unit {0}) FragmentFault)
+          → IsWideShown found r → OnResult (λ u. KeepsBelow system dropped 8) (IsRefusedUpTo order system dropped) r
+      judged7 order None h (Ok u) s = next_rule S7 below (none_wide_keeps p system views h)
+      judged7 order None h (Err e) s = absurd s
+      judged7 order (Some w) h (Ok u) s = absurd s
+      judged7 order (Some (wide.Flow n)) h (Err e) s =
+          outside order S7 (asked_below order S7 (omega arith)) (AtVariable n) below
           (first_wide_shown p system views dropped sound (wide.Flow n) h) e s
-      judged7 (Some (wide.Observer n)) h (Err e) s = outside S7 (AtObserver n) below
+      judged7 order (Some (wide.Observer n)) h (Err e) s =
+          outside order S7 (asked_below order S7 (omega arith)) (AtObserver n) below
           (first_wide_shown p system views dropped sound (wide.Observer n) h) e s
 
   module _ {p : GtsParts} {kept : List KeptWay} (c : AreKeptWays p system dropped kept)
       (below : KeepsBelow system dropped 3) where
-    pub refused3 : (least : Option ℕ) → IsLeast (OtherInGuard kept) least → (e : FragmentFault)
-        → IsShownWith 3 AtVariable least (Err e) → IsRefused system dropped e
-    refused3 = refuse S3 AtVariable (OtherInGuard kept) below
+    pub refused3 : (order least : Option ℕ) → IsLeast (OtherInGuard kept) least → (e : FragmentFault)
+        → IsShownWith 3 AtVariable least (Err e) → IsRefusedUpTo order system dropped e
+    refused3 order = refuse order S3 (omega arith) AtVariable (OtherInGuard kept) below
         (at_variables S3 (OtherInGuard kept) (λ n h. s3 (guard_breaks c n h))
         (λ n b. guard_other c (below S1 (omega arith)) (below S2 (omega arith)) n (s3_of b)))
 
@@ -203,10 +225,10 @@ module _ (system : System ℕ) (dropped : List ℕ) where
         break4 n (inl h) = s4 (action_breaks a.ways n h)
         break4 n (inr h) = s4 (wrong_breaks a n h)
 
-        pub refused4 : (x y z : Option ℕ) → z ≡ lesser_of x y → IsLeast (OtherInAction kept) x
+        pub refused4 : (order x y z : Option ℕ) → z ≡ lesser_of x y → IsLeast (OtherInAction kept) x
             → IsLeast (IsWrongAt reaches) y → (e : FragmentFault) → IsShownWith 4 AtVariable z (Err e)
-            → IsRefused system dropped e
-        refused4 x y z is h k e s = refuse S4 AtVariable BreaksFour below
+            → IsRefusedUpTo order system dropped e
+        refused4 order x y z is h k e s = refuse order S4 (omega arith) AtVariable BreaksFour below
             (at_variables S4 BreaksFour break4 (λ n b. broken_s4 a (below S1 (omega arith)) (below S2 (omega arith)) n
             (s4_of b)))
             (lesser_of x y) (lesser_least (OtherInAction kept) (IsWrongAt reaches) x y h k) e
@@ -222,9 +244,9 @@ module _ (system : System ℕ) (dropped : List ℕ) where
             (below S2 (omega arith)) (λ n q. none n (inl q)) (λ n q. none n (inr q))))
 
       module _ (below : KeepsBelow system dropped 6) where
-        pub refused6 : (least : Option ℕ) → IsLeast (IsAgainAt reaches) least → (e : FragmentFault)
-            → IsShownWith 6 AtVariable least (Err e) → IsRefused system dropped e
-        refused6 = refuse S6 AtVariable (IsAgainAt reaches) below
+        pub refused6 : (order least : Option ℕ) → IsLeast (IsAgainAt reaches) least → (e : FragmentFault)
+            → IsShownWith 6 AtVariable least (Err e) → IsRefusedUpTo order system dropped e
+        refused6 order = refuse order S6 (omega arith) AtVariable (IsAgainAt reaches) below
             (at_variables S6 (IsAgainAt reaches) (λ n h. s6 (again_breaks a n h))
             (λ n b. breaks_again a (below S1 (omega arith)) (below S2 (omega arith)) n (s6_of b)))
 
@@ -237,9 +259,9 @@ module _ (system : System ℕ) (dropped : List ℕ) where
   module _ {p : GtsParts} {kept : List KeptWay} {reaches : List Reach} {live : List Live}
       (d : AreLiveEdges p system dropped kept reaches live) where
     module _ (below : KeepsBelow system dropped 5) where
-      pub refused5 : (least : Option ℕ) → IsLeast (IsShared live (length live)) least → (e : FragmentFault)
-          → IsShownWith 5 AtVariable least (Err e) → IsRefused system dropped e
-      refused5 = refuse S5 AtVariable (IsShared live (length live)) below
+      pub refused5 : (order least : Option ℕ) → IsLeast (IsShared live (length live)) least → (e : FragmentFault)
+          → IsShownWith 5 AtVariable least (Err e) → IsRefusedUpTo order system dropped e
+      refused5 order = refuse order S5 (omega arith) AtVariable (IsShared live (length live)) below
           (at_variables S5 (IsShared live (length live)) (λ n h. s5
           (shared_breaks d (below S1 (omega arith)) (below S2 (omega arith)) n h))
           (λ n b. breaks_shared d (below S1 (omega arith)) (below S2 (omega arith)) n (s5_of b)))
@@ -256,15 +278,19 @@ module _ (system : System ℕ) (dropped : List ℕ) where
             → ⊥
         nothing_before other h b = elim h [ ]
 
-        pub counted : (r : Result (Unit {0}) FragmentFault) → IsCounted (length s.events.items) r
-            → OnResult (λ u. KeepsBelow system dropped 9) (IsRefused system dropped) r
-        counted (Ok u) h = next_rule S8 below
-            (few_keep d (below S1 (omega arith)) (below S2 (omega arith)) count s is h)
-        counted (Err e) h = outside S8 AtWhole below (record {
+        -- where a number of events is given the rules that are asked are those below the eighth, else it is judged too
+        pub counted : (order : Option ℕ) (r : Result (Unit {0}) FragmentFault)
+            → IsCountedUpTo order (length s.events.items) r
+            → OnResult (λ u. KeepsUpTo order system dropped) (IsRefusedUpTo order system dropped) r
+        counted None (Ok u) h = all_rules (next_rule S8 below
+            (few_keep d (below S1 (omega arith)) (below S2 (omega arith)) count s is h))
+        counted None (Err e) h = outside None S8 tt AtWhole below (record {
           breaks = s8 (many_break d count s is h.0);
           is_first =
               nothing_before;
         }) e h.1
+        counted (Some k) (Ok u) h = record { each = λ rule asked. below rule asked }
+        counted (Some k) (Err e) h = absurd h
 
 -- what is known of the units, as it is read
 pub units_are : (p : GtsParts) (dropped given : List ℕ) (count : ℕ) (marks seen moving : List Bool)
@@ -296,17 +322,17 @@ module _ (system : System ℕ) (dropped : List ℕ) where
     are = subst (λ (z : List Bool). AreKept p z (length p.events.items) 0 kept) i k;
   }
 
-  pub judged6 : (p : GtsParts) (reaches : List Reach) → HasReaches 6 p reaches system dropped → (least : Option ℕ)
-      → IsLeast (IsAgainAt reaches) least → (r : Result (Unit {0}) FragmentFault)
+  pub judged6 : (order : Option ℕ) (p : GtsParts) (reaches : List Reach) → HasReaches 6 p reaches system dropped
+      → (least : Option ℕ) → IsLeast (IsAgainAt reaches) least → (r : Result (Unit {0}) FragmentFault)
       → IsShownWith 6 AtVariable least r → OnResult (λ u. HasReaches 7 p reaches system dropped)
-      (IsRefused system dropped) r
-  judged6 p reaches h least l (Ok u) s = record {
+      (IsRefusedUpTo order system dropped) r
+  judged6 order p reaches h least l (Ok u) s = record {
     kept = h.kept;
     reached = h.reached;
     keeps = kept6 system dropped
         h.reached h.keeps least u l s;
   }
-  judged6 p reaches h least l (Err e) s = refused6 system dropped h.reached h.keeps least l e s
+  judged6 order p reaches h least l (Err e) s = refused6 system dropped h.reached h.keeps order least l e s
 
   -- what is known goes on where more rules are kept
   pub reaches_on : (m n : ℕ) (p : GtsParts) (reaches read : List Reach) → HasReaches m p reaches system dropped
@@ -327,49 +353,23 @@ module _ (system : System ℕ) (dropped : List ℕ) where
     keeps = k;
   }
 
-  pub all_rules : KeepsBelow system dropped 9 → KeepsAll system dropped
-  all_rules below = record { each = λ rule. each rule }
-    where
-      each : (rule : Rule) → KeepsStaticRule system dropped rule
-      each S1 = below S1 (omega arith)
-      each S2 = below S2 (omega arith)
-      each S3 = below S3 (omega arith)
-      each S4 = below S4 (omega arith)
-      each S5 = below S5 (omega arith)
-      each S6 = below S6 (omega arith)
-      each S7 = below S7 (omega arith)
-      each S8 = below S8 (omega arith)
-
   -- what is known where a rule more is kept
-  seen_next : (p : GtsParts) → IsSeen 7 p system dropped → (r : Result (Unit {0}) FragmentFault)
-      → OnResult (λ u. KeepsBelow system dropped 8) (IsRefused system dropped) r
-      → OnResult (λ u. IsSeen 8 p system dropped) (IsRefused system dropped) r
-  seen_next p h (Ok u) k = record { views = h.views; keeps = k }
-  seen_next p h (Err e) k = k
+  seen_next : (order : Option ℕ) (p : GtsParts) → IsSeen 7 p system dropped
+      → (r : Result (Unit {0}) FragmentFault)
+      → OnResult (λ u. KeepsBelow system dropped 8) (IsRefusedUpTo order system dropped) r
+      → OnResult (λ u. IsSeen 8 p system dropped) (IsRefusedUpTo order system dropped) r
+  seen_next order p h (Ok u) k = record { views = h.views; keeps = k }
+  seen_next order p h (Err e) k = k
 
-  pub values_judged : (p : GtsParts) → IsSound p → IsSeen 7 p system dropped → (found : Option Wide)
-      → IsFirstWide p found → (r : Result (Unit {0}) FragmentFault) → IsWideShown found r
-      → OnResult (λ u. IsSeen 8 p system dropped) (IsRefused system dropped) r
-  values_judged p sound h found f r s = seen_next p h r (judged7 system dropped p h.views sound h.keeps found f r s)
+  pub values_judged : (order : Option ℕ) (p : GtsParts) → IsSound p → IsSeen 7 p system dropped
+      → (found : Option Wide) → IsFirstWide p found → (r : Result (Unit {0}) FragmentFault) → IsWideShown found r
+      → OnResult (λ u. IsSeen 8 p system dropped) (IsRefusedUpTo order system dropped) r
+  values_judged order p sound h found f r s = seen_next order p h r
+      (judged7 system dropped p h.views sound h.keeps order found f r s)
 
-  counted_next : (s : Sharing) → HasSharing 8 s system dropped → (r : Result (Unit {0}) FragmentFault)
-      → OnResult (λ u. KeepsBelow system dropped 9) (IsRefused system dropped) r
-      → OnResult (λ u. HasSharing 9 s system dropped) (IsRefused system dropped) r
-  counted_next s h (Ok u) k = record {
-    parts = h.parts;
-    kept = h.kept;
-    reaches = h.reaches;
-    live = h.live;
-    edges =
-        h.edges;
-    count = h.count;
-    sharing = h.sharing;
-    keeps = k;
-  }
-  counted_next s h (Err e) k = k
-
-  pub events_judged : (s : Sharing) → HasSharing 8 s system dropped → (count : ℕ) → count ≡ length s.events.items
-      → (r : Result (Unit {0}) FragmentFault) → IsCounted count r
-      → OnResult (λ u. HasSharing 9 s system dropped) (IsRefused system dropped) r
-  events_judged s h count i r k = counted_next s h r (counted system dropped h.edges h.count s h.sharing h.keeps r
-      (subst (λ (z : ℕ). IsCounted z r) i k))
+  pub events_judged : (order : Option ℕ) (s : Sharing) → HasSharing 8 s system dropped → (count : ℕ)
+      → count ≡ length s.events.items
+      → (r : Result (Unit {0}) FragmentFault) → IsCountedUpTo order count r
+      → OnResult (λ u. KeepsUpTo order system dropped) (IsRefusedUpTo order system dropped) r
+  events_judged order s h count i r k = counted system dropped h.edges h.count s h.sharing h.keeps order r
+      (subst (λ (z : ℕ). IsCountedUpTo order z r) i k)

@@ -33,6 +33,12 @@ abbrev pub IsCounted : ℕ → Result (Unit {0}) FragmentFault → Type 0
 IsCounted count (Ok x) = count ≤ 2048
 IsCounted count (Err e) = (2048 < count) × IsShown 8 AtWhole e
 
+-- the same where the cuts of all orders are asked for; where those of at most so many events are, it is not judged
+abbrev pub IsCountedUpTo : Option ℕ → ℕ → Result (Unit {0}) FragmentFault → Type 0
+IsCountedUpTo None count result = IsCounted count result
+IsCountedUpTo (Some k) count (Ok x) = Unit {0}
+IsCountedUpTo (Some k) count (Err e) = ⊥
+
 -- the lesser of two numbers, where there are both
 abbrev pub lesser_of : Option ℕ → Option ℕ → Option ℕ
 lesser_of None other = other

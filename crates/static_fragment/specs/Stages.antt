@@ -1,5 +1,5 @@
 -- What is known after each stage, and what a stage answers.
-use Rattle.std.specs.Prelude.{◌<◌, ℕ, List, length, Result, Ok, Err}
+use Rattle.std.specs.Prelude.{◌<◌, ℕ, List, length, Option, Result, Ok, Err}
 use Rattle.ar_meaning.specs.Systems.{System}
 use Rattle.ar_firing.specs.Rules.{Rule, rule_number, KeepsStaticRule}
 use Rattle.gts_core.specs.View.{Views}
@@ -14,7 +14,7 @@ use Rattle.static_fragment.specs.Units.{AreUnits}
 use Rattle.static_fragment.specs.Setting.{AreKeptWays, AreReached, AreLiveEdges}
 use Rattle.static_fragment.specs.declared.faults.FragmentFault.{FragmentFault}
 use Rattle.static_fragment.specs.declared.stages.Units.{Units}
-use Rattle.static_fragment.specs.Recognised.{IsRefused}
+use Rattle.static_fragment.specs.Recognised.{IsRefusedUpTo}
 
 -- the rules with a lesser number are kept
 abbrev pub KeepsBelow : System ℕ → List ℕ → ℕ → Type 0
@@ -25,12 +25,13 @@ abbrev pub OnResult : {A : Type 0} → (A → Type 0) → (FragmentFault → Typ
 OnResult after refused (Ok a) = after a
 OnResult after refused (Err e) = refused e
 
--- of each system and its dropped events of which the one was known the other is known now, or the system is refused
+-- of each system and its dropped events of which the one was known the other is known now, or the system is refused; so
+-- whatever the number of events of the cuts that are asked for
 abbrev pub Judges : {A : Type 0} → (System ℕ → List ℕ → Type 0) → (System ℕ → List ℕ → A → Type 0)
     → Result A FragmentFault
     → Type 0
-Judges before after result = (system : System ℕ) (dropped : List ℕ) → before system dropped
-    → OnResult (after system dropped) (IsRefused system dropped) result
+Judges before after result = (order : Option ℕ) (system : System ℕ) (dropped : List ℕ) → before system dropped
+    → OnResult (after system dropped) (IsRefusedUpTo order system dropped) result
 
 -- its units are known, and the first two rules are kept
 pub record HasUnits (p : GtsParts) (u : Units) (system : System ℕ) (dropped : List ℕ) : Type 0 where

@@ -6,7 +6,7 @@ ghost use Rattle.gts_core.specs.View.{Views};
 ghost use Rattle.mode_search.specs.Events.{numbers_of};
 ghost use Rattle.mode_trees.specs.Views.{trees_of, number_in};
 ghost use Rattle.mode_trees.specs.Ways.{OwnTheirWays};
-ghost use Rattle.static_fragment.specs.Recognised.{IsRecognised, IsRefused};
+ghost use Rattle.static_fragment.specs.Recognised.{IsRecognised, IsRefused, IsRecognisedUpTo, IsRefusedUpTo};
 
 use crate::faults::FragmentFault;
 use crate::showing::{at_variable, at_whole};
@@ -39,6 +39,28 @@ pub fn recognise(alloc: Global, gts: &Gts, dropped: &[EventId]) -> Result<Forest
     ensures outside { (system : System ℕ) → Views gts.now system
         → IfErr result (IsRefused system (numbers_of dropped.now)) }
 {
+    recognise_up_to(alloc, gts, dropped, None)
+}
+
+/// The same where only cuts of at most `order` events are asked for, if a number is given: the eighth rule,
+/// which says how many events may have a live edge, is not asked then. The first seven are.
+///
+/// # Errors
+/// `Outside` with the least rule that the system breaks, which is one of those that are asked, and the
+/// first thing that this is shown with; `Memory` where memory was refused.
+pub fn recognise_up_to(
+    alloc: Global,
+    gts: &Gts,
+    dropped: &[EventId],
+    order: Option<u32>,
+) -> Result<Forest, FragmentFault>
+    ensures ok { (system : System ℕ) → Views gts.now system
+        → IfOk result (λ f. IsRecognisedUpTo order system (numbers_of dropped.now)
+        (trees_of (number_in gts.now) f)) }
+    ensures ways { IfOk result (λ f. OwnTheirWays gts.now f.trees.items) }
+    ensures outside { (system : System ℕ) → Views gts.now system
+        → IfErr result (IsRefusedUpTo order system (numbers_of dropped.now)) }
+{
     let parts = gts.parts();
     let units = judged_units(alloc, parts, dropped)?;
     let kept = judged_ways(alloc, parts, &units)?;
@@ -46,7 +68,7 @@ pub fn recognise(alloc: Global, gts: &Gts, dropped: &[EventId]) -> Result<Forest
     let sharing = judged_sharing(alloc, parts, &reaches)?;
     at_variable(6, least_again(&reaches))?;
     judge_values(alloc, parts)?;
-    at_whole(sharing.events.len())?;
+    at_whole(order, sharing.events.len())?;
     let trees = forest(alloc, parts, &units.moving, &reaches)?;
     Ok(trees)
 }

@@ -1,7 +1,7 @@
 //! Refusals with a rule and what it is shown with.
 
 ghost use Rattle.ar_firing.specs.Rules.{AtVariable};
-ghost use Rattle.static_fragment.specs.Shown.{IsShownWith, IsCounted};
+ghost use Rattle.static_fragment.specs.Shown.{IsShownWith, IsCountedUpTo};
 
 use crate::faults::{FragmentFault, Spot};
 use ar_base::VarId;
@@ -19,12 +19,12 @@ pub(crate) fn at_variable(rule: u8, found: Option<u32>) -> Result<(), FragmentFa
 // The most events with a live edge.
 const MOST_EVENTS: usize = 2_048;
 
-// Refuses with the eighth rule where more events have a live edge.
-pub(crate) fn at_whole(count: usize) -> Result<(), FragmentFault>
-    ensures { IsCounted count result }
+// Refuses with the eighth rule where more events have a live edge, and the cuts of all orders are asked for.
+pub(crate) fn at_whole(order: Option<u32>, count: usize) -> Result<(), FragmentFault>
+    ensures { IsCountedUpTo order count result }
 {
-    if count > MOST_EVENTS {
-        return Err(FragmentFault::Outside(8, Spot::Whole));
+    match order {
+        None if count > MOST_EVENTS => Err(FragmentFault::Outside(8, Spot::Whole)),
+        _ => Ok(()),
     }
-    Ok(())
 }

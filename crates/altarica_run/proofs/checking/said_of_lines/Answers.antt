@@ -8,10 +8,10 @@ pub verdicts-requires-clause-observer : goal.verdicts-requires-clause-observer
 verdicts-requires-clause-observer c = c.requires.1.inside
 
 pub verdicts-requires-clause-known : goal.verdicts-requires-clause-known
-verdicts-requires-clause-known c = c.requires.2.known
+verdicts-requires-clause-known c = c.requires.2
 
 pub returns : goal.returns
-returns c = λ w asked flat views o stands.
+returns c = λ w sought flat views o stands.
     let q = c.args.request.now in
-    said_same q.system flat w.dropped q.dropped.items c.args.chains.now q.wanted.value asked.dropped.are o _
+    said_same q.system flat w.dropped q.dropped.items c.args.chains.now q.wanted.value sought.dropped.are o _
     (rw c.deref.ensures.value at c.verdicts.ensures flat views o stands)

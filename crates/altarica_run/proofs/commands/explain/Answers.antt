@@ -16,7 +16,7 @@ elaborate-requires g c = c.requires.given.model
 pub returns-in_err-model : goal.returns-in_err-model
 returns-in_err-model g c =
     let r = err_from_is_err_and c.from_residual.result c.from_residual.ensures.1 in
-    elaborate_stops c.args.job.now c.args.texts _ _ _ _ r.1 r.2 c.in_err-model.ensures
+    elaborate_stops c.args.asked.now c.args.texts _ _ _ _ r.1 r.2 c.in_err-model.ensures
 
 pub commands_of-requires-clause-source : goal.commands_of-requires-clause-source
 commands_of-requires-clause-source g c = let f = c.in_ok-model.ensures in (f.0, f.2)
@@ -28,14 +28,14 @@ commands_of-requires-clause-there g c =
 pub returns-in_err-commands : goal.returns-in_err-commands
 returns-in_err-commands g c =
     let r = err_from_is_err_and c.from_residual-in_err-commands.result c.from_residual-in_err-commands.ensures.1 in
-    let job = c.args.job.now in
+    let asked = c.args.asked.now in
     let t = c.args.texts in
     let e = c.requires.command in
     let script = ap (λ (v : Verb). is_script (shape_of v).files) e in
     let list = ap (λ (v : Verb). is_list (shape_of v).files) e in
     let made = ap (λ (v : Verb). is_made (shape_of v).files) e in
     let f = c.in_ok-model.ensures in
-    script_stops job t f.0 f.1 script list made _ _ _ _ r.1 r.2 (c.in_err-commands.ensures f.0 f.2)
+    script_stops asked t f.0 f.1 script list made _ _ _ _ r.1 r.2 (c.in_err-commands.ensures f.0 f.2)
 
 pub shown_of-requires : goal.shown_of-requires
 shown_of-requires g c = let f = c.in_ok-model.ensures in record { source = (f.0, f.2) }
@@ -43,7 +43,7 @@ shown_of-requires g c = let f = c.in_ok-model.ensures in record { source = (f.0,
 pub returns-in_err-shown : goal.returns-in_err-shown
 returns-in_err-shown g c =
     let r = err_from_is_err_and c.from_residual-in_err-shown.result c.from_residual-in_err-shown.ensures.1 in
-    let job = c.args.job.now in
+    let asked = c.args.asked.now in
     let t = c.args.texts in
     let e = c.requires.command in
     let script = ap (λ (v : Verb). is_script (shape_of v).files) e in
@@ -55,7 +55,7 @@ returns-in_err-shown g c =
     let table = ap has_table e in
     let explains = ap (λ (v : Verb). (shape_of v).explains) e in
     let k = c.in_ok-commands.ensures f.0 f.2 in
-    shown_stops job t f.0 f.1 script list made k.0 k.1 none static table explains _ _ _ _ r.1 r.2
+    shown_stops asked t f.0 f.1 script list made k.0 k.1 none static table explains _ _ _ _ r.1 r.2
     (c.in_err-shown.ensures f.0 f.2)
 
 pub write_reasons-requires : goal.write_reasons-requires
@@ -65,14 +65,14 @@ write_reasons-requires g c =
     let n = c.in_ok-shown.ensures f.0 f.2 in
     record {
       ready = (
-        record (bare f.0) { commands = k.0; shown = n.0 },
+        record (bare c.args.asked.now.order f.0) { commands = k.0; shown = n.0 },
         rw c.deref.ensures.value (record { flat = f.2.flat; commands = k.2; shown = n.2 }),
       );
     }
 
 pub returns : goal.returns
 returns g c =
-    let job = c.args.job.now in
+    let asked = c.args.asked.now in
     let t = c.args.texts in
     let e = c.requires.command in
     let script = ap (λ (v : Verb). is_script (shape_of v).files) e in
@@ -86,11 +86,11 @@ returns g c =
     let k = c.in_ok-commands.ensures f.0 f.2 in
     let n = c.in_ok-shown.ensures f.0 f.2 in
     let p = c.in_ok-model.model.system in
-    let w = record (bare f.0) { commands = k.0; shown = n.0 } in
+    let w = record (bare c.args.asked.now.order f.0) { commands = k.0; shown = n.0 } in
     let is : IsScripted w p c.in_ok-commands.commands.items c.in_ok-shown.shown =
     record { flat = f.2.flat; commands = k.2; shown = n.2 } in
-    let h = rw c.deref.ensures.value at c.write_reasons.ensures job w in
-    done job t f.0 f.1 w _
-    (shown_ready job t f.0 f.1 script list made k.0 k.1 none static table explains n.0 n.1)
-    (written (subst (λ (z : Status). IsWritten (Tells job w) (g.K.Sink.state c.args.out.now)
+    let h = rw c.deref.ensures.value at c.write_reasons.ensures asked w in
+    done asked t f.0 f.1 w _
+    (shown_ready asked t f.0 f.1 script list made k.0 k.1 none static table explains n.0 n.1)
+    (written (subst (λ (z : Status). IsWritten (Tells asked w) (g.K.Sink.state c.args.out.now)
     (g.K.Sink.state c.write_reasons.new.out) z) (sym c.explained.ensures) (h is e)))

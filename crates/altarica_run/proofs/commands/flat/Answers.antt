@@ -14,17 +14,17 @@ elaborate-requires g c = c.requires.given.model
 pub returns-in_err-model : goal.returns-in_err-model
 returns-in_err-model g c =
     let r = err_from_is_err_and c.from_residual.result c.from_residual.ensures.1 in
-    elaborate_stops c.args.job.now c.args.texts _ _ _ _ r.1 r.2 c.in_err-model.ensures
+    elaborate_stops c.args.asked.now c.args.texts _ _ _ _ r.1 r.2 c.in_err-model.ensures
 
 pub returns : goal.returns
 returns g c =
-    let job = c.args.job.now in
+    let asked = c.args.asked.now in
     let t = c.args.texts in
     let e = c.requires.command in
     let row = ap shape_of e in
     let none = c.requires.given.dropped (ap (λ (s : Shape). s.dropped) row) in
     let f = c.in_ok-model.ensures in
-    let w = bare f.0 in
-    done job t f.0 f.1 w _ (plain_ready job t f.0 f.1 row none)
-    (written (flattened job w c.in_ok-model.model.system f.2.flat e c.parts.ensures.sound _ _ c.written.ensures
+    let w = bare asked.order f.0 in
+    done asked t f.0 f.1 w _ (plain_ready asked t f.0 f.1 row none)
+    (written (flattened asked w c.in_ok-model.model.system f.2.flat e c.parts.ensures.sound _ _ c.written.ensures
     c.print.ensures))

@@ -1,4 +1,4 @@
-use Rattle.std.proofs.Common.{[], refl, ap}
+use Rattle.std.proofs.Common.{◌∙◌, [], refl, ap, arith}
 use Rattle.std.proofs.lemmas.Result.{err_from_is_err_and}
 use Rattle.run_words.specs.Commands.{shape_of, is_script, is_list}
 use Rattle.run_words.specs.declared.verbs.Verb.{Verb}
@@ -12,7 +12,7 @@ elaborate-requires g c = c.requires.given.model
 pub returns-in_err-model : goal.returns-in_err-model
 returns-in_err-model g c =
     let r = err_from_is_err_and c.from_residual.result c.from_residual.ensures.1 in
-    elaborate_stops c.args.job.now c.args.texts _ _ _ _ r.1 r.2 c.in_err-model.ensures
+    elaborate_stops c.args.asked.now c.args.texts _ _ _ _ r.1 r.2 c.in_err-model.ensures
 
 pub ranges-requires : goal.ranges-requires
 ranges-requires g c =
@@ -22,7 +22,7 @@ ranges-requires g c =
 pub returns-in_err-ranges : goal.returns-in_err-ranges
 returns-in_err-ranges g c =
     let r = err_from_is_err_and c.from_residual-in_err-ranges.result c.from_residual-in_err-ranges.ensures.1 in
-    memory_stops c.args.job.now c.args.texts _ _ _ r.1 r.2
+    memory_stops c.args.asked.now c.args.texts _ _ _ r.1 r.2
 
 pub request_of-requires-clause-source : goal.request_of-requires-clause-source
 request_of-requires-clause-source g c = let f = c.in_ok-model.ensures in (f.0, f.2)
@@ -36,83 +36,85 @@ request_of-requires-clause-observer g c = c.requires.given.observer (ap has_tabl
 pub returns-in_err-request : goal.returns-in_err-request
 returns-in_err-request g c =
     let r = err_from_is_err_and c.from_residual-in_err-request.result c.from_residual-in_err-request.ensures.1 in
-    let job = c.args.job.now in
+    let asked = c.args.asked.now in
     let t = c.args.texts in
     let e = c.requires.command in
     let table = ap has_table e in
     let script = ap (λ (v : Verb). is_script (shape_of v).files) e in
     let list = ap (λ (v : Verb). is_list (shape_of v).files) e in
     let f = c.in_ok-model.ensures in
-    let second = no_lines job t f.0 f.1 table script list in
-    request_stops job t f.0 f.1 table script [] second _ _ _ _ r.1 r.2 (c.in_err-request.ensures.asked f.0 [] f.2)
+    let second = no_lines asked t f.0 f.1 table script list in
+    request_stops asked t f.0 f.1 table script [] second _ _ _ _ r.1 r.2 (c.in_err-request.ensures.sought f.0 [] f.2)
 
 pub forest_of-requires : goal.forest_of-requires
 forest_of-requires g c =
     let f = c.in_ok-model.ensures in
-    let q = c.in_ok-request.ensures.asked f.0 [] f.2 in
+    let q = c.in_ok-request.ensures.sought f.0 [] f.2 in
     rw c.deref.ensures.value q.2.requested.dropped.inside
 
 pub returns-in_err-forest : goal.returns-in_err-forest
 returns-in_err-forest g c =
     let r = err_from_is_err_and c.from_residual-in_err-forest.result c.from_residual-in_err-forest.ensures.1 in
-    let job = c.args.job.now in
+    let asked = c.args.asked.now in
     let t = c.args.texts in
     let e = c.requires.command in
     let table = ap has_table e in
     let script = ap (λ (v : Verb). is_script (shape_of v).files) e in
     let list = ap (λ (v : Verb). is_list (shape_of v).files) e in
     let f = c.in_ok-model.ensures in
-    let second = no_lines job t f.0 f.1 table script list in
-    let q = c.in_ok-request.ensures.asked f.0 [] f.2 in
+    let second = no_lines asked t f.0 f.1 table script list in
+    let q = c.in_ok-request.ensures.sought f.0 [] f.2 in
     let h = rw c.deref.ensures.value at c.in_err-forest.ensures q.0 q.2.requested.flat in
-    forest_stops job t f.0 f.1 table script [] second q.0 q.1 _ _ _ _ r.1 r.2 (h q.2.requested.dropped.are)
+    forest_stops asked t f.0 f.1 table script [] second q.0 q.1 _ _ _ _ r.1 r.2 (h q.2.requested.dropped.are q.2.same_order)
 
 pub table_of-requires-clause-observer : goal.table_of-requires-clause-observer
 table_of-requires-clause-observer g c =
     let f = c.in_ok-model.ensures in
-    let q = c.in_ok-request.ensures.asked f.0 [] f.2 in
+    let q = c.in_ok-request.ensures.sought f.0 [] f.2 in
     q.2.requested.inside
 
 pub table_of-requires-clause-forest : goal.table_of-requires-clause-forest
 table_of-requires-clause-forest g c =
     let f = c.in_ok-model.ensures in
-    let q = c.in_ok-request.ensures.asked f.0 [] f.2 in
+    let q = c.in_ok-request.ensures.sought f.0 [] f.2 in
     let is = q.2.requested in
     let h = rw c.deref.ensures.value at c.in_ok-forest.ensures q.0 is.flat in
-    (h is.dropped.are).2.written
+    let few = (h is.dropped.are q.2.same_order).2.few in
+    let events = is.few in
+    omega (arith, few, events)
 
 pub returns-in_err-table : goal.returns-in_err-table
 returns-in_err-table g c =
     let r = err_from_is_err_and c.from_residual-in_err-table.result c.from_residual-in_err-table.ensures.1 in
-    let job = c.args.job.now in
+    let asked = c.args.asked.now in
     let t = c.args.texts in
     let e = c.requires.command in
     let table = ap has_table e in
     let script = ap (λ (v : Verb). is_script (shape_of v).files) e in
     let list = ap (λ (v : Verb). is_list (shape_of v).files) e in
     let f = c.in_ok-model.ensures in
-    let second = no_lines job t f.0 f.1 table script list in
-    let q = c.in_ok-request.ensures.asked f.0 [] f.2 in
+    let second = no_lines asked t f.0 f.1 table script list in
+    let q = c.in_ok-request.ensures.sought f.0 [] f.2 in
     let is = q.2.requested in
     let p = c.in_ok-request.request.system in
     let h = rw c.deref.ensures.value at c.in_ok-forest.ensures q.0 is.flat in
-    let trees = h is.dropped.are in
+    let trees = h is.dropped.are q.2.same_order in
     let has = (forest_here p q.0 c.in_ok-forest.forest trees).1 in
-    table_stops job t f.0 f.1 table script [] second q.0 q.1 p c.in_ok-forest.forest trees _ _ _ _ r.1 r.2
+    table_stops asked t f.0 f.1 table script [] second q.0 q.1 p c.in_ok-forest.forest trees _ _ _ _ r.1 r.2
     (c.in_err-table.ensures q.0 is.flat is.wanted has)
 
 pub draw-requires-clause-analysed : goal.draw-requires-clause-analysed
 draw-requires-clause-analysed g c =
-    let job = c.args.job.now in
+    let asked = c.args.asked.now in
     let t = c.args.texts in
     let e = c.requires.command in
     let table = ap has_table e in
     let script = ap (λ (v : Verb). is_script (shape_of v).files) e in
     let list = ap (λ (v : Verb). is_list (shape_of v).files) e in
     let f = c.in_ok-model.ensures in
-    let second = no_lines job t f.0 f.1 table script list in
-    let n = tabled job t f.0 f.1 table script [] second c.in_ok-request.request c.in_ok-forest.forest
-    c.in_ok-table.table (c.in_ok-request.ensures.asked f.0 [] f.2)
+    let second = no_lines asked t f.0 f.1 table script list in
+    let n = tabled asked t f.0 f.1 table script [] second c.in_ok-request.request c.in_ok-forest.forest
+    c.in_ok-table.table (c.in_ok-request.ensures.sought f.0 [] f.2)
     (λ w is. rw c.deref.ensures.value at c.in_ok-forest.ensures w is) c.in_ok-table.ensures in
     (n.w, c.in_ok-request.request.system, n.has)
 
@@ -121,16 +123,16 @@ draw-requires-clause-nodes g c = c.requires.given.nodes
 
 pub write_modules-requires-clause-drawn : goal.write_modules-requires-clause-drawn
 write_modules-requires-clause-drawn g c =
-    let job = c.args.job.now in
+    let asked = c.args.asked.now in
     let t = c.args.texts in
     let e = c.requires.command in
     let table = ap has_table e in
     let script = ap (λ (v : Verb). is_script (shape_of v).files) e in
     let list = ap (λ (v : Verb). is_list (shape_of v).files) e in
     let f = c.in_ok-model.ensures in
-    let second = no_lines job t f.0 f.1 table script list in
-    let n = tabled job t f.0 f.1 table script [] second c.in_ok-request.request c.in_ok-forest.forest
-    c.in_ok-table.table (c.in_ok-request.ensures.asked f.0 [] f.2)
+    let second = no_lines asked t f.0 f.1 table script list in
+    let n = tabled asked t f.0 f.1 table script [] second c.in_ok-request.request c.in_ok-forest.forest
+    c.in_ok-table.table (c.in_ok-request.ensures.sought f.0 [] f.2)
     (λ w is. rw c.deref.ensures.value at c.in_ok-forest.ensures w is) c.in_ok-table.ensures in
     drawn_there n (ap lists_cuts e) _ _ c.in-Ok-Cuts.field-0-is c.in-Ok-Cuts.ensures
 
@@ -139,16 +141,16 @@ write_modules-requires-clause-ranges g c = rw c.deref-in-Ok-Cuts.ensures.value c
 
 pub write_conflict-requires : goal.write_conflict-requires
 write_conflict-requires g c =
-    let job = c.args.job.now in
+    let asked = c.args.asked.now in
     let t = c.args.texts in
     let e = c.requires.command in
     let table = ap has_table e in
     let script = ap (λ (v : Verb). is_script (shape_of v).files) e in
     let list = ap (λ (v : Verb). is_list (shape_of v).files) e in
     let f = c.in_ok-model.ensures in
-    let second = no_lines job t f.0 f.1 table script list in
-    let n = tabled job t f.0 f.1 table script [] second c.in_ok-request.request c.in_ok-forest.forest
-    c.in_ok-table.table (c.in_ok-request.ensures.asked f.0 [] f.2)
+    let second = no_lines asked t f.0 f.1 table script list in
+    let n = tabled asked t f.0 f.1 table script [] second c.in_ok-request.request c.in_ok-forest.forest
+    c.in_ok-table.table (c.in_ok-request.ensures.sought f.0 [] f.2)
     (λ w is. rw c.deref.ensures.value at c.in_ok-forest.ensures w is) c.in_ok-table.ensures in
     record {
       drawn = drawn_there n (ap lists_cuts e) _ _ c.in-Ok-Conflicts.field-0-is c.in-Ok-Conflicts.ensures;
@@ -156,51 +158,52 @@ write_conflict-requires g c =
 
 pub returns-in-Ok-Cuts : goal.returns-in-Ok-Cuts
 returns-in-Ok-Cuts g c =
-    let job = c.args.job.now in
+    let asked = c.args.asked.now in
     let t = c.args.texts in
     let e = c.requires.command in
     let table = ap has_table e in
     let script = ap (λ (v : Verb). is_script (shape_of v).files) e in
     let list = ap (λ (v : Verb). is_list (shape_of v).files) e in
     let f = c.in_ok-model.ensures in
-    let second = no_lines job t f.0 f.1 table script list in
-    let n = tabled job t f.0 f.1 table script [] second c.in_ok-request.request c.in_ok-forest.forest
-    c.in_ok-table.table (c.in_ok-request.ensures.asked f.0 [] f.2)
+    let second = no_lines asked t f.0 f.1 table script list in
+    let n = tabled asked t f.0 f.1 table script [] second c.in_ok-request.request c.in_ok-forest.forest
+    c.in_ok-table.table (c.in_ok-request.ensures.sought f.0 [] f.2)
     (λ w is. rw c.deref.ensures.value at c.in_ok-forest.ensures w is) c.in_ok-table.ensures in
     drawn_told n (ap lists_cuts e) f.1 c.write_modules.result c.printed.ensures _ _ c.in-Ok-Cuts.field-0-is c.in-Ok-Cuts.ensures
-    (λ w asked drawn. c.write_modules.ensures job w drawn
-    (units_there f.0 w.source asked.source c.in_ok-ranges.ranges.items c.deref-in-Ok-Cuts.result.now
+    (λ w sought drawn. c.write_modules.ensures asked w drawn
+    (units_there f.0 w.source sought.source c.in_ok-ranges.ranges.items c.deref-in-Ok-Cuts.result.now
     c.deref-in-Ok-Cuts.ensures.value
-    (c.in_ok-ranges.ensures.of_units f.0.declarations.model f.0.declarations.units f.2.is_tree)) e)
+    (c.in_ok-ranges.ensures.of_units f.0.declarations.model f.0.declarations.units f.2.is_tree)) e
+    (sought.same_order ∙ c.requires.given.order (ap (λ (v : Verb). (shape_of v).order) e)))
 
 pub returns-in-Ok-Conflicts : goal.returns-in-Ok-Conflicts
 returns-in-Ok-Conflicts g c =
-    let job = c.args.job.now in
+    let asked = c.args.asked.now in
     let t = c.args.texts in
     let e = c.requires.command in
     let table = ap has_table e in
     let script = ap (λ (v : Verb). is_script (shape_of v).files) e in
     let list = ap (λ (v : Verb). is_list (shape_of v).files) e in
     let f = c.in_ok-model.ensures in
-    let second = no_lines job t f.0 f.1 table script list in
-    let n = tabled job t f.0 f.1 table script [] second c.in_ok-request.request c.in_ok-forest.forest
-    c.in_ok-table.table (c.in_ok-request.ensures.asked f.0 [] f.2)
+    let second = no_lines asked t f.0 f.1 table script list in
+    let n = tabled asked t f.0 f.1 table script [] second c.in_ok-request.request c.in_ok-forest.forest
+    c.in_ok-table.table (c.in_ok-request.ensures.sought f.0 [] f.2)
     (λ w is. rw c.deref.ensures.value at c.in_ok-forest.ensures w is) c.in_ok-table.ensures in
     drawn_told n (ap lists_cuts e) f.1 c.write_conflict.result c.printed-in-Ok-Conflicts.ensures _ _
-    c.in-Ok-Conflicts.field-0-is c.in-Ok-Conflicts.ensures (λ w asked drawn. c.write_conflict.ensures job w drawn)
+    c.in-Ok-Conflicts.field-0-is c.in-Ok-Conflicts.ensures (λ w sought drawn. c.write_conflict.ensures asked w drawn)
 
 pub returns : goal.returns
 returns g c =
-    let job = c.args.job.now in
+    let asked = c.args.asked.now in
     let t = c.args.texts in
     let e = c.requires.command in
     let table = ap has_table e in
     let script = ap (λ (v : Verb). is_script (shape_of v).files) e in
     let list = ap (λ (v : Verb). is_list (shape_of v).files) e in
     let f = c.in_ok-model.ensures in
-    let second = no_lines job t f.0 f.1 table script list in
-    let n = tabled job t f.0 f.1 table script [] second c.in_ok-request.request c.in_ok-forest.forest
-    c.in_ok-table.table (c.in_ok-request.ensures.asked f.0 [] f.2)
+    let second = no_lines asked t f.0 f.1 table script list in
+    let n = tabled asked t f.0 f.1 table script [] second c.in_ok-request.request c.in_ok-forest.forest
+    c.in_ok-table.table (c.in_ok-request.ensures.sought f.0 [] f.2)
     (λ w is. rw c.deref.ensures.value at c.in_ok-forest.ensures w is) c.in_ok-table.ensures in
     nodes_told n (ap lists_cuts e) f.1 c.write_nodes.result c.printed-in-Err.ensures _ c.in-Err.ensures
-    (λ w full. c.write_nodes.ensures job w refl (ap lists_cuts e) full)
+    (λ w full. c.write_nodes.ensures asked w refl (ap lists_cuts e) full)

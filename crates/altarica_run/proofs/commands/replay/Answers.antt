@@ -13,7 +13,7 @@ elaborate-requires g c = c.requires.given.model
 pub returns-in_err-model : goal.returns-in_err-model
 returns-in_err-model g c =
     let r = err_from_is_err_and c.from_residual.result c.from_residual.ensures.1 in
-    elaborate_stops c.args.job.now c.args.texts _ _ _ _ r.1 r.2 c.in_err-model.ensures
+    elaborate_stops c.args.asked.now c.args.texts _ _ _ _ r.1 r.2 c.in_err-model.ensures
 
 pub commands_of-requires-clause-source : goal.commands_of-requires-clause-source
 commands_of-requires-clause-source g c = let f = c.in_ok-model.ensures in (f.0, f.2)
@@ -25,14 +25,14 @@ commands_of-requires-clause-there g c =
 pub returns-in_err-commands : goal.returns-in_err-commands
 returns-in_err-commands g c =
     let r = err_from_is_err_and c.from_residual-in_err-commands.result c.from_residual-in_err-commands.ensures.1 in
-    let job = c.args.job.now in
+    let asked = c.args.asked.now in
     let t = c.args.texts in
     let e = c.requires.command in
     let script = ap (λ (v : Verb). is_script (shape_of v).files) e in
     let list = ap (λ (v : Verb). is_list (shape_of v).files) e in
     let made = ap (λ (v : Verb). is_made (shape_of v).files) e in
     let f = c.in_ok-model.ensures in
-    script_stops job t f.0 f.1 script list made _ _ _ _ r.1 r.2 (c.in_err-commands.ensures f.0 f.2)
+    script_stops asked t f.0 f.1 script list made _ _ _ _ r.1 r.2 (c.in_err-commands.ensures f.0 f.2)
 
 pub replay-requires : goal.replay-requires
 replay-requires g c =
@@ -41,7 +41,7 @@ replay-requires g c =
 
 pub returns : goal.returns
 returns g c =
-    let job = c.args.job.now in
+    let asked = c.args.asked.now in
     let t = c.args.texts in
     let e = c.requires.command in
     let script = ap (λ (v : Verb). is_script (shape_of v).files) e in
@@ -54,9 +54,9 @@ returns g c =
     let explains = ap (λ (v : Verb). (shape_of v).explains) e in
     let k = c.in_ok-commands.ensures f.0 f.2 in
     let p = c.in_ok-model.model.system in
-    let w = record (bare f.0) { commands = k.0 } in
+    let w = record (bare c.args.asked.now.order f.0) { commands = k.0 } in
     let is = f.2.flat in
-    done job t f.0 f.1 w _ (script_ready job t f.0 f.1 script list made k.0 k.1 none static table explains)
-    (replayed job w p is c.in_ok-commands.commands.items k.2.are
+    done asked t f.0 f.1 w _ (script_ready asked t f.0 f.1 script list made k.0 k.1 none static table explains)
+    (replayed asked w p is c.in_ok-commands.commands.items k.2.are
     (λ cs text end. (c.replays_of_the_source.ensures f.0 is.flat p is is.views cs text end).0) e _ _
     c.replayed.ensures (rw c.deref.ensures.value at c.replay.ensures is.flat is.views))

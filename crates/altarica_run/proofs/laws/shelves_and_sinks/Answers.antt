@@ -6,7 +6,7 @@ returns-clause-untouched_without_job c = λ k s gave never. untouched_of k s gav
 
 pub returns-clause-untouched_where_made : goal.returns-clause-untouched_where_made
 returns-clause-untouched_where_made c =
-    λ k s job gave is made. untouched_of k s gave (made_alone k.words (c.one_job.ensures k.words) job is made)
+    λ k s asked gave is made. untouched_of k s gave (made_alone k.words (c.one_job.ensures k.words) asked is made)
 
 pub returns-clause-refused_memory_writes_nothing : goal.returns-clause-refused_memory_writes_nothing
 returns-clause-refused_memory_writes_nothing c = λ k gave no_replay. unwritten_of k no_replay gave

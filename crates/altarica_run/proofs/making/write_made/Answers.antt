@@ -12,37 +12,37 @@ pub counts-requires : goal.counts-requires
 counts-requires g c = record { root = c.requires.drawn.3.answer.1 }
 
 pub returns-in_err-counted : goal.returns-in_err-counted
-returns-in_err-counted g c = λ job w trees drawn e same.
+returns-in_err-counted g c = λ asked w trees drawn e all same.
     let r = err_from_is_err_and c.from_residual.result c.from_residual.ensures.1 in
-    none_printed (Tells job w) _ _ r.1 r.2
+    none_printed (Tells asked w) _ _ r.1 r.2
 
 pub returns-in_err-put_made : goal.returns-in_err-put_made
-returns-in_err-put_made g c = λ job w trees drawn e same.
+returns-in_err-put_made g c = λ asked w trees drawn e all same.
     let r = err_from_is_err_and c.from_residual-in_err-put_made.result c.from_residual-in_err-put_made.ensures.1 in
     let p = c.args.system.now in
     let f = c.args.family.now in
     let sound = c.parts-parts.ensures.sound in
     let d = are_drawn w p trees drawn.table drawn.gates (c.lawful_systems.ensures.net p sound)
     (λ o h. c.lawful_systems.ensures.observers p o sound h)
-    c.drawn_sets.ensures.meant (Cuts f) drawn.answer in
-    let few = few_counted c.store_laws.ensures.stored_sections c.store_laws.ensures.room_for_families f.store f.root.n job.nodes
+    (c.drawn_sets.ensures.meant_up_to w.order) (Cuts f) drawn.answer in
+    let few = few_counted c.store_laws.ensures.stored_sections c.store_laws.ensures.room_for_families f.store f.root.n asked.job.nodes
     c.len-sound_store.ensures.sound drawn.answer.1 drawn.within in
-    let t = make_told w p trees drawn.table drawn.gates job e c.args.number same (sets_of f) _ d.0 d.1
+    let t = make_told w p trees drawn.table drawn.gates asked e all c.args.number same (sets_of f) _ d.0 d.1
     (made_text c.parts-parts.ensures.parts c.args.number c.in_ok-counted.ensures.sets
     c.in_ok-counted.ensures.largest) few in
-    printed_partly (Tells job w) _ Done t print.Write c.in_err-put_made.ensures _ _ r.1 r.2
+    printed_partly (Tells asked w) _ Done t print.Write c.in_err-put_made.ensures _ _ r.1 r.2
 
 pub returns : goal.returns
-returns g c = λ job w trees drawn e same.
+returns g c = λ asked w trees drawn e all same.
     let p = c.args.system.now in
     let f = c.args.family.now in
     let sound = c.parts-parts.ensures.sound in
     let d = are_drawn w p trees drawn.table drawn.gates (c.lawful_systems.ensures.net p sound)
     (λ o h. c.lawful_systems.ensures.observers p o sound h)
-    c.drawn_sets.ensures.meant (Cuts f) drawn.answer in
-    let few = few_counted c.store_laws.ensures.stored_sections c.store_laws.ensures.room_for_families f.store f.root.n job.nodes
+    (c.drawn_sets.ensures.meant_up_to w.order) (Cuts f) drawn.answer in
+    let few = few_counted c.store_laws.ensures.stored_sections c.store_laws.ensures.room_for_families f.store f.root.n asked.job.nodes
     c.len-sound_store.ensures.sound drawn.answer.1 drawn.within in
-    let t = make_told w p trees drawn.table drawn.gates job e c.args.number same (sets_of f) _ d.0 d.1
+    let t = make_told w p trees drawn.table drawn.gates asked e all c.args.number same (sets_of f) _ d.0 d.1
     (made_text c.parts-parts.ensures.parts c.args.number c.in_ok-counted.ensures.sets
     c.in_ok-counted.ensures.largest) few in
-    printed_whole (Tells job w) _ Done t tt c.in_ok-put_made.ensures
+    printed_whole (Tells asked w) _ Done t tt c.in_ok-put_made.ensures

@@ -1,5 +1,4 @@
 use Rattle.std.proofs.Common.{ℕ, List, Err, subst}
-use Rattle.ar_io.specs.Loads.{Load}
 use Rattle.job_stages.specs.Logs.{Grew}
 use Rattle.ar_base.specs.Texts.{bytes_of_all}
 use Rattle.ar_io.specs.Outside.{Rose}

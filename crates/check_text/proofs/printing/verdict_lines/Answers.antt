@@ -1,62 +1,37 @@
-use Rattle.std.proofs.Common.{◌≡◌, ◌++◌, ◌∷◌, [], List, ℕ, get_or, codes, decimal, sym, ◌∙◌, ap, append_assoc}
-use Rattle.ar_io.proofs.Writing.{writes_exit, writes_on, writes_front, writes_as, leaves_on, leaves_front}
-use Rattle.check_text.specs.Printed.{verdict_text, verdict_line}
+use Rattle.std.proofs.Common.{◌≡◌, ◌<◌, ◌++◌, ◌+◌, ℕ, Bool, Option, List, length, drop, get_or, sym, ◌∙◌, ap, arith}
+use Rattle.ar_io.proofs.Writing.{writes_exit, leaves_on, leaves_front}
+use Rattle.gts_core.specs.declared.bound.Chain.{Chain}
 use Rattle.cut_check.specs.declared.checking.Verdict.{Verdict}
-use Rattle.cut_check.specs.declared.checking.Verdict.TheVariants.{Good}
-use Rattle.check_text.proofs.Listing.{next_verdict}
+use Rattle.check_text.specs.Printed.{chain_line, verdict_lines}
+use Rattle.check_text.specs.Texts.{is_above, later}
+use Rattle.check_text.proofs.Listing.{next_chain}
 use Rattle.check_text.proofs.printing.verdict_lines.Goals as goal
 
--- the pieces make the line
-pieces : (n : ℕ) (v : Verdict) → codes "line " ++ (decimal n ++ (codes " " ++ (verdict_text v ++ 10 ∷ [])))
-    ≡ verdict_line n v
-pieces n v =
-    sym (append_assoc (codes "line ") (decimal n ++ (codes " " ++ verdict_text v)) (10 ∷ [])
-    ∙ ap (λ (z : List ℕ). codes "line " ++ z) (append_assoc (decimal n) (codes " " ++ verdict_text v) (10 ∷ [])
-    ∙ ap (λ (z : List ℕ). decimal n ++ z) (append_assoc (codes " ") (verdict_text v) (10 ∷ []))))
+-- the lines that are left begin with that of the next chain, whose test has this answer
+begins : (order : Option ℕ) (chains : List Chain) (left : List Verdict) (i : ℕ) (c : Chain) → i < length chains
+    → c ≡ get_or chains i c → (n : ℕ) → n ≡ length c.ways.items → (b : Bool) → b ≡ is_above order n
+    → verdict_lines order (drop i chains) left
+    ≡ chain_line b c.line left ++ verdict_lines order (drop (i + 1) chains) (later b left)
+begins order chains left i c lt is n long b e =
+    next_chain order chains left i c lt is
+    ∙ ap (λ (z : Bool). chain_line z c.line left ++ verdict_lines order (drop (i + 1) chains) (later z left))
+    (sym (e ∙ ap (is_above order) long))
 
-pub returns-in_err-write_text : goal.returns-in_err-write_text
-returns-in_err-write_text g c =
+pub returns-in_err-chain_line : goal.returns-in_err-chain_line
+returns-in_err-chain_line g c =
+    let item = c.chain-item.result in
+    let long : c.len.result ≡ length item.ways.items = omega (arith, c.len.ensures, item.ways.ok.0) in
     writes_exit _ _ c.from_residual.ensures.1
-    (leaves_front _ _ c.loop-n.invariant (writes_as _ _ (pieces c.index-chains-n.result.line (get_or c.args.verdicts.now c.loop-n.n Good))
-    (writes_front _ _ c.in_err-write_text.ensures))
-    (next_verdict c.args.chains.now c.args.verdicts.now c.loop-n.n c.index-chains-n.result Good c.loop-n-test.true
-    c.index-chains-n.is c.requires))
+    (leaves_front _ _ c.loop-chain.invariant c.in_err-chain_line.ensures
+    (begins c.args.order c.args.chains.now c.loop-chain.left.now c.loop-chain.chain-index item c.loop-chain-test.true
+    c.chain-item.is c.len.result long c.is_above-above.result c.is_above-above.ensures))
 
-pub returns-in_err-write_number : goal.returns-in_err-write_number
-returns-in_err-write_number g c =
-    writes_exit _ _ c.from_residual-in_err-write_number.ensures.1
-    (leaves_front _ _ c.loop-n.invariant (writes_as _ _ (pieces c.index-chains-n.result.line (get_or c.args.verdicts.now c.loop-n.n Good))
-    (writes_on c.in_ok-write_text.ensures (writes_front _ _ c.in_err-write_number.ensures)))
-    (next_verdict c.args.chains.now c.args.verdicts.now c.loop-n.n c.index-chains-n.result Good c.loop-n-test.true
-    c.index-chains-n.is c.requires))
-
-pub returns-in_err-write_text-2 : goal.returns-in_err-write_text-2
-returns-in_err-write_text-2 g c =
-    writes_exit _ _ c.from_residual-in_err-write_text-2.ensures.1
-    (leaves_front _ _ c.loop-n.invariant (writes_as _ _ (pieces c.index-chains-n.result.line (get_or c.args.verdicts.now c.loop-n.n Good))
-    (writes_on c.in_ok-write_text.ensures (writes_on c.in_ok-write_number.ensures (writes_front _ _ c.in_err-write_text-2.ensures))))
-    (next_verdict c.args.chains.now c.args.verdicts.now c.loop-n.n c.index-chains-n.result Good c.loop-n-test.true
-    c.index-chains-n.is c.requires))
-
-pub returns-in_err-said : goal.returns-in_err-said
-returns-in_err-said g c =
-    writes_exit _ _ c.from_residual-in_err-said.ensures.1
-    (leaves_front _ _ c.loop-n.invariant (writes_as _ _ (pieces c.index-chains-n.result.line (get_or c.args.verdicts.now c.loop-n.n Good))
-    (writes_on c.in_ok-write_text.ensures (writes_on c.in_ok-write_number.ensures (writes_on c.in_ok-write_text-2.ensures (writes_front _ _ c.in_err-said.ensures)))))
-    (next_verdict c.args.chains.now c.args.verdicts.now c.loop-n.n c.index-chains-n.result Good c.loop-n-test.true
-    c.index-chains-n.is c.requires))
-
-pub returns-in_err-write_text-3 : goal.returns-in_err-write_text-3
-returns-in_err-write_text-3 g c =
-    writes_exit _ _ c.from_residual-in_err-write_text-3.ensures.1
-    (leaves_front _ _ c.loop-n.invariant (writes_as _ _ (pieces c.index-chains-n.result.line (get_or c.args.verdicts.now c.loop-n.n Good))
-    (writes_on c.in_ok-write_text.ensures (writes_on c.in_ok-write_number.ensures (writes_on c.in_ok-write_text-2.ensures (writes_on c.in_ok-said.ensures c.in_err-write_text-3.ensures)))))
-    (next_verdict c.args.chains.now c.args.verdicts.now c.loop-n.n c.index-chains-n.result Good c.loop-n-test.true
-    c.index-chains-n.is c.requires))
-
-pub loop-n-preserved : goal.loop-n-preserved
-loop-n-preserved g c =
-    leaves_on _ _ c.loop-n.invariant (writes_as _ _ (pieces c.index-chains-n.result.line (get_or c.args.verdicts.now c.loop-n.n Good))
-    (writes_on c.in_ok-write_text.ensures (writes_on c.in_ok-write_number.ensures (writes_on c.in_ok-write_text-2.ensures (writes_on c.in_ok-said.ensures c.in_ok-write_text-3.ensures)))))
-    (next_verdict c.args.chains.now c.args.verdicts.now c.loop-n.n c.index-chains-n.result Good c.loop-n-test.true
-    c.index-chains-n.is c.requires)
+pub loop-chain-preserved : goal.loop-chain-preserved
+loop-chain-preserved g c =
+    let item = c.chain-item.result in
+    let long : c.len.result ≡ length item.ways.items = omega (arith, c.len.ensures, item.ways.ok.0) in
+    leaves_on _ _ c.loop-chain.invariant c.in_ok-chain_line.ensures
+    (begins c.args.order c.args.chains.now c.loop-chain.left.now c.loop-chain.chain-index item c.loop-chain-test.true
+    c.chain-item.is c.len.result long c.is_above-above.result c.is_above-above.ensures
+    ∙ ap (λ (z : List Verdict). chain_line c.is_above-above.result item.line c.loop-chain.left.now
+    ++ verdict_lines c.args.order (drop (c.loop-chain.chain-index + 1) c.args.chains.now) z) (sym c.later-left.ensures))

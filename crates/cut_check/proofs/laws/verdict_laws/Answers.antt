@@ -29,5 +29,7 @@ pub returns-clause-one_verdict : goal.returns-clause-one_verdict
 returns-clause-one_verdict g c = λ sys dropped observer wanted lines n a b h k. said_once sys dropped observer wanted lines n a b h k
 
 pub returns-clause-right_lists : goal.returns-clause-right_lists
-returns-clause-right_lists g c = λ sys dropped observer wanted lines.
-    (λ h. right_cuts sys dropped observer wanted lines h, λ h. cuts_right sys dropped observer wanted lines h)
+returns-clause-right_lists g c = λ order sys dropped observer wanted lines small. (
+  λ h. right_cuts sys dropped observer wanted lines order small h,
+  λ h. cuts_right sys dropped observer wanted lines order h,
+)

@@ -23,10 +23,10 @@ returns-in_err-set_lines g c =
     let are = subst (λ (z : List WayId). AreWaysOf (edges_of ts) z) (sym c.deref.ensures.value) c.in_ok-ways.ensures in
     let r = err_from_is_err_and c.from_residual-in_err-set_lines.result c.from_residual-in_err-set_lines.ensures.1 in
     failed c.from_residual-in_err-set_lines.result (r.1 ∙ ap Err r.2)
-    (writes_as _ _ (ap (λ (z : List ℕ). z ++ count_line c.args.count)
+    (writes_as _ _ (ap (λ (z : List ℕ). z ++ count_line c.args.order c.args.count)
     (same_lines (edges_of ts) c.requires.one_way c.deref.result.now are c.args.gts.now c.args.lister
     c.requires.known))
-    (writes_front _ (count_line c.args.count) c.in_err-set_lines.ensures))
+    (writes_front _ (count_line c.args.order c.args.count) c.in_err-set_lines.ensures))
 
 pub returns-in_err-print_count : goal.returns-in_err-print_count
 returns-in_err-print_count g c =
@@ -35,7 +35,7 @@ returns-in_err-print_count g c =
     let r = err_from_is_err_and c.from_residual-in_err-print_count.result c.from_residual-in_err-print_count.ensures.1
     in
     failed c.from_residual-in_err-print_count.result (r.1 ∙ ap Err r.2)
-    (writes_as _ _ (ap (λ (z : List ℕ). z ++ count_line c.args.count)
+    (writes_as _ _ (ap (λ (z : List ℕ). z ++ count_line c.args.order c.args.count)
     (same_lines (edges_of ts) c.requires.one_way c.deref.result.now are c.args.gts.now c.args.lister
     c.requires.known))
     (writes_on c.in_ok-set_lines.ensures c.in_err-print_count.ensures))
@@ -44,7 +44,7 @@ pub returns : goal.returns
 returns g c =
     let ts : List ModeTree = c.args.forest.now.trees.items in
     let are = subst (λ (z : List WayId). AreWaysOf (edges_of ts) z) (sym c.deref.ensures.value) c.in_ok-ways.ensures in
-    writes_as _ _ (ap (λ (z : List ℕ). z ++ count_line c.args.count)
+    writes_as _ _ (ap (λ (z : List ℕ). z ++ count_line c.args.order c.args.count)
     (same_lines (edges_of ts) c.requires.one_way c.deref.result.now are c.args.gts.now c.args.lister
     c.requires.known))
     (writes_on c.in_ok-set_lines.ensures c.in_ok-print_count.ensures)

@@ -6,5 +6,5 @@ returns c =
     λ files known words s t a b h k. says_alike c.jobs_agree.ensures.readiness_passes
     c.jobs_agree.ensures.readiness_refused c.one_list.ensures c.sources_are_definite.ensures
     c.one_source_or_refusal.ensures files (c.one_loading.ensures files known) c.one_reading.ensures.one_tree
-    (λ w v same job text ends. (c.jobs_agree.ensures.texts_agree w v same job text ends).0) words (c.one_job.ensures words) s t a
+    (λ w v same asked text ends. (c.jobs_agree.ensures.texts_agree w v same asked text ends).0) words (c.one_job.ensures words) s t a
     b h k

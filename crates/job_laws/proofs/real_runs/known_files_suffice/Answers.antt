@@ -8,7 +8,7 @@ pub returns-clause-quiet : goal.returns-clause-quiet
 returns-clause-quiet c = quiet_after
 
 pub returns-clause-gave : goal.returns-clause-gave
-returns-clause-gave c = λ k s job g is known. gave_after k s job (c.one_job.ensures k.words) g is known
+returns-clause-gave c = λ k s asked g is known. gave_after k s asked (c.one_job.ensures k.words) g is known
 
 pub returns-clause-passes : goal.returns-clause-passes
-returns-clause-passes c = λ k job x known p. passes_after k.files job x known p
+returns-clause-passes c = λ k asked x known p. passes_after k.files asked x known p

@@ -24,16 +24,16 @@ open-requires-clause-trees g c =
 pub open-requires-clause-firable : goal.open-requires-clause-firable
 open-requires-clause-firable g c =
     let d = c.requires.drawn.2 in
-    c.drawn_sets.ensures.firable (trees_of (λ n. n) c.args.forest.now) (table_of d.table.equations)
+    c.drawn_sets.ensures.firable_up_to c.requires.drawn.1.order (trees_of (λ n. n) c.args.forest.now) (table_of d.table.equations)
     (Conflicts c.args.family) d.answer
 
 pub returns-in_err-lister : goal.returns-in_err-lister
-returns-in_err-lister g c = λ job w drawn.
+returns-in_err-lister g c = λ asked w drawn.
     let r = err_from_is_err_and c.from_residual.result c.from_residual.ensures.1 in
-    none_printed (Tells job w) _ _ r.1 r.2
+    none_printed (Tells asked w) _ _ r.1 r.2
 
 pub print_conflict-requires-clause-own : goal.print_conflict-requires-clause-own
-print_conflict-requires-clause-own g c = c.requires.drawn.2.gates.forest.written.own
+print_conflict-requires-clause-own g c = c.requires.drawn.2.gates.forest.own
 
 pub print_conflict-requires-clause-one_way : goal.print_conflict-requires-clause-one_way
 print_conflict-requires-clause-one_way g c =
@@ -49,7 +49,7 @@ print_conflict-requires-clause-known g c =
     c.edges_of_forests.ensures.known c.args.forest.now (sets_of c.args.family) _ c.in_ok-lister.ensures.lines
 
 pub returns-in_err-print_conflict : goal.returns-in_err-print_conflict
-returns-in_err-print_conflict g c = λ job w drawn.
+returns-in_err-print_conflict g c = λ asked w drawn.
     let r = err_from_is_err_and c.from_residual-in_err-print_conflict.result
     c.from_residual-in_err-print_conflict.ensures.1 in
     let p = c.args.system.now in
@@ -62,18 +62,18 @@ returns-in_err-print_conflict g c = λ job w drawn.
     let a = agrees w p trees gates is kinds (λ o h. c.lawful_systems.ensures.observers p o sound h)
     c.gate_table_laws.ensures.agrees in
     let d = are_drawn w p trees gates is kinds (λ o h. c.lawful_systems.ensures.observers p o sound h)
-    c.drawn_sets.ensures.meant (Conflicts c.args.family) drawn.answer in
-    let k = conflict_printed w p trees gates is job drawn.lists
+    (c.drawn_sets.ensures.meant_up_to w.order) (Conflicts c.args.family) drawn.answer in
+    let k = conflict_printed w p trees gates is asked drawn.lists
     (λ set sets events lists l x. c.cuts_of_the_source.ensures.conflicts_of_the_source w.source p is.flat.flat w.dropped
-    trees f (observed w p trees gates is) (table w p trees gates is).wanted.value _ _ a set sets events lists l x)
+    trees f (observed w p trees gates is) (table w p trees gates is).wanted.value _ _ a w.order set sets events lists l x)
     (λ set sets events lists fault l x y. c.cuts_of_the_source.ensures.conflict_text_of_the_source w.source p is.flat.flat
-    w.dropped trees f set sets events lists fault l x y)
+    w.dropped trees f w.order set sets events lists fault l x y)
     (g.K.Sink.state c.args.out.now) (g.K.Sink.state c.print_conflict.new.out) (Err c.in_err-print_conflict.field-0.0)
     (sets_of c.args.family) _ d.0 d.1 c.in_ok-lister.ensures.lines c.in_err-print_conflict.ensures in
-    printed_partly (Tells job w) k.0 Fault k.1 _ k.2 _ _ r.1 r.2
+    printed_partly (Tells asked w) k.0 Fault k.1 _ k.2 _ _ r.1 r.2
 
 pub returns : goal.returns
-returns g c = λ job w drawn.
+returns g c = λ asked w drawn.
     let p = c.args.system.now in
     let trees = c.args.forest.now in
     let gates = drawn.table in
@@ -84,12 +84,12 @@ returns g c = λ job w drawn.
     let a = agrees w p trees gates is kinds (λ o h. c.lawful_systems.ensures.observers p o sound h)
     c.gate_table_laws.ensures.agrees in
     let d = are_drawn w p trees gates is kinds (λ o h. c.lawful_systems.ensures.observers p o sound h)
-    c.drawn_sets.ensures.meant (Conflicts c.args.family) drawn.answer in
-    let k = conflict_printed w p trees gates is job drawn.lists
+    (c.drawn_sets.ensures.meant_up_to w.order) (Conflicts c.args.family) drawn.answer in
+    let k = conflict_printed w p trees gates is asked drawn.lists
     (λ set sets events lists l x. c.cuts_of_the_source.ensures.conflicts_of_the_source w.source p is.flat.flat w.dropped
-    trees f (observed w p trees gates is) (table w p trees gates is).wanted.value _ _ a set sets events lists l x)
+    trees f (observed w p trees gates is) (table w p trees gates is).wanted.value _ _ a w.order set sets events lists l x)
     (λ set sets events lists fault l x y. c.cuts_of_the_source.ensures.conflict_text_of_the_source w.source p is.flat.flat
-    w.dropped trees f set sets events lists fault l x y)
+    w.dropped trees f w.order set sets events lists fault l x y)
     (g.K.Sink.state c.args.out.now) (g.K.Sink.state c.print_conflict.new.out) (Ok tt) (sets_of c.args.family) _ d.0 d.1
     c.in_ok-lister.ensures.lines c.in_ok-print_conflict.ensures in
-    printed_whole (Tells job w) k.0 Fault k.1 tt k.2
+    printed_whole (Tells asked w) k.0 Fault k.1 tt k.2

@@ -13,12 +13,12 @@ returns-then-makes_model-clause-texts g c =
     let told = g.H.Shelf.holds c.args.shelf.now in
     let rose : List ℕ → Type 0 = λ name. Rose (g.H.Shelf.faults c.args.shelf.now name)
     (g.H.Shelf.faults c.args.shelf.now name) in
-    let job = c.args.job.now in
+    let asked = c.args.asked.now in
     let e = sym c.makes_model.ensures ∙ c.if-makes_model.true in
-    let made = made_job c.requires.0 job c.requires.1 e in
+    let made = made_job c.requires.0 asked c.requires.1 e in
     let short = subst (λ (z : List ℕ). length z ≤ limit_of ModelBytes) (sym c.in_ok-model.ensures)
-    (c.one_job.ensures.generated_models_are_short job.number made.at_most) in
-    made_told told rose job e made.script (record { model = c.in_ok-model.model; script = None }) refl
+    (c.one_job.ensures.generated_models_are_short asked.job.number made.at_most) in
+    made_told told rose asked e made.script (record { model = c.in_ok-model.model; script = None }) refl
     c.in_ok-model.ensures short
 
 pub returns-clause-texts : goal.returns-clause-texts
@@ -26,27 +26,27 @@ returns-clause-texts g c =
     let told = g.H.Shelf.holds c.args.shelf.now in
     let rose : List ℕ → Type 0 = λ name. Rose (g.H.Shelf.faults c.args.shelf.now name)
     (g.H.Shelf.faults c.load_all.new.shelf name) in
-    let job = c.args.job.now in
+    let asked = c.args.asked.now in
     let e = sym c.makes_model.ensures ∙ c.if-makes_model.false in
-    files_told told rose job e c.load_all.result c.load_all.ensures.loaded
+    files_told told rose asked e c.load_all.result c.load_all.ensures.loaded
 
 pub returns-in_err-model-clause-came : goal.returns-in_err-model-clause-came
 returns-in_err-model-clause-came g c =
     let r = err_from_is_err_and c.from_residual.result c.from_residual.ensures.1 in
-    let job = c.args.job.now in
+    let asked = c.args.asked.now in
     let e = sym c.makes_model.ensures ∙ c.if-makes_model.true in
-    let made = made_job c.requires.0 job c.requires.1 e in
-    made_stopped job _ _ e made.script refl _ _ r.1 r.2
+    let made = made_job c.requires.0 asked c.requires.1 e in
+    made_stopped asked _ _ e made.script refl _ _ r.1 r.2
 
 pub returns-then-makes_model-clause-came : goal.returns-then-makes_model-clause-came
 returns-then-makes_model-clause-came g c =
-    let job = c.args.job.now in
+    let asked = c.args.asked.now in
     let e = sym c.makes_model.ensures ∙ c.if-makes_model.true in
-    let made = made_job c.requires.0 job c.requires.1 e in
-    made_came job _ _ e made.script refl (record { model = c.in_ok-model.model; script = None }) refl
+    let made = made_job c.requires.0 asked c.requires.1 e in
+    made_came asked _ _ e made.script refl (record { model = c.in_ok-model.model; script = None }) refl
 
 pub returns-clause-came : goal.returns-clause-came
 returns-clause-came g c =
-    let job = c.args.job.now in
+    let asked = c.args.asked.now in
     let e = sym c.makes_model.ensures ∙ c.if-makes_model.false in
-    files_came job _ _ e c.load_all.result c.load_all.ensures.came
+    files_came asked _ _ e c.load_all.result c.load_all.ensures.came

@@ -16,7 +16,7 @@ returns-in_err-model-clause-loaded g c =
     let told = g.H.Shelf.holds c.args.shelf.now in
     let rose : List ℕ → Type 0 = λ name. Rose (g.H.Shelf.faults c.args.shelf.now name)
     (g.H.Shelf.faults c.load.new.shelf name) in
-    first_stops told rose (texts_where false) (model_file c.args.job.now.model) (script_files c.args.job.now.script) _ _
+    first_stops told rose (texts_where false) (model_file c.args.asked.now.job.model) (script_files c.args.asked.now.job.script) _ _
     _ r.1 r.2
     (subst (λ (z : List ℕ). AnswersFile told rose (model_file z) (Err c.in_err-model.field-0.0)) c.as_str-name.ensures
     c.in_err-model.ensures.loaded)
@@ -32,11 +32,11 @@ returns-in_err-script-clause-loaded g c =
     (g.H.Shelf.faults c.load_script.new.shelf name) in
     let is = subst (λ (z : List ℕ). IsFile (told z) (limit_of ModelBytes) c.in_ok-model.model.items)
     c.as_str-name.ensures c.in_ok-model.ensures.loaded in
-    later_stops told rose (texts_where false) script_texts (model_file c.args.job.now.model)
-    (script_files c.args.job.now.script) c.in_ok-model.model.items is _ _ _ r.1 r.2
+    later_stops told rose (texts_where false) script_texts (model_file c.args.asked.now.job.model)
+    (script_files c.args.asked.now.job.script) c.in_ok-model.model.items is _ _ _ r.1 r.2
     (answers_same after told c.in_ok-model.ensures.keeps part rose
     (λ name h. rose_after _ _ _ (c.in_ok-model.ensures.rises name) h) script_texts
-    (script_files c.args.job.now.script) (Err c.in_err-script.field-0.0) c.in_err-script.ensures.loaded)
+    (script_files c.args.asked.now.job.script) (Err c.in_err-script.field-0.0) c.in_err-script.ensures.loaded)
 
 pub returns-clause-loaded : goal.returns-clause-loaded
 returns-clause-loaded g c =
@@ -51,25 +51,25 @@ returns-clause-loaded g c =
     whole c.in_ok-model.model.items is
     (answers_same after told c.in_ok-model.ensures.keeps part rose
     (λ name h. rose_after _ _ _ (c.in_ok-model.ensures.rises name) h) script_texts
-    (script_files c.args.job.now.script) (Ok c.in_ok-script.script) c.in_ok-script.ensures.loaded)
+    (script_files c.args.asked.now.job.script) (Ok c.in_ok-script.script) c.in_ok-script.ensures.loaded)
 
 pub returns-in_err-model-clause-came : goal.returns-in_err-model-clause-came
 returns-in_err-model-clause-came g c =
     let r = err_from_is_err_and c.from_residual.result c.from_residual.ensures.1 in
     stopped_so _ _ (texts_where false) _ _ _ _ r.1 r.2
-    (first_stopped _ _ _ _ (script_files c.args.job.now.script) _ (ap model_file c.as_str-name.ensures)
+    (first_stopped _ _ _ _ (script_files c.args.asked.now.job.script) _ (ap model_file c.as_str-name.ensures)
     c.in_err-model.ensures.came)
 
 pub returns-in_err-script-clause-came : goal.returns-in_err-script-clause-came
 returns-in_err-script-clause-came g c =
     let r = err_from_is_err_and c.from_residual-in_err-script.result c.from_residual-in_err-script.ensures.1 in
     stopped_so _ _ (texts_where false) _ _ _ _ r.1 r.2
-    (then_came _ _ _ _ _ (script_files c.args.job.now.script) c.in_ok-model.model.items script_texts
+    (then_came _ _ _ _ _ (script_files c.args.asked.now.job.script) c.in_ok-model.model.items script_texts
     (Err c.in_err-script.field-0.0) (ap model_file c.as_str-name.ensures) c.in_ok-model.ensures.came
     c.in_err-script.ensures.came)
 
 pub returns-clause-came : goal.returns-clause-came
 returns-clause-came g c =
-    then_came _ _ _ _ _ (script_files c.args.job.now.script) c.in_ok-model.model.items script_texts
+    then_came _ _ _ _ _ (script_files c.args.asked.now.job.script) c.in_ok-model.model.items script_texts
     (Ok c.in_ok-script.script) (ap model_file c.as_str-name.ensures) c.in_ok-model.ensures.came
     c.in_ok-script.ensures.came

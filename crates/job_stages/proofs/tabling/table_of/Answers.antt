@@ -9,7 +9,7 @@ use Rattle.job_stages.proofs.tabling.table_of.Goals as goal
 
 pub equations-requires-clause-few : goal.equations-requires-clause-few
 equations-requires-clause-few c = λ tree o.
-    let all = c.requires.forest.few in
+    let all = c.requires.forest in
     let one = edges_of_one c.args.forest.now.trees.items tree o in omega (arith, all, one)
 
 pub returns-in_err-equations : goal.returns-in_err-equations

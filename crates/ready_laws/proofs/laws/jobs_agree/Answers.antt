@@ -50,19 +50,19 @@ returns-clause-wanted c = λ x y s path word n v.
 
 pub returns-clause-requests_pass : goal.returns-clause-requests_pass
 returns-clause-requests_pass c =
-    λ x y s job texts w h. asks_carries (shared c.agreement_opens.ensures.kind) job texts x y s (Ok w) h
+    λ x y s asked texts w h. asks_carries (shared c.agreement_opens.ensures.kind) asked texts x y s (Ok w) h
 
 pub returns-clause-requests_refused : goal.returns-clause-requests_refused
 returns-clause-requests_refused c =
-    λ x y s job texts r h. asks_carries (shared c.agreement_opens.ensures.kind) job texts x y s (Err r) h
+    λ x y s asked texts r h. asks_carries (shared c.agreement_opens.ensures.kind) asked texts x y s (Err r) h
 
 pub returns-clause-readiness_passes : goal.returns-clause-readiness_passes
 returns-clause-readiness_passes c =
-    λ x y s job texts w h. readies_carry (shared c.agreement_opens.ensures.kind) job texts x y s (Ok w) h
+    λ x y s asked texts w h. readies_carry (shared c.agreement_opens.ensures.kind) asked texts x y s (Ok w) h
 
 pub returns-clause-readiness_refused : goal.returns-clause-readiness_refused
 returns-clause-readiness_refused c =
-    λ x y s job texts r h. readies_carry (shared c.agreement_opens.ensures.kind) job texts x y s (Err r) h
+    λ x y s asked texts r h. readies_carry (shared c.agreement_opens.ensures.kind) asked texts x y s (Err r) h
 
 pub returns-clause-conflict_free : goal.returns-clause-conflict_free
 returns-clause-conflict_free c = λ w v s.
@@ -82,6 +82,6 @@ returns-clause-nodes_agree c = λ w v s limit.
     (alike_needs on w v s limit, alike_needs on v w (ready_back w v s) limit)
 
 pub returns-clause-texts_agree : goal.returns-clause-texts_agree
-returns-clause-texts_agree c = λ w v s job text ends.
+returns-clause-texts_agree c = λ w v s asked text ends.
     let on = shared c.agreement_opens.ensures.kind in
-    (alike_tells on w v s job text ends, alike_tells on v w (ready_back w v s) job text ends)
+    (alike_tells on w v s asked text ends, alike_tells on v w (ready_back w v s) asked text ends)

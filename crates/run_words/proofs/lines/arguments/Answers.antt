@@ -21,4 +21,5 @@ returns c =
       c.option-3.ensures,
       c.option-4.ensures,
       c.option-5.ensures,
+      c.option-6.ensures,
     ) refl

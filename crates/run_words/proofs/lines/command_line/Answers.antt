@@ -14,4 +14,5 @@ returns c =
       c.get_str-4.ensures ∙ first_value-rows found (codes "value"),
       c.get_str-5.ensures ∙ first_value-rows found (codes "nodes"),
       c.get_str-6.ensures ∙ first_value-rows found (codes "drop"),
+      c.get_str-7.ensures ∙ first_value-rows found (codes "max-order"),
     ) refl

@@ -15,17 +15,17 @@ shared-requires c = subst (λ (z : List Live). AreWithin c.len.result z) (sym c.
     (omega (arith, c.len.ensures, c.args.parts.now.events.ok.0)))
 
 pub returns-in_err-at_variable : goal.returns-in_err-at_variable
-returns-in_err-at_variable c = λ system dropped h.
+returns-in_err-at_variable c = λ order system dropped h.
     let r = err_from_is_err_and c.from_residual-in_err-at_variable.result c.from_residual-in_err-at_variable.ensures.1
     in
     let s = subst (λ (z : List Live). IsSharing c.len.result z (length z) c.in_ok-sharing.sharing) c.deref.ensures.value
     c.in_ok-sharing.ensures in
     on_err _ _ c.from_residual-in_err-at_variable.result _ (r.1 ∙ ap Err r.2)
-    (refused5 system dropped (record { reached = h.reached; are = c.in_ok-live.ensures }) h.keeps
+    (refused5 system dropped (record { reached = h.reached; are = c.in_ok-live.ensures }) h.keeps order
     c.in_ok-sharing.sharing.least s.least _ c.in_err-at_variable.ensures)
 
 pub returns : goal.returns
-returns c = λ system dropped h.
+returns c = λ order system dropped h.
     let s = subst (λ (z : List Live). IsSharing c.len.result z (length z) c.in_ok-sharing.sharing) c.deref.ensures.value
     c.in_ok-sharing.ensures in
     record {

@@ -7,11 +7,11 @@ use Rattle.static_fragment.proofs.Judging.{refused1, kept1, refused2, kept2, uni
 use Rattle.static_fragment.proofs.stages.judged_units.Goals as goal
 
 pub returns-in-Some-clause-rules : goal.returns-in-Some-clause-rules
-returns-in-Some-clause-rules c = λ system dropped h. refused1 system dropped c.args.parts.now h.0
+returns-in-Some-clause-rules c = λ order system dropped h. refused1 system dropped c.args.parts.now h.0 order
     (Some c.in-Some.event) c.in-Some.ensures (Outside 1 (spot.Event c.new.result)) (refl, ap AtEvent c.new.ensures)
 
 pub returns-in-Some-first_stateless-clause-rules : goal.returns-in-Some-first_stateless-clause-rules
-returns-in-Some-first_stateless-clause-rules c = λ system dropped h.
+returns-in-Some-first_stateless-clause-rules c = λ order system dropped h.
     let p = c.args.parts.now in
     let below = kept1 system dropped p h.0 None tt c.in_default.ensures tt in
     let are = units_are p dropped (numbers_of c.args.dropped.now) c.len.result c.in_ok-marks.marks.items
@@ -22,11 +22,11 @@ returns-in-Some-first_stateless-clause-rules c = λ system dropped h.
     c.deref-3.result.now (Some c.in-Some-first_stateless.unit)
     c.deref-2.ensures.value c.deref-3.ensures.value c.in-Some-first_stateless.ensures in
     refused2 system dropped p h.0 c.requires c.in_ok-marks.marks.items c.in_ok-moving.moving.items
-    c.in_ok-firsts.firsts.items are below (Some c.in-Some-first_stateless.unit) least
+    c.in_ok-firsts.firsts.items are below order (Some c.in-Some-first_stateless.unit) least
     (Outside 2 (spot.Unit c.new-in-Some-first_stateless.result)) (refl, ap AtUnit c.new-in-Some-first_stateless.ensures)
 
 pub returns-clause-rules : goal.returns-clause-rules
-returns-clause-rules c = λ system dropped h.
+returns-clause-rules c = λ order system dropped h.
     let p = c.args.parts.now in
     let below = kept1 system dropped p h.0 None tt c.in_default.ensures tt in
     let are = units_are p dropped (numbers_of c.args.dropped.now) c.len.result c.in_ok-marks.marks.items

@@ -105,18 +105,15 @@ _altarica_values() {
   esac
 }
 
-# The options of a command, one a line. --max-order is offered where the script knows it.
+# The options of a command, one a line.
 _altarica_options() {
-  local top
   case $1 in
     check | flat | replay) echo --main ;;
     explain) printf '%s\n' --observer --main ;;
     fragment) printf '%s\n' --drop --main ;;
     equations) printf '%s\n' --observer --value --drop --main ;;
-    cuts | checkcuts | modules)
-      printf '%s\n' --observer --value --nodes --drop --main
-      top=$(_altarica_top "${COMP_WORDS[0]}")
-      if [ -n "$top" ] && grep -q -e '--max-order' "$top/altarica" 2>/dev/null; then echo --max-order; fi ;;
+    modules) printf '%s\n' --observer --value --nodes --drop --main ;;
+    cuts | checkcuts) printf '%s\n' --observer --value --nodes --max-order --drop --main ;;
   esac
 }
 

@@ -8,7 +8,7 @@ from command import files_of
 
 Note = namedtuple("Note", "file line column text cause")
 """What is shown: a place (line None: the file alone), the first line's text, and the cause or None."""
-VALUED = ("--main", "--observer", "--value", "--nodes", "--drop")
+VALUED = ("--main", "--observer", "--value", "--nodes", "--drop", "--max-order")
 MOST_NAMED = 12
 NEAR = 0.75
 

@@ -1,17 +1,18 @@
 """Lists of cuts, of the program and of other tools. Not proved.
 
 A line is a cut in braces, `count N`, a remark behind `//`, or blank; blanks around labels, the ends of lines and a byte
-order mark say nothing.
+order mark say nothing. `count N up to order K` ends a list of the cuts of at most K events: larger ones are not in it.
 """
 import re
 import sys
 
-from command import CouldNot, escaped, shown
+from command import CouldNot, NoUse, escaped, say, shown
 
 MARK = b"\xef\xbb\xbf"
 CUT = re.compile(rb"\{([^{}\x00-\x08\x0a-\x1f\x7f]*)\}")
-COUNT = re.compile(rb"count +([0-9]{1,18})")
+COUNT = re.compile(rb"count +([0-9]{1,18})(?: +up +to +order +([0-9]{1,4}))?")
 FIRST_WAY = b"#1"
+MOST_EVENTS = 1000
 BLANKS = b" \t\r"
 
 
@@ -33,8 +34,31 @@ def labels_of(inner):
     return None if b"" in labels else labels
 
 
-def cuts_of(name, lines):
-    """The labels of each cut of a list; CouldNot where a line is none of a list, or the list is not whole."""
+def order(word):
+    """The number of events that an option takes, as `--max-order` of the program does."""
+    if not (re.fullmatch("[1-9][0-9]{0,3}", word) and int(word) <= MOST_EVENTS):
+        raise NoUse("`%s` is no number of events of a cut, from 1 to %d" % (word, MOST_EVENTS))
+    return int(word)
+
+
+def order_of(lines):
+    """The number of events up to which a list has the cuts, or None where it has all."""
+    counts = [COUNT.fullmatch(line.strip(BLANKS)) for line in lines if line.lstrip(BLANKS).startswith(b"count")]
+    return min((int(count[2]) for count in counts if count and count[2]), default=None)
+
+
+def say_order(name, lines, what):
+    """Says of a list up to an order that larger cuts are not in it, and what that means."""
+    order_there = order_of(lines)
+    if order_there is not None:
+        say("%s has the cuts up to order %d alone: %s" % (shown(name), order_there, what))
+
+
+def cuts_of(name, lines, takes_bounded=False):
+    """The labels of each cut of a list; CouldNot where a line is none of a list, or the list is not whole. One of the cuts up
+    to an order is refused too, but for those who take it, and say so in what they write."""
+    if not takes_bounded and order_of(lines) is not None:
+        raise CouldNot("%s has the cuts up to order %d alone, and all are needed" % (shown(name), order_of(lines)))
     number, said = 0, None
     for at, line in enumerate(lines, 1):
         text = line.strip(BLANKS)

@@ -197,4 +197,5 @@ def _wide(asked, text, path):
 
 
 def _many(asked, text, path):
-    return asked.note(path, text, "drop the events that have no part in the question with --drop")
+    return asked.note(path, text, "drop the events that have no part in the question with --drop, or ask for the single and double "
+                                  "failures alone with --max-order 2")

@@ -43,11 +43,13 @@ def all_of(source):
     return [Question(path, source.main, path, None) for path in asked], others
 
 
-def listing(file, question, drop=None):
-    """The minimal cut sets of a question, each as its labels; Refused where the program refuses it."""
+def listing(file, question, drop=None, order=None):
+    """The minimal cut sets of a question, those of at most `order` events where that is given, each as its labels; Refused
+    where the program refuses it."""
     options = ["--observer=" + question.observer]
     options += [] if question.value is None else ["--value=" + question.value]
     options += [] if drop is None else ["--drop=" + drop]
+    options += [] if order is None else ["--max-order=%d" % order]
     try:
         return texts.cuts(Source(file, question.block).ask("cuts", options))
     except Refused as refused:

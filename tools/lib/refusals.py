@@ -49,7 +49,7 @@ FILES = {"check": 1, "flat": 1, "replay": 2, "fragment": 1, "equations": 1, "cut
          "make": 0}
 """How many files each command takes."""
 OPTIONS = {"check": "", "flat": "", "replay": "", "fragment": "--drop", "equations": "--observer --value --drop",
-           "cuts": "--observer --value --nodes --drop", "checkcuts": "--observer --value --nodes --drop",
+           "cuts": "--observer --value --nodes --drop --max-order", "checkcuts": "--observer --value --nodes --drop --max-order",
            "modules": "--observer --value --nodes --drop", "explain": "--observer", "make": None}
 """What each command takes besides --main; None where it takes no option at all."""
 NEED_OBSERVER = ("equations", "cuts", "checkcuts", "modules")

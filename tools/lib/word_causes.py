@@ -1,5 +1,6 @@
 """The causes of words that are no command, of files that are not read, and of sizes. Not proved."""
 import os
+import re
 
 from asked import Note, ProgramWords, near, raw
 from refusals import FILES, NEED_OBSERVER, OPTIONS
@@ -29,6 +30,9 @@ def usage(words):
             return "`%s` takes no `%s`" % (command, option)
     if command in NEED_OBSERVER and "--observer" not in found.options:
         return "`%s` needs --observer" % command
+    order = found.options.get("--max-order", "1")
+    if not (re.fullmatch("[1-9][0-9]{0,3}", order) and int(order) <= 1000):
+        return "--max-order is the largest number of events of a cut, from 1 to 1000 without leading zeros"
     names = [w.partition("=")[0] for w in words]
     twice = [n for n in found.options if names.count(n) > 1]
     if twice:

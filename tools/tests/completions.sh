@@ -9,7 +9,10 @@ offers() {
 }
 . completions/altarica.bash
 equal "bash offers the commands" 'check checkcuts cuts' "$(offers altarica c)"
-equal "bash offers the options of a command" '--drop --main --nodes --observer --value' "$(offers altarica cuts examples/brake.alt --)"
+equal "bash offers the options of a command" '--drop --main --max-order --nodes --observer --value' "$(offers altarica cuts examples/brake.alt --)"
+equal "bash offers --max-order for lists of cuts alone" '--max-order  --max-order' \
+  "$(offers altarica checkcuts x y --max) $(offers altarica modules x --max) $(offers altarica cuts x --max)"
+equal "bash finds the model behind --max-order" 'too_weak wheels' "$(offers altarica cuts --max-order 2 examples/brake.alt --observer '')"
 equal "bash offers no other options" '--main' "$(offers altarica check examples/brake.alt --)"
 equal "bash offers the observers of the model" 'too_weak wheels' "$(offers altarica cuts examples/brake.alt --observer '')"
 equal "bash offers them behind =" 'wheels' "$(offers altarica cuts examples/brake.alt --observer = w)"
@@ -61,6 +64,8 @@ equal "also where the script is named by its path" 'too_weak wheels' \
 cd "$top" || exit 1
 if have zsh; then
   holds "the completion of zsh is a function that zsh can read" zsh -n completions/_altarica
+  equal "zsh has --max-order for cuts and checkcuts alone" 'checkcuts cuts' \
+    "$(sed -n 's/^    \([a-z|]*\)) _arguments .*\$order.*/\1/p' completions/_altarica | LC_ALL=C sort | paste -sd' ')"
   equal "zsh knows each command" "$known" "$(sed -n "s/^    '\([a-z]*\):.*/\1/p" completions/_altarica | LC_ALL=C sort | paste -sd' ')"
   asks() {
     zsh -f -c '

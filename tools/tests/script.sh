@@ -79,7 +79,7 @@ chmod +x "$lab/bin/rt"
 new_copy
 run --help
 point "--help answers at once, with status 0 and no build" both '[ $status -eq 0 ]' '[ $took -lt 2000 ]' 'calls 0'
-for word in check flat replay explain fragment equations cuts modules checkcuts make --main --observer --value --drop --nodes --unproved --why --explain; do
+for word in check flat replay explain fragment equations cuts modules checkcuts make --main --observer --value --drop --nodes --max-order --unproved --why --explain; do
   grep -q -- "$word" "$lab/out" || echo "failed: --help names $word"
 done
 point "--help has the statuses" grep -q "Exit status" "$lab/out"
@@ -106,7 +106,7 @@ while IFS= read -r words; do
   : >"$lab/calls"
   run "$@"
   if [ "$wanted" = "$usage" ]; then
-    point "no command: $words" both '[ $status -eq 1 ]' 'wrote "$usage"' 'said "are no command"' 'calls 0'
+    point "no command: $words" both '[ $status -eq 1 ]' 'wrote "$usage"' 'said "are no command\|max-order"' '[ "$(grep -c . "$lab/err")" -eq 1 ]' 'calls 0'
   else
     point "a command: $words" both '[ $status -eq 12 ]' 'wrote ""' 'calls 1'
   fi
@@ -133,6 +133,18 @@ cuts plant.alt --observer lost --value -3
 cuts plant.alt --observer lost --value=-3
 cuts plant.alt --observer lost --drop a.fail,b.fail
 cuts plant.alt --observer --drop
+cuts plant.alt --observer lost --max-order 2
+cuts plant.alt --observer=lost --max-order=1000
+cuts --max-order 1 --observer lost -- plant.alt
+cuts plant.alt --observer lost --max-order 0
+cuts plant.alt --observer lost --max-order=1001
+cuts plant.alt --observer lost --max-order 02
+cuts plant.alt --observer lost --max-order 2 --max-order 2
+cuts plant.alt --observer lost --max-order
+cuts plant.alt --max-order 2
+checkcuts plant.alt twice.script --observer lost --max-order 1
+modules plant.alt --observer lost --max-order 2
+equations plant.alt --observer lost --max-order=2
 replay plant.alt
 replay plant.alt twice.script
 replay plant.alt twice.script --drop a.fail
@@ -279,6 +291,11 @@ fault: {..}: flow x has two values|conflict: `fault: {a, b}: ..` in place of cut
 count 0|unexpected: cuts that are not those you expected
 {}|unexpected: cuts that are not those you expected
 unexpected|unexpected: cuts that are not those you expected
+max-order|Small cuts: single and double failures
+--max-order|Small cuts: single and double failures
+count 2 up to order 1|Small cuts: single and double failures
+no up to order 3|Small cuts: single and double failures
+line 4 above|Small cuts: single and double failures
 lint|unexpected: cuts that are not those you expected
 tie|Networks and ties
 flow loop|Networks and ties

@@ -117,6 +117,9 @@ class Listing:
         if re.search(r"^module |^lines [0-9]+$", self.text, re.M):
             raise Refused("this is a listing of modules: the modules of the new model are not those of the first; write "
                           "`cuts` back")
+        if re.fullmatch(r"count [0-9]+ up to order [0-9]+", last):
+            raise Refused("this is a listing up to an order: an event of the new model may be several of the first, so which "
+                          "sets are small differs; write the listing of all cuts back")
         if not re.fullmatch(r"count [0-9]+", last):
             raise Refused("this is no listing of `cuts`: its last line is not `count N`")
         lines = {}

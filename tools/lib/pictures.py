@@ -168,7 +168,8 @@ def observer_gates(file, words, most):
     apart = [n for n in smaller.order(smaller.conflict) if n not in set(tops)] if conflict else []
     enough(len(tops) + len(apart) + 2, most)
     names = {number: "gate %d" % (place + 1) for place, number in enumerate(tops + apart)}
-    lines = [head("gates", "The gates of %s in %s%s" % (observed(words), readable(file), without(words)), ", ordering=out", "0.6")]
+    left = "" if smaller.is_all_seen or not trees else "; some of their operands may change nothing"
+    lines = [head("gates", "The gates of %s in %s%s%s" % (observed(words), readable(file), without(words), left), ", ordering=out", "0.6")]
     lines += [root(smaller, names, *r) for r in roots] + [gate(smaller, names, n) for n in tops]
     if conflict:
         lines.append('  subgraph cluster_conflict {\n    graph [label="where flows contradict each other", color="#c08080"]\n')

@@ -13,6 +13,17 @@ for seed in 1 53 126; do
   equal "the gates of random model $seed that are drawn have the values of its equations" '' "$(python3 tools/tests/smaller.py "$work/random.alt" --observer lost 2>&1 | head -n 3)"
 done
 equal "the gates of vote2 that are drawn have the values of its equations" '' "$(python3 tools/tests/smaller.py tests/beside/vote2.alt --observer no_trip 2>&1 | head -n 3)"
+equal "the gates of the aircraft that are drawn have the values of its equations" '' "$(python3 tools/tests/smaller.py tests/models/howto/aircraft.alt --observer pitch_lost 2>&1 | head -n 3)"
+# By hand: where the first or the second has failed, the third says nothing more. There are 2^20 sets that can be fired.
+{
+  printf 'class Part\n  Boolean ok (init = true);\n  event fail;\n  transition fail: ok -> ok := false;\nend\nblock Plant\n  Part p0'
+  printf ', p%d' {1..19}
+  printf ';\n  observer Boolean lost = (not p0.ok or not p1.ok) and (not p0.ok or not p1.ok or not p2.ok) and (not p3.ok'
+  printf ' or not p%d.ok' {4..19}
+  printf ');\nend\n'
+} >"$work/many.alt"
+equal "an operand that is no news is left out of a model with many sets too" '0 1 1' \
+  "$(tools/draw gates "$work/many.alt" --observer lost --dot >"$work/many.dot"; for event in p2 p1 p19; do grep -c ">$event.fail&" "$work/many.dot"; done | xargs)"
 
 nodes() { grep -c '^ *\("[^"]*"\|[a-z0-9]*\) \[.*label=<' "$1"; }
 for plant in brake bus conflict hydraulic pumps repair ring supply; do

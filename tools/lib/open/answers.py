@@ -11,7 +11,7 @@ import program
 import runs
 import symbols
 import texts
-from command import CouldNot, Refused, files_of, options_of, printed
+from command import Refused, files_of, options_of, printed
 from open.calls import Calls, TooLong
 from open.cut_sets import CutSets
 

@@ -48,6 +48,7 @@ for name in "${names[@]}"; do
   trial "$name" report "${asked[@]}" -- "$name"
   trial "$name" to_open_psa tree "${asked[@]}" -- "$name"
   trial "$name" order -- "$name" "$work/list"
+  trial "$name" open --idle 0.005 -- "$name"
   cp cuts.xml "room/$name"
   trial "$name" to_open_psa back -- "$name" "$name"
   cp list "room/$name"

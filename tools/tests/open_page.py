@@ -36,6 +36,11 @@ end
 random.seed(11)
 
 
+def errors(browser):
+    """The errors of the page, but for calls of a page before it to a workbench that has ended."""
+    return [one for one in browser.errors() if "ERR_CONNECTION_REFUSED" not in one]
+
+
 def clicks(browser, name, words):
     """An event, a reason and a cut set, each by the mouse."""
     with Served(*words) as it:
@@ -61,7 +66,7 @@ def clicks(browser, name, words):
         browser.until("now === steps.length - 1")
         point("%s: one step before it is not reached" % name, not browser.js("isReached()"))
         keys(browser, name)
-    wrong = [one for one in browser.errors() if "ERR_CONNECTION_REFUSED" not in one]
+    wrong = errors(browser)
     point("%s: the page has no error" % name, not wrong, wrong)
 
 
@@ -165,7 +170,7 @@ def hostile(browser):
             point("a file that has changed is said", "has changed" in browser.js("at('notice').textContent"))
             browser.click("#notice button")
             browser.until("typeof values === 'object' && values.length > 0 && at('notice').hidden")
-            point("and loaded by a click", not browser.errors())
+            point("and loaded by a click", not errors(browser))
 
 
 def fault(browser):
@@ -175,8 +180,14 @@ def fault(browser):
         point("a refused list is shown with its cause", "refuses" in browser.js("at('list_cuts').textContent"))
         browser.js("fire('upper.lose_sensor')")
         browser.until("!at('notice').hidden")
-        point("a step that meets a fault is not taken", browser.js("steps.length") == 0 and "fault: " in browser.js("at('notice').textContent"), browser.js("at('notice').textContent"))
-    browser.errors()
+        told = browser.js("at('notice').textContent")
+        point("a step that meets a fault is not taken", browser.js("steps.length") == 0 and "not taken. fault: " in told, told)
+    with Served("tests/beside/vote.alt", "--observer", "no_trip") as it:
+        browser.visit(it.address)
+        browser.until(DRAWN + " && !at('notice').hidden")
+        told = browser.js("at('notice').textContent")
+        wrong = errors(browser)
+        point("a model with a fault at the start is drawn, and the fault is said", told.startswith("fault: start: ") and not wrong, told + str(wrong))
 
 
 def phone(browser):

@@ -1,5 +1,6 @@
 """The minimal cut sets of the workbench's observer, listed in the background. They are read line by line; kept are those with the
 fewest events, as many as there is room for, and all are counted. Not proved: the list is the program's."""
+import contextlib
 import os
 import sys
 import threading
@@ -33,7 +34,7 @@ class CutSets:
         try:
             self.read(self.calls.start_program(self.words()))
         except CouldNot as error:
-            self.state, self.said = "refused", {"text": str(error), "why": ""}
+            self.state, self.said = "refused", {"text": str(error), "why": "", "is_whole": True}
 
     def read(self, process):
         """Reads the listing to its end."""
@@ -67,14 +68,12 @@ class CutSets:
 
     def refuse(self, text):
         """A refusal, at once by its line and then as `why` shows it."""
-        self.said = {"text": text, "why": ""}
+        self.said, content = {"text": text, "why": "", "is_whole": False}, b""
         self.state = "refused"
         why = [sys.executable, os.path.join(TOP, "tools", "why"), *self.words()]
-        try:
+        with contextlib.suppress(CouldNot, TooLong):
             content = self.calls.finish(self.calls.start(why), seconds=WHY_SECONDS)[1]
-        except (CouldNot, TooLong):
-            return
-        self.said = {"text": text, "why": content.decode("utf-8", "replace").replace(self.file, self.name)}
+        self.said = {"text": text, "why": content.decode("utf-8", "replace").replace(self.file, self.name), "is_whole": True}
 
     def page(self, size, text, first, most):
         """Some of the cut sets that are kept, the smallest first: those with this number of events and with all these words."""

@@ -98,7 +98,7 @@ async function showCuts() {
     keepFocus(at("list_cuts"), cutRows(answer));
   } else {
     at("list_cuts").replaceChildren(...noCuts(answer));
-    if (answer.state === "running" || answer.state === "refused" && !answer.why) setTimeout(showCuts, 700);
+    if (answer.state === "running" || answer.state === "refused" && !answer.is_whole) setTimeout(showCuts, 700);
   }
 }
 function noCuts(answer) {

@@ -143,6 +143,24 @@ def file_that_changes():
             point("a text that is refused leaves the old one", status == 409 and b"syntax" in body and len(it.asked("model")["observers"]) == 1, body)
 
 
+def hostile_refusal():
+    """The line of the text in a refusal shows signs that would turn it around by their numbers."""
+    with tempfile.TemporaryDirectory() as folder:
+        path = os.path.join(folder, "m.alt")
+        with open(path, "wb") as file:
+            file.write(b"block M\n  Boolean ok (init = true);\n  event fail, mend;\n  transition\n    fail: ok -> ok := false;\n"
+                       b"    mend: not ok -> ok := true; // \xe2\x80\xae<b>\xe2\x81\xa6\x1b[31m\n  observer Boolean lost = not ok;\nend\n")
+        with Served(path, "--observer", "lost") as it:
+            for _ in range(200):
+                cuts = it.asked("cuts")
+                if cuts.get("is_whole"):
+                    break
+                time.sleep(0.1)
+            why = cuts.get("why", "")
+            point("a refusal has its place and cause, and no sign that turns a line around", cuts["state"] == "refused" and "S6 at ok" in why and
+                  "202e" in why and all(c.isprintable() or c == "\n" for c in why) and "/tmp" not in why, why)
+
+
 def ends():
     """What ends it, and what it leaves."""
     with tempfile.TemporaryDirectory() as folder:
@@ -164,4 +182,5 @@ with Served(*RING) as served:
     many(served)
     answers(served)
 file_that_changes()
+hostile_refusal()
 ends()

@@ -66,6 +66,10 @@ equal "of several observers one that is refused is said, with status 3" '3 1' \
   "$(tools/report examples/conflict.alt --observer low --stories 0 --out "$work/conflict.html" 2>/dev/null; echo $?) $(grep -c '<b class="bad">not listed' "$work/conflict.html")"
 equal "an observer that is named twice, and stories that are no number, are no use" '2 2' \
   "$(for words in '--observer dry,dry' '--observer dry --stories x'; do tools/report examples/pumps.alt $words >/dev/null 2>&1; echo $?; done | xargs)"
+printf 'block M\n  Boolean ok (init = true);\n  event fail, mend;\n  transition\n    fail: ok -> ok := false;\n    mend: not ok -> ok := true; // \xe2\x80\xae<script>alert(1)</script>\n  observer Boolean lost = not ok;\nend\n' >"$work/turned.alt"
+tools/report "$work/turned.alt" --observer lost --out "$work/turned.html" 2>/dev/null
+equal "remarks in a refusal are text, and turn no line around" 'text 0 0' \
+  "$(grep -q '202e.*&lt;script&gt;alert' "$work/turned.html" && echo text) $(grep -c '<script>alert' "$work/turned.html") $(grep -c $'\xe2\x80\xae' "$work/turned.html")"
 equal "a model that is refused as a whole has no page" 3 "$(tools/report tests/mistakes/semi.alt --observer x >/dev/null 2>&1; echo $?)"
 
 if have chromium; then

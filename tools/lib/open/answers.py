@@ -14,6 +14,7 @@ import texts
 from command import Refused, files_of, options_of, printed
 from open.calls import Calls, TooLong
 from open.cut_sets import CutSets
+from visible import visible
 
 MOST_STEPS = 2000
 MOST_ASKED = 200
@@ -42,7 +43,7 @@ class Answers:
         self.copy = os.path.join(folder, "model.alt")
         with open(self.copy, "wb") as file:
             file.write(content)
-        self.lines = [visible(line) for line in content.decode("utf-8", "replace").split("\n")]
+        self.lines = [visible(line.rstrip("\r")) for line in content.decode("utf-8", "replace").split("\n")]
         self.size = self.told("check").strip()
         source = model.Source(self.copy, words.main)
         self.flat = symbols.told_apart(texts.flat(self.told("flat")), source)
@@ -220,8 +221,3 @@ def natural(word):
     if not (word.isdecimal() and word.isascii() and len(word) < 10):
         raise Bad(400, "this is no number")
     return int(word)
-
-
-def visible(line):
-    """A line with what would not be seen, or would turn the line around, as its number."""
-    return "".join(c if c == "\t" or c.isprintable() else "<%04x>" % ord(c) for c in line.rstrip("\r"))

@@ -8,6 +8,7 @@ import time
 
 from command import TOP, CouldNot
 from open.calls import TooLong
+from visible import visible
 
 MOST_CUTS = 200_000
 MOST_BYTES = 64 << 20
@@ -73,7 +74,7 @@ class CutSets:
         why = [sys.executable, os.path.join(TOP, "tools", "why"), *self.words()]
         with contextlib.suppress(CouldNot, TooLong):
             content = self.calls.finish(self.calls.start(why), seconds=WHY_SECONDS)[1]
-        self.said = {"text": text, "why": content.decode("utf-8", "replace").replace(self.file, self.name), "is_whole": True}
+        self.said = {"text": text, "why": visible(content.decode("utf-8", "replace")).replace(self.file, self.name), "is_whole": True}
 
     def page(self, size, text, first, most):
         """Some of the cut sets that are kept, the smallest first: those with this number of events and with all these words."""

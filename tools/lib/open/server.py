@@ -136,6 +136,7 @@ class Server(http.server.ThreadingHTTPServer):
         self.words, self.folder, self.answers, self.lock = words, folder, None, threading.Lock()
         self.token, self.called = secrets.token_urlsafe(32), time.monotonic()
         self.places = threading.BoundedSemaphore(MOST_CONNECTIONS)
+        self.thread = threading.Thread(target=self.serve_forever, daemon=True)
         super().__init__(("127.0.0.1", port), Handler)
         try:
             self.load()
@@ -180,7 +181,8 @@ class Server(http.server.ThreadingHTTPServer):
     def end(self):
         """Ends the calls that run too."""
         self.answers.end()
-        self.shutdown()
+        if self.thread.is_alive():
+            self.shutdown()
         self.server_close()
 
 

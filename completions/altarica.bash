@@ -72,7 +72,8 @@ _altarica_model() {
   for word in "${COMP_WORDS[@]:first:COMP_CWORD-first}"; do
     if [ -n "$skip" ]; then skip=''; continue; fi
     case $word in
-      --main | --observer | --value | --drop | --nodes | --max-order | =) skip=yes ;;
+      --main | --observer | --value | --drop | --nodes | --max-order | --port | --idle | =) skip=yes ;;
+      --open) place=$((place + 1)) ;;
       -*) ;;
       *) place=$((place + 1)); if [ $place -eq 2 ]; then model=$(_altarica_plain "$word"); return; fi ;;
     esac
@@ -112,6 +113,7 @@ _altarica_options() {
     explain) printf '%s\n' --observer --main ;;
     fragment) printf '%s\n' --drop --main ;;
     equations) printf '%s\n' --observer --value --drop --main ;;
+    --open) printf '%s\n' --observer --value --nodes --drop --main --browser --port --idle ;;
     modules) printf '%s\n' --observer --value --nodes --drop --main ;;
     cuts | checkcuts) printf '%s\n' --observer --value --nodes --max-order --drop --main ;;
   esac
@@ -127,7 +129,7 @@ _altarica() {
   command=${COMP_WORDS[first]-}
   if [ "$COMP_CWORD" -eq "$first" ]; then
     if [[ $word == -* ]]; then
-      _altarica_offer "$word" < <(printf '%s\n' --unproved --why --explain --help --version)
+      _altarica_offer "$word" < <(printf '%s\n' --unproved --why --open --explain --help --version)
     else
       _altarica_offer "$word" < <(printf '%s\n' check flat replay fragment equations cuts checkcuts modules explain make)
     fi
@@ -135,7 +137,7 @@ _altarica() {
   fi
   case $before in
     --main | --observer | --drop | --value) _altarica_values "$before" "$word"; return ;;
-    --nodes | --max-order) return ;;
+    --nodes | --max-order | --port | --idle) return ;;
   esac
   case $word in
     -*) _altarica_offer "$word" < <(_altarica_options "$command") ;;

@@ -5,9 +5,8 @@ An operand is (negated, what), where what is a truth value, an event's path, or 
 """
 from collections import Counter
 
+from decisions import ALL, NONE, Diagrams, TooLarge
 from texts import event_of
-
-MOST_SETS = 1 << 14
 
 
 def paths(tree):
@@ -19,42 +18,33 @@ def paths(tree):
     return found
 
 
-class Sets:
-    """The sets of events that can be fired, as one bit each: for an event the sets that have it."""
-
-    def __init__(self, trees, events):
-        choices = [paths(t) for t in trees if any(event_of(e.label) in events for e in t.edges)]
-        self.count, self.of = 1, {}
-        for choice in choices:
-            self.count *= len(choice)
-            if self.count > MOST_SETS:
-                return
-        self.all, stride = (1 << self.count) - 1, 1
-        for choice in choices:
-            period = stride * len(choice)
-            every = sum(1 << at for at in range(0, self.count, period))
-            for number, path in enumerate(choice):
-                block = (((1 << stride) - 1) << (number * stride)) * every
-                for event in path:
-                    self.of[event] = self.of.get(event, 0) | block
-            stride = period
+def diagrams(equations, trees):
+    """The diagrams of the sets that can be fired, with the trees in the order in which the gates name their events."""
+    named = {o[1]: None for _, operands in equations.gates for o in operands if isinstance(o, tuple) and isinstance(o[1], str)}
+    events = [*named, *(o[1] for o in (equations.top, equations.conflict) if isinstance(o, tuple) and isinstance(o[1], str))]
+    tree_of = {event_of(edge.label): number for number, tree in enumerate(trees) for edge in tree.edges}
+    return Diagrams([paths(trees[number]) for number in dict.fromkeys(tree_of[event] for event in events if event in tree_of)])
 
 
 class Smaller:
     """Equal gates become one, equal operands too; constants go, and operands that say nothing more than another one.
 
-    Where the trees of modes have few enough sets that can be fired, gates that are equal at all of them become one too,
-    and an operand goes where the others say the same without it.
+    With the trees of modes, gates that are equal at all sets of events that can be fired become one too, and an operand goes
+    where the others say the same without it. `is_all_seen` is whether the diagrams of these sets were small enough for that.
     """
 
     def __init__(self, equations, trees=()):
-        self.gates, self.known, self.made, self.sets, self.tables = [], {}, [], None, []
-        if trees:
-            operands = [o for _, some in equations.gates for o in some] + [equations.top, equations.conflict]
-            events = {o[1] for o in operands if isinstance(o, tuple) and isinstance(o[1], str)}
-            sets = Sets(trees, events)
-            self.sets = sets if sets.count <= MOST_SETS else None
         self.uses = Counter(o[1] for _, operands in equations.gates for o in operands if o not in ("true", "false"))
+        self.is_all_seen = bool(trees)
+        try:
+            self.take(equations, diagrams(equations, trees) if trees else None)
+        except TooLarge:
+            self.is_all_seen = False
+            self.take(equations, None)
+
+    def take(self, equations, sets):
+        """Makes the gates."""
+        self.gates, self.known, self.made, self.sets, self.tables = [], {}, [], sets, []
         for sign, operands in equations.gates:
             self.made.append(self.gate(sign, [p for o in operands for p in self.flat(sign, o)]))
         self.top = self.operand(equations.top)
@@ -132,32 +122,42 @@ class Smaller:
     def table(self, operand):
         """The sets at which an operand is true."""
         negated, what = operand
-        found = self.tables[what] if self.is_gate(operand) else self.sets.of[what]
-        return self.sets.all ^ found if negated else found
+        found = self.tables[what] if self.is_gate(operand) else self.sets.of.get(what, NONE)
+        return self.sets.opposite(found) if negated else found
 
     def table_of(self, sign, operands):
-        found = self.sets.all if sign == "&" else 0
+        found = ALL if sign == "&" else NONE
         for operand in operands:
-            found = found & self.table(operand) if sign == "&" else found | self.table(operand)
+            found = self.sets.join(sign, found, self.table(operand))
         return found
 
     def needed(self, sign, operands):
         """The operands without those that change nothing, or one operand that is the same as all of them together."""
         whole = self.table_of(sign, operands)
-        if whole in (0, self.sets.all):
-            return (False, whole != 0)
+        if whole in (NONE, ALL):
+            return (False, whole == ALL)
+        other = self.sets.opposite(whole)
         for event, table in self.sets.of.items():
-            if whole in (table, self.sets.all ^ table):
+            if table in (whole, other):
                 return (whole != table, event)
-        for negated, table in ((False, whole), (True, self.sets.all ^ whole)):
+        for negated, table in ((False, whole), (True, other)):
             if table in self.known:
                 return (negated, self.known[table])
-        kept = list(operands)
-        for operand in sorted(operands, key=lambda o: not self.is_gate(o)):
-            without = [o for o in kept if o != operand]
-            if without and self.table_of(sign, without) == whole:
-                kept = without
-        return kept
+        return self.news(sign, list(operands), whole)
+
+    def news(self, sign, operands, whole):
+        """The operands that are needed: those of other gates go first, where the ones before and behind say the same."""
+        ordered = sorted(operands, key=lambda o: not self.is_gate(o))
+        neutral, kept = ALL if sign == "&" else NONE, set()
+        behind = [neutral]
+        for operand in reversed(ordered):
+            behind.append(self.sets.join(sign, behind[-1], self.table(operand)))
+        before = neutral
+        for operand, rest in zip(ordered, behind[-2::-1]):
+            if self.sets.join(sign, before, rest) != whole:
+                kept.add(operand)
+                before = self.sets.join(sign, before, self.table(operand))
+        return [operand for operand in operands if operand in kept]
 
     def absorbed(self, sign, operands):
         """Leaves out a gate of the other kind that has another operand among its own: a | (a & b) is a."""

@@ -93,6 +93,26 @@ def groups(cuts, paths):
     return found
 
 
+def odd_one(cuts, paths):
+    """The one unit of a class that cannot be exchanged with the others, where all others can be with each other and most cut
+    sets have a twin all the same; with one of the others, as `Twinless`. None where there is no such unit."""
+    found = []
+    for path in paths:
+        group = next((group for group in found if not is_nested(group[0], path) and not cuts.twinless([(group[0], path)])[0]), None)
+        if group is None:
+            found.append([])
+        (found[-1] if group is None else group).append(path)
+        if len(found) > 2:
+            return None
+    if len(found) != 2 or min(map(len, found)) > 1 or len(paths) < 3:
+        return None
+    (odd,), others = sorted(found, key=len)
+    if is_nested(odd, others[0]):
+        return None
+    lost, concerned = cuts.twinless([(odd, others[0])])
+    return Twinless(odd, others[0], len(lost), lost[0], concerned) if 2 * len(lost) < concerned else None
+
+
 def is_nested(first, second):
     return first.startswith(second + ".") or second.startswith(first + ".")
 

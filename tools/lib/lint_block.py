@@ -18,7 +18,7 @@ class Block:
     def __init__(self, file, asked, value, drop):
         self.source, self.observers = model.Source(file, asked.main), asked.observers
         self.value, self.drop = value or "true", [event for event in (drop or "").split(",") if event]
-        left = [] if drop is None else ["--drop=" + drop]
+        self.left = left = [] if drop is None else ["--drop=" + drop]
         wanted = left if value is None else left + ["--value=" + value]
         self.flat, self.tree, self.found = self.source.flat, self.source.tree, []
         self.domains = {p: texts.values_of(v.domain) for p, v in self.flat.variables.items()}
@@ -51,6 +51,13 @@ class Block:
         """The events that are in a cut of one of the observers."""
         return {texts.event_of(label) for cuts in self.cuts.values() for line in cuts for label in line}
 
+    def events_of(self, observer):
+        """The events that are in a cut of another observer, none where the program refuses the list."""
+        try:
+            return {texts.event_of(label) for cut in texts.cuts(self.source.ask("cuts", ["--observer=" + observer, *self.left])) for label in cut}
+        except Refused:
+            return set()
+
     def place(self, path):
         """The line and the column of the declaration of a thing."""
         name = self.tree.places[path][1]
@@ -60,6 +67,12 @@ class Block:
         kind, variable = self.tree.places[path][0], self.flat.variables.get(path)
         kind = kind if variable is None else "state" if variable.state else "flow"
         self.found.append(Finding(*self.place(path), rule, "%s %s %s" % (kind, path, what)))
+
+    def say_unit(self, rule, path, what):
+        """The same of a unit, at its declaration in the unit above."""
+        above, _, last = path.rpartition(".")
+        name = next(name for name, kind, _ in self.tree.bodies.names(self.nodes[above].scope.unit) if kind == "unit" and name.text == last)
+        self.found.append(Finding(name.line, name.column, rule, "unit %s %s" % (path, what)))
 
     def is_written_in(self, unit, one):
         """Whether an assignment is written in the body of this unit."""

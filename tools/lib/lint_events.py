@@ -2,10 +2,15 @@
 import re
 
 import expressions
+import likeness
+import questions
 import settle
 import texts
 from lint_block import place_of, shortened
 from lint_flows import MOST_STATES, moved
+
+MOST_EXCHANGED = 100_000
+"""The most units of a class times cut sets of an observer for which units are exchanged."""
 
 
 def names_of(sets):
@@ -160,18 +165,48 @@ def outside_domain(block):
                 block.say("outside_domain", path, "is compared with %s, which its domain does not have" % plain)
 
 
-CHECKS = (taken_away, never_changed, read_nowhere, never_fired, mode_never_entered, outside_domain)
-
-
 def in_no_cut(blocks):
-    """Events that can be fired in a block and are in no minimal cut set of any observer; said of the first such block."""
+    """Events that can be fired in a block and are in no minimal cut set of any observer; said of the first such block. Those that
+    are in one of an observer that is not asked for are expected, and have a check of their own."""
     asked = [block for block in blocks if block.observers]
     names = ["%s:%s" % (block.name, o) if len(blocks) > 1 else o for block in asked for o in block.observers]
     used = {(event, block.place(event)) for block in asked for event in block.used_events()}
     for block in asked:
-        live = block.live_events()
+        unused = []
         for path in block.tree.of_kind("event"):
             key = (path, block.place(path))
-            if path in live and key not in used:
+            if path in block.live_events() and key not in used:
                 used.add(key)
-                block.say("in_no_cut", path, "is in no minimal cut set of %s%s" % (" or of ".join(names), block.without))
+                unused.append(path)
+        elsewhere = in_other_cuts(block, unused)
+        for path in unused:
+            rule, more = ("in_other_cut", ", but in one of %s" % elsewhere[path]) if path in elsewhere else ("in_no_cut", "")
+            block.say(rule, path, "is in no minimal cut set of %s%s%s" % (" or of ".join(names), block.without, more))
+
+
+def in_other_cuts(block, events):
+    """For each of these events that is in a cut set of another Boolean observer the first of these."""
+    found, left = {}, set(events)
+    asked = {block.tree.canonical(observer) for observer in block.observers}
+    for observer in questions.boolean_observers(block.source)[0]:
+        if left and observer not in asked:
+            for event in left & block.events_of(observer):
+                found[event] = observer
+            left -= set(found)
+    return found
+
+
+def unlike_others(block):
+    """A unit that is unlike all others of its class in a list of cut sets: `exchange` looks at all of them."""
+    classes = likeness.classes(block.tree)
+    for observer, listed in block.cuts.items():
+        cuts = likeness.Cuts(listed)
+        for name, paths in classes.items():
+            paths = [path for path in paths if cuts.of(path)]
+            odd = likeness.odd_one(cuts, paths) if len(paths) * len(cuts.cuts) <= MOST_EXCHANGED else None
+            if odd:
+                block.say_unit("unlike_others", odd.first, "is unlike the other units of its class, %s: with %s in its place %d of %d cut sets of %s have "
+                               "no twin, as {%s}; tools/exchange says more" % (name, odd.second, odd.lost, odd.concerned, observer, ", ".join(sorted(odd.cut))))
+
+
+CHECKS = (taken_away, never_changed, read_nowhere, never_fired, mode_never_entered, outside_domain, unlike_others)

@@ -3,9 +3,11 @@ import shutil
 import subprocess
 from html import escape
 
+import flows
 import gates
 import model
 import program
+import runs
 import texts
 from command import CouldNot, escaped, files_of, options_of, readable
 
@@ -61,6 +63,27 @@ def units(file, words, most):
         rows = [(path.rpartition(".")[2], True, ""), ("alias of %s" % (target or "the system"), False, "")]
         lines.append("  %s [label=%s]\n%s" % (quoted(path), table(rows, "#f5f5f5"), branch(path, ", style=dashed")))
     return "".join(lines) + "}\n"
+
+
+def start_of(source):
+    """The values of variables and observers at the start, none where the flows meet a fault there."""
+    try:
+        first = runs.start(source)[0]
+    except CouldNot:
+        return {}
+    return {**first.values, **first.observers}
+
+
+def feeding(file, words, most):
+    """Which part feeds which, with the values at the start. Where there are more boxes, units are folded; where there are more
+    still, those nearest to the observer are drawn, and the picture says so."""
+    source = model.Source(file, words.main)
+    system = flows.System(source.flat)
+    observer = flows.observer_of(system, source, words.observer)
+    drawn, every = flows.nearest(system, observer, most)
+    left = "" if len(drawn) == every else ": the %d boxes of %d that are nearest to %s" % (len(drawn), every, observer or "the first one")
+    title = "Which part feeds which in %s%s" % (readable(file), left)
+    return flows.Drawing(system, "", drawn, observer, start_of(source)).text(True, title)
 
 
 def branch(path, style):
@@ -145,7 +168,8 @@ def observer_gates(file, words, most):
     apart = [n for n in smaller.order(smaller.conflict) if n not in set(tops)] if conflict else []
     enough(len(tops) + len(apart) + 2, most)
     names = {number: "gate %d" % (place + 1) for place, number in enumerate(tops + apart)}
-    lines = [head("gates", "The gates of %s in %s%s" % (observed(words), readable(file), without(words)), ", ordering=out", "0.6")]
+    left = "" if smaller.is_all_seen or not trees else "; some of their operands may change nothing"
+    lines = [head("gates", "The gates of %s in %s%s%s" % (observed(words), readable(file), without(words), left), ", ordering=out", "0.6")]
     lines += [root(smaller, names, *r) for r in roots] + [gate(smaller, names, n) for n in tops]
     if conflict:
         lines.append('  subgraph cluster_conflict {\n    graph [label="where flows contradict each other", color="#c08080"]\n')

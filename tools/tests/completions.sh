@@ -22,9 +22,11 @@ equal "bash offers the files" 'examples/bus.alt examples/bus.cuts examples/bus.s
 known=$(commands | cut -d' ' -f1 | LC_ALL=C sort | paste -sd' ')
 equal "TEXTS has ten commands" 10 "$(wc -w <<<"$known")"
 equal "bash offers each command of TEXTS" "$known" "$(offers altarica '')"
-equal "bash offers the first words of the script" '--explain --help --unproved --version --why' "$(offers altarica --)"
+equal "bash offers the first words of the script" '--explain --help --open --unproved --version --why' "$(offers altarica --)"
 equal "bash offers the commands behind them" 'check checkcuts cuts' "$(offers altarica --unproved --why c)"
 equal "bash finds the model behind them" 'too_weak wheels' "$(offers altarica --why cuts examples/brake.alt --observer '')"
+equal "bash finds the model behind --open" 'too_weak wheels' "$(offers altarica --open examples/brake.alt --observer '')"
+equal "bash offers the options of --open" '--browser --drop --idle --main --nodes --observer --port --value' "$(offers altarica --open examples/brake.alt --)"
 equal "bash finds the model behind an option" 'too_weak wheels' "$(offers altarica cuts --nodes 5 examples/brake.alt --observer '')"
 printf '// block no\nclass C block inner Boolean s (init = true); end end\nblock One\n  C c;\n  block within Boolean s (init = true); end\nend\nblock Two C c; end\n' >"$work/blocks.alt"
 equal "bash offers the blocks for --main that may be one" 'One Two' "$(offers altarica check "$work/blocks.alt" --main '')"

@@ -45,9 +45,10 @@ for name in "${names[@]}"; do
   trial "$name" lint --json -- "$name"
   trial "$name" why check -- "$name"
   trial "$name" draw units --dot -- "$name"
-  trial "$name" report "${asked[@]}" -- "$name"
+  trial "$name" report "${asked[@]}" --stories 0 -- "$name"
   trial "$name" to_open_psa tree "${asked[@]}" -- "$name"
   trial "$name" order -- "$name" "$work/list"
+  trial "$name" open --idle 0.005 -- "$name"
   cp cuts.xml "room/$name"
   trial "$name" to_open_psa back -- "$name" "$name"
   cp list "room/$name"
@@ -57,7 +58,7 @@ for name in "${names[@]}"; do
   rm -f "room/$name"
   trial "$name" draw units --dot --out="$name" "$work/model"
   written "$name" units.dot
-  trial "$name" report "${asked[@]}" --out="$name" "$work/model"
+  trial "$name" report "${asked[@]}" --stories 0 --out="$name" "$work/model"
   [ ! -e "room/$name" ] || grep -q '</html>' "room/$name" || wrong+="half a page: $name; "
   rm -f "room/$name"
   equal "the name $(printf '%q' "$name")" '' "$wrong"
@@ -77,7 +78,7 @@ equal "standard input that is closed is an empty list, which is none" 4 "$("$top
 equal "an empty name of an observer is no use" 2 "$("$top/tools/lint" model --observer= 2>/dev/null; echo $?)"
 equal "a full disk is said" 4 "$("$top/tools/draw" units model --dot --out /dev/full >/dev/null 2>&1; echo $?)"
 for words in "lint $top/tests/lint/slips.alt" "why check model" "order model list" "compare list list" "line_as_script list 1" "draw units model --dot" \
-  "report model --observer too_weak" "to_open_psa cuts model --observer too_weak" "explain L10"; do
+  "report model --observer too_weak --stories 0" "to_open_psa cuts model --observer too_weak" "explain L10"; do
   # shellcheck disable=SC2086
   equal "standard output that takes nothing: ${words%% *}" '4 1' "$("$top"/tools/$words >/dev/full 2>err; echo $?) $(grep -v 'main block' err | grep -c .)"
 done

@@ -35,5 +35,5 @@ if grep -q __asan_init "$ALTARICA"; then
   echo "skipped: report of 1,000,000 cuts (that is asked of a proved program: rt ci)"
 else
   equal "report of 1,000,000 cuts" within "$(costs tools/report "$work/large.alt" --observer lost --out "$work/large.html")"
-  equal "its page has them" 'There are <b>1000000' "$(grep -o 'There are <b>[0-9]*' "$work/large.html")"
+  equal "its page has them" '<b class="found">1000000' "$(grep -o '<b class="found">[0-9]*' "$work/large.html")"
 fi

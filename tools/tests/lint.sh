@@ -48,6 +48,12 @@ equal "lint with an observer: in the right model each failure is in a cut set" '
   "$(tools/lint tests/models/howto/trains.alt --observer no_flow 2>/dev/null) status $?"
 equal "lint with an observer lists the failures that are in no cut set" 'bus_b.fail b.valve.fail b.pump.fail b.check.fail' \
   "$(tools/lint tests/models/howto/trains_open.alt --observer no_flow | sed -n 's/.* event \(.*\) is in no minimal cut set of no_flow$/\1/p' | paste -sd' ')"
+equal "lint with an observer names a unit that is unlike the others of its class" \
+  'tests/models/howto/channels.alt:14:19: lint: unit c3 is unlike the other units of its class, Channel: with c1 in its place 2 of 6 cut sets of lost have no twin, as {bus_2.fail, c1.computer.fail, c2.computer.fail}; tools/exchange says more' \
+  "$(tools/lint tests/models/howto/channels.alt --observer lost 2>/dev/null)"
+equal "lint with an observer says behind all else which failures are in a cut set of another one" 'in_no_cut in_no_cut unset_flow in_other_cut in_other_cut' \
+  "$(sed 's/^  observer Boolean no_flow.*/&\n  observer Boolean b_dry = bus_b.state == FAILED or b.valve.state == FAILED;/' tests/models/howto/trains_open.alt >"$work/two.alt"
+    tools/lint "$work/two.alt" --observer no_flow --names 2>/dev/null | sed 's/.*\[\(.*\)\]$/\1/' | xargs)"
 equal "lint with an observer, without the dropped events" ' status 0' \
   "$(tools/lint examples/ring.alt --observer south_is_deaf --drop north.mend,east.mend,south.mend,west.mend 2>/dev/null) status $?"
 equal "lint with an observer whose cut sets are refused" 'lint: examples/ring.alt: outside: S6 at north.works (status 4) status 3' \

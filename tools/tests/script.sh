@@ -79,7 +79,7 @@ chmod +x "$lab/bin/rt"
 new_copy
 run --help
 point "--help answers at once, with status 0 and no build" both '[ $status -eq 0 ]' '[ $took -lt 2000 ]' 'calls 0'
-for word in check flat replay explain fragment equations cuts modules checkcuts make --main --observer --value --drop --nodes --max-order --unproved --why --explain; do
+for word in check flat replay explain fragment equations cuts modules checkcuts make --main --observer --value --drop --nodes --max-order --unproved --why --open --explain; do
   grep -q -- "$word" "$lab/out" || echo "failed: --help names $word"
 done
 point "--help has the statuses" grep -q "Exit status" "$lab/out"
@@ -314,6 +314,14 @@ changeover|A changeover switch
 monitor|A unit that gives no value or a false one
 short|A failure that spreads
 control loop|A control loop
+probability|Probabilities;What this is not for
+failure rate|Probabilities;What this is not for
+fmea|What each failure does: an FMEA
+sequence|What this is not for
+phase|What this is not for
+test interval|What this is not for
+library|A library of parts
+workbench|Start it;Play a cut set
 out of service|A part that is out of service
 observer|script: a script, a list or a word names nothing
 no observer|script: a script, a list or a word names nothing

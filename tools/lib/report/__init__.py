@@ -1,0 +1,1 @@
+"""The page of `report`: `cut_sets` makes the section of an observer's cut sets, `page` puts the parts together. Not proved."""

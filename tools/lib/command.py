@@ -4,6 +4,7 @@ The texts of models and of the program are strings with one character for each b
 name of the command line is turned into such a text by `shown`, and what is written is turned into bytes again.
 """
 import argparse
+import contextlib
 import os
 import signal
 import stat
@@ -14,6 +15,24 @@ DONE, FOUND, NO_USE, REFUSED, COULD_NOT = range(5)
 TOP = os.path.dirname(os.path.dirname(os.path.dirname(os.path.realpath(__file__))))
 NAME = os.path.basename(sys.argv[0])
 MODEL_OPTIONS = ("--main", "--observer", "--value", "--nodes", "--drop")
+
+
+unsaid = []
+"""What standard error did not take."""
+
+
+class Stopped(BaseException):
+    """A signal ends the run."""
+
+    def __init__(self, number):
+        super().__init__(number)
+        self.status = 128 + number
+
+    @classmethod
+    def by(cls, number, _):
+        """Takes the signal, and no further one."""
+        handle_signals(signal.SIG_IGN)
+        raise cls(number)
 
 
 class NoUse(Exception):
@@ -99,11 +118,26 @@ def write(text):
     sys.stdout.buffer.write(text.encode("latin-1"))
 
 
+def to_errors(text):
+    """Writes a text of bytes to standard error. Where that takes nothing, the run ends with COULD_NOT."""
+    try:
+        sys.stderr.buffer.write(text.encode("latin-1", "backslashreplace"))
+        sys.stderr.buffer.flush()
+    except OSError:
+        unsaid.append(text)
+        lead_away(sys.stderr)
+
+
+def lead_away(file):
+    """Lets nothing more go to a standard file that takes nothing."""
+    nowhere = os.open(os.devnull, os.O_WRONLY)
+    os.dup2(nowhere, file.fileno())
+    os.close(nowhere)
+
+
 def say(text):
     """Writes a line to standard error, with the helper's name."""
-    sys.stderr.flush()
-    sys.stderr.buffer.write(("%s: %s\n" % (NAME, text)).encode("latin-1", "backslashreplace"))
-    sys.stderr.buffer.flush()
+    to_errors("%s: %s\n" % (NAME, text))
 
 
 def put(name, content):
@@ -116,17 +150,18 @@ def put(name, content):
     mask = os.umask(0)
     os.umask(mask)
     mode = stat.S_IMODE(os.stat(target).st_mode) if os.path.exists(target) else 0o666 & ~mask
+    made = None
     try:
         handle, made = tempfile.mkstemp(prefix=".altarica-", dir=os.path.dirname(target))
-    except OSError as error:
-        raise CouldNot("%s: %s" % (shown(name), error.strerror)) from error
-    try:
         with os.fdopen(handle, "wb") as file:
             file.write(content)
         os.chmod(made, mode)
         os.replace(made, target)
-    except BaseException:
-        os.unlink(made)
+    except BaseException as error:
+        with contextlib.suppress(OSError, TypeError):
+            os.unlink(made)
+        if isinstance(error, OSError):
+            raise CouldNot("%s: %s" % (shown(name), error.strerror)) from error
         raise
 
 
@@ -167,7 +202,7 @@ def ended(about, declare, work, words, needs_words):
     """Does the work and returns the status; says why where it could not be done."""
     try:
         if needs_words and not words:
-            sys.stderr.write(about.strip() + "\n")
+            to_errors(about.strip() + "\n")
             return NO_USE
         if {"--help", "-h"} & set(words):
             write(about.strip() + "\n")
@@ -181,13 +216,11 @@ def ended(about, declare, work, words, needs_words):
         return status or DONE
     except NoUse as error:
         say(shown(str(error)))
-        sys.stderr.write("usage: %s\n%s --help says more\n" % (about.strip().split("\n\n")[0].replace("\n", "\n       "), NAME))
+        to_errors("usage: %s\n%s --help says more\n" % (about.strip().split("\n\n")[0].replace("\n", "\n       "), NAME))
         return NO_USE
     except Refused as refused:
         say(refused.line)
         return REFUSED
-    except KeyboardInterrupt:
-        return 130
     except Exception as error:
         say(reason_of(error))
         return COULD_NOT
@@ -206,20 +239,39 @@ def open_what_is_closed():
     return was_closed
 
 
-def run(about, declare, work, own=own_words, needs_words=True):
-    """Runs a helper: `about` is what it says of itself, `declare` adds its words to a parser, `work` takes them and returns
-    a status, `own` gives the words among which --help and --version are its own. Ends the process."""
-    signal.signal(signal.SIGPIPE, signal.SIG_DFL)
-    sys.setrecursionlimit(20000)
-    if open_what_is_closed():
-        say("standard output is closed")
-        sys.exit(COULD_NOT)
-    status = ended(about, declare, work, own(sys.argv[1:]) or sys.argv[1:2], needs_words)
+def handle_signals(handler):
+    """Handles the signals by which a run is stopped, but for those that are ignored already."""
+    for number in (signal.SIGINT, signal.SIGTERM, signal.SIGHUP):
+        if signal.getsignal(number) != signal.SIG_IGN:
+            signal.signal(number, handler)
+
+
+def flushed(status):
+    """The status at the end, once all is written."""
     try:
         sys.stdout.buffer.flush()
     except OSError as error:
         if status != COULD_NOT:
             say("standard output: %s" % error.strerror)
         status = COULD_NOT
-        os.dup2(os.open(os.devnull, os.O_WRONLY), sys.stdout.fileno())
+        lead_away(sys.stdout)
+    return COULD_NOT if unsaid else status
+
+
+def run(about, declare, work, own=own_words, needs_words=True):
+    """Runs a helper: `about` is what it says of itself, `declare` adds its words to a parser, `work` takes them and returns
+    a status, `own` gives the words among which --help and --version are its own. Ends the process; where it is stopped, what
+    it has begun to write is taken away."""
+    signal.signal(signal.SIGPIPE, signal.SIG_DFL)
+    sys.setrecursionlimit(20000)
+    try:
+        handle_signals(Stopped.by)
+        if open_what_is_closed():
+            say("standard output is closed")
+            status = COULD_NOT
+        else:
+            status = flushed(ended(about, declare, work, own(sys.argv[1:]) or sys.argv[1:2], needs_words))
+        handle_signals(signal.SIG_DFL)
+    except Stopped as stopped:
+        status = stopped.status
     sys.exit(status)

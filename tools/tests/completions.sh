@@ -13,6 +13,12 @@ equal "bash offers the options of a command" '--drop --main --nodes --observer -
 equal "bash offers no other options" '--main' "$(offers altarica check examples/brake.alt --)"
 equal "bash offers the observers of the model" 'too_weak wheels' "$(offers altarica cuts examples/brake.alt --observer '')"
 equal "bash offers them behind =" 'wheels' "$(offers altarica cuts examples/brake.alt --observer = w)"
+equal "bash finds the model behind a value with =" 'too_weak wheels' "$(offers altarica cuts --main = Brake examples/brake.alt --observer '')"
+equal "and where the words are not split at =" 'too_weak wheels' "$(offers altarica cuts --main=Brake examples/brake.alt --observer '')"
+equal "what is typed behind = is offered with its option where the words are not split" '--observer=too_weak --observer=wheels' \
+  "$(offers altarica cuts examples/brake.alt --observer=)"
+equal "also of several events" '--drop=left_feeder.close,tie.close --drop=left_feeder.close,tie.open' \
+  "$(offers altarica cuts examples/bus.alt --drop=left_feeder.close,tie.)"
 equal "bash offers the events of the model" 'tie.close tie.open' "$(offers altarica cuts examples/bus.alt --drop tie)"
 equal "bash offers further events behind a comma" 'left_feeder.close,tie.close left_feeder.close,tie.open' "$(offers altarica cuts examples/bus.alt --drop left_feeder.close,tie.)"
 equal "bash offers the files" 'examples/bus.alt examples/bus.cuts examples/bus.script examples/bus.trace' "$(offers altarica replay examples/bus)"

@@ -113,3 +113,20 @@ $tool $models/edf.alt --immediate settle --map "$work/map" >"$work/new.alt" 2>/d
 "$ALTARICA" cuts "$work/new.alt" --observer dead >"$work/list"
 equal "a list without events that happen at once" "{GRID.failure, DG.startFailure} {GRID.failure, DG.failure} {T1.failure, T2.failure, DG.startFailure} \
 {T1.failure, T2.failure, DG.failure} {BB.failure} count 5" "$($tool --back "$work/list" "$work/map" --leave-out DG.start 2>/dev/null | tr '\n' ' ' | sed 's/ $//')"
+
+# What is written back is whole, and names of files are written as they came.
+name='модель],[1,"'
+{ echo '// [1],[2],"'; cat $models/burns.alt; } >"$work/$name.alt"
+(cd "$work" && "$top/$tool" "$name.alt" --map "$name.map" >new.alt 2>notes)
+"$ALTARICA" cuts "$work/new.alt" --observer failed >"$work/list"
+equal "a map of a file with a strange name is read" 0 "$($tool --back "$work/list" "$work/$name.map" >"$work/back" 2>&1; echo $?)"
+equal "a place has the name of the file as it came" "$name.alt:4:3" "$($tool --place "$work/$name.map" 5:3)"
+equal "and so have the notes" "$name.alt:15:20" "$(sed -n '1s/: note.*//p' "$work/notes")"
+sed 2d "$work/list" >"$work/short"
+equal "a listing that is not whole is not written back" '4 0 1' \
+  "$($tool --back "$work/short" "$work/$name.map" >"$work/back" 2>"$work/said"; echo $?) $(wc -c <"$work/back") $(grep -c 'is not whole: count' "$work/said")"
+equal "a line that is none of a listing is refused" 4 "$({ echo 'no cut'; cat "$work/list"; } | $tool --back - "$work/$name.map" >/dev/null 2>&1; echo $?)"
+equal "a listing with a byte order mark and other ends of lines" "$($tool --back "$work/list" "$work/$name.map" 2>/dev/null)" \
+  "$({ printf '\357\273\277'; sed 's/$/\r/' "$work/list"; } | $tool --back - "$work/$name.map" 2>/dev/null)"
+equal "the set of no events is written back" '{} count 1 ' "$(printf '{}\ncount 1\n' | $tool --back - "$work/$name.map" | tr '\n' ' ')"
+equal "a map is written whole or not at all" '4' "$($tool "$work/$name.alt" --map "$work/none/map" >/dev/null 2>&1; echo $?)"

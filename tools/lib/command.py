@@ -14,6 +14,8 @@ import tempfile
 DONE, FOUND, NO_USE, REFUSED, COULD_NOT = range(5)
 TOP = os.path.dirname(os.path.dirname(os.path.dirname(os.path.realpath(__file__))))
 NAME = os.path.basename(sys.argv[0])
+NAMED = "\0"
+"""The mark of a word that is a name, whatever it begins with: no word of a command line has it."""
 MODEL_OPTIONS = ("--main", "--observer", "--value", "--nodes", "--drop")
 
 
@@ -73,13 +75,33 @@ class Words(argparse.ArgumentParser):
         self.register("action", None, Once)
 
     def error(self, message):
-        raise NoUse(message)
+        raise NoUse(message.replace(NAMED, ""))
+
+    def mixed(self):
+        """Lets names come behind options too."""
+        self.parse_args = self.parse_mixed
+        return self
+
+    def parse_mixed(self, words):
+        """As parse_args, in any order; behind `--` each word is a name, which is marked until it is read."""
+        at = words.index("--") if "--" in words else len(words)
+        found = self.parse_intermixed_args(words[:at] + [NAMED + word for word in words[at + 1:]])
+        for name, value in vars(found).items():
+            setattr(found, name, unmarked(value))
+        return found
 
     def options(self, *names):
         """Adds options of the program."""
         for name in names:
             self.add_argument(name)
         return self
+
+
+def unmarked(value):
+    """A value that was read, without marks of names."""
+    if isinstance(value, list):
+        return list(map(unmarked, value))
+    return value[len(NAMED):] if isinstance(value, str) and value.startswith(NAMED) else value
 
 
 def options_of(words, *names):

@@ -39,6 +39,13 @@ written() { [ ! -e "room/$1" ] || cmp -s "room/$1" "$2" || wrong+="half a file: 
 
 "$top/tools/draw" units "$work/model" --dot >units.dot
 "$top/tools/to_open_psa" cuts model "${asked[@]}" >cuts.xml
+"$top/tools/from_altarica" "$work/model" --map map >/dev/null
+"$top/tools/join" "$work/model" >joined
+grep -m 1 -n '^{[^,]*}$' list | cut -d: -f2 >one
+grep '^{' list | tr -d '{}' | tr ',' '\n' | sed 's/ //g; s/$/ 0.1/' | sort -u >numbers
+sed 's/ .*/,zone/' numbers >zones
+tr . - <list >result
+sed -n '1{s/ .*//; s/^/fire /; p}' numbers >script
 for name in "${names[@]}"; do
   cp model "room/$name"
   trial "$name" lint -- "$name"
@@ -48,13 +55,44 @@ for name in "${names[@]}"; do
   trial "$name" report "${asked[@]}" -- "$name"
   trial "$name" to_open_psa tree "${asked[@]}" -- "$name"
   trial "$name" order -- "$name" "$work/list"
+  trial "$name" fmea -- "$name"
+  trial "$name" effects -- "$name" too_weak
+  trial "$name" story --observer too_weak -- "$name" "$work/list" 3
+  trial "$name" exchange -- "$name" "$work/list"
+  trial "$name" compare_models --observer too_weak -- "$name" "$name"
+  trial "$name" quantify --model="$name" --time 1 -- "$work/one" "$work/numbers"
+  trial "$name" step -- "$name"
+  trial "$name" join --out=joined -- "$name"
+  [ ! -e room/joined ] || trial "$name" join --places=joined
+  trial "$name" from_altarica --map=map -- "$name"
+  [ ! -e room/map ] || trial "$name" from_altarica --place -- map 9:3
+  rm -f room/joined room/map
   cp cuts.xml "room/$name"
-  trial "$name" to_open_psa back -- "$name" "$name"
+  trial "$name" to_open_psa back -- "$name" "$work/result"
+  cp result "room/$name"
+  trial "$name" to_open_psa back -- "$work/cuts.xml" "$name"
   cp list "room/$name"
   trial "$name" compare -- "$name" "$work/list"
   trial "$name" line_as_script -- "$name" 3
   trial "$name" order -- "$work/model" "$name"
+  trial "$name" exchange -- "$work/model" "$name"
+  trial "$name" story --observer too_weak -- "$work/model" "$name" 3
+  trial "$name" quantify -- "$name" "$work/numbers"
+  trial "$name" from_altarica --back -- "$name" "$work/map"
+  cp numbers "room/$name"
+  trial "$name" quantify -- "$work/one" "$name"
+  trial "$name" to_open_psa cuts "${asked[@]}" --numbers="$name" "$work/model"
+  cp zones "room/$name"
+  trial "$name" effects "$work/model" --apart too_weak "./$name"
+  cp script "room/$name"
+  trial "$name" step -- "$work/model" "$name"
+  cp map "room/$name"
+  trial "$name" from_altarica --back -- "$work/list" "$name"
   rm -f "room/$name"
+  trial "$name" from_altarica --map="$name" "$work/model"
+  written "$name" map
+  trial "$name" join --out="$name" "$work/model"
+  written "$name" joined
   trial "$name" draw units --dot --out="$name" "$work/model"
   written "$name" units.dot
   trial "$name" report "${asked[@]}" --out="$name" "$work/model"

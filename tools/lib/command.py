@@ -10,10 +10,13 @@ import signal
 import stat
 import sys
 import tempfile
+import unicodedata
 
 DONE, FOUND, NO_USE, REFUSED, COULD_NOT = range(5)
 TOP = os.path.dirname(os.path.dirname(os.path.dirname(os.path.realpath(__file__))))
 NAME = os.path.basename(sys.argv[0])
+TURNING = "\u061c\u200e\u200f\u2028\u2029\u202a\u202b\u202c\u202d\u202e\u2066\u2067\u2068\u2069"
+"""Characters that end a line, or turn the direction of writing."""
 NAMED = "\0"
 """The mark of a word that is a name, whatever it begins with: no word of a command line has it."""
 MODEL_OPTIONS = ("--main", "--observer", "--value", "--nodes", "--drop")
@@ -46,11 +49,11 @@ class CouldNot(Exception):
 
 
 class Refused(Exception):
-    """The program refused these words with this line and this status."""
+    """The program refused these words with this line and this status; `file` is the model."""
 
-    def __init__(self, words, status, text):
+    def __init__(self, words, status, text, file):
         super().__init__(text)
-        self.words, self.status, self.text = words, status, text
+        self.words, self.status, self.text, self.file = words, status, text, file
 
     @property
     def line(self):
@@ -115,9 +118,25 @@ def files_of(*names):
     return ["--", *names] if any(name.startswith("-") and name != "-" for name in names) else list(names)
 
 
+def without_controls(text):
+    """A text of characters in which each control character, and each that turns the direction of writing or ends a line, is
+    written as `\\x1b` or `\\u202e`."""
+    return "".join("\\x%02x" % ord(c) if unicodedata.category(c) == "Cc" else "\\u%04x" % ord(c) if c in TURNING else c for c in text)
+
+
+def bytes_of(text):
+    """The bytes of a text with one character for each, or, where some are no bytes, of a text of characters."""
+    try:
+        return text.encode("latin-1")
+    except UnicodeEncodeError:
+        return text.encode("utf-8", "surrogateescape")
+
+
 def escaped(text):
-    """A text without control characters: each is written as `\\x1b`."""
-    return "".join("\\x%02x" % ord(c) if c < " " or c == "\x7f" else c for c in text)
+    """A text of bytes without control characters."""
+    if text.isascii() and text.isprintable():
+        return text
+    return without_controls(bytes_of(text).decode("utf-8", "surrogateescape")).encode("utf-8", "surrogateescape").decode("latin-1")
 
 
 def shown(name):
@@ -127,7 +146,7 @@ def shown(name):
 
 def printed(name):
     """A name of the command line as people read it: what is no UTF-8 in it is written as `\\xff`."""
-    return escaped(os.fsencode(name).decode("utf-8", "backslashreplace"))
+    return without_controls(os.fsencode(name).decode("utf-8", "backslashreplace"))
 
 
 def readable(name):
@@ -143,7 +162,7 @@ def write(text):
 def to_errors(text):
     """Writes a text of bytes to standard error. Where that takes nothing, the run ends with COULD_NOT."""
     try:
-        sys.stderr.buffer.write(text.encode("latin-1", "backslashreplace"))
+        sys.stderr.buffer.write(bytes_of(text))
         sys.stderr.buffer.flush()
     except OSError:
         unsaid.append(text)
@@ -159,7 +178,7 @@ def lead_away(file):
 
 def say(text):
     """Writes a line to standard error, with the helper's name."""
-    to_errors("%s: %s\n" % (NAME, text))
+    to_errors("%s: %s\n" % (escaped(NAME), escaped(text)))
 
 
 def put(name, content):
@@ -212,7 +231,7 @@ def own_words(words):
 def reason_of(error):
     """What went wrong, in a line."""
     if isinstance(error, CouldNot):
-        return str(error)
+        return escaped(str(error))
     if isinstance(error, OSError) and error.strerror:
         return "%s: %s" % (shown(error.filename), error.strerror) if error.filename is not None else error.strerror
     if isinstance(error, MemoryError):
@@ -241,7 +260,7 @@ def ended(about, declare, work, words, needs_words):
         to_errors("usage: %s\n%s --help says more\n" % (about.strip().split("\n\n")[0].replace("\n", "\n       "), NAME))
         return NO_USE
     except Refused as refused:
-        say(refused.line)
+        say("%s: %s" % (shown(refused.file), refused.line))
         return REFUSED
     except Exception as error:
         say(reason_of(error))

@@ -13,6 +13,8 @@ def wrong(words, found):
         return "this is no label and number: %s" % escaped(" ".join(words)[:80])
     if not NUMBER.fullmatch(words[1]) or float(words[1]) > 1:
         return "`%s` is no number from 0 to 1" % escaped(words[1])
+    if float(words[1]) == 0 and re.match("[0.]*[1-9]", words[1]):
+        return "`%s` is too small to be reckoned with" % words[1]
     return "`%s` has a number already" % escaped(words[0]) if words[0] in found else ""
 
 

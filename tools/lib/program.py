@@ -163,5 +163,5 @@ def ask(command, files, options=()):
     if status in (8, 9, 12) or status < 0:
         raise CouldNot("the program ends with status %d, without an answer, on %s" % (status, " ".join(map(shown, words))))
     if status:
-        raise Refused(words, status, text)
+        raise Refused(words, status, text, files[0])
     return text

@@ -128,3 +128,12 @@ equal "and one that is no longer Boolean" '- observer lost + observer lost, whic
   "$(tools/compare_models "$work/right.alt" "$work/turned.alt" 2>&1 | grep observer | tr '\n' ' ')"
 printf 'a.fail\2400.1\nb.fail 0.1\nc.fail 0.1\n' >"$work/wrong"
 equal "bytes that are no ASCII part no label and number" 4 "$(tools/quantify "$work/list" "$work/wrong" >/dev/null 2>&1; echo $?)"
+sed 's/Boolean ok/Boolean okay/' "$work/right.alt" >"$work/refused.alt"
+equal "a refusal names the model, of two the one that is refused" 'compare_models: WORK/refused.alt: rule: L10 at 5:20 (status 3)' \
+  "$(tools/compare_models "$work/right.alt" "$work/refused.alt" 2>&1 | sed "s|$work|WORK|")"
+equal "a list of another model is refused" '4 1' \
+  "$(echo '{nosuch.fail}' | tools/exchange "$work/right.alt" - >"$work/out" 2>"$work/said"; echo "$? $(grep -c 'the model has no event nosuch.fail' "$work/said")")"
+printf 'a.fail 1e-400\nb.fail 0\nc.fail 0\n' >"$work/wrong"
+equal "a number that is too small to be reckoned with is refused" 4 "$(tools/quantify "$work/list" "$work/wrong" >/dev/null 2>&1; echo $?)"
+printf 'a.fail 0\nb.fail 0\nc.fail 0.0e5\n' >"$work/wrong"
+equal "of numbers that are all 0 both sums are 0" '0 0' "$(tools/quantify "$work/list" "$work/wrong" | sed -n '1,2s/.* //p' | xargs)"

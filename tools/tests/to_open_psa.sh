@@ -90,7 +90,7 @@ equal "numbers of dropped events and of events that are in no cut are taken" 9 \
   "$({ cat "$work/numbers"; echo 'north.mend 0.1'; } >"$work/more"; tools/to_open_psa cuts examples/ring.alt "${words[@]}" --numbers "$work/more" | grep -c '<float')"
 equal "--probability is no word of this helper" 2 "$(tools/to_open_psa cuts examples/ring.alt "${words[@]}" --probability >/dev/null 2>&1; echo $?)"
 equal "without them there are none" 0 "$(grep -c '<float' "$work/ring.tree.xml")"
-equal "a model with a conflict is not exported" 'to_open_psa: fault: {upper.lose_sensor}: flow setpoint has two values (status 5) status 3' \
+equal "a model with a conflict is not exported" 'to_open_psa: examples/conflict.alt: fault: {upper.lose_sensor}: flow setpoint has two values (status 5) status 3' \
   "$(tools/to_open_psa tree examples/conflict.alt --observer low 2>&1) status $(tools/to_open_psa tree examples/conflict.alt --observer low >/dev/null 2>&1; echo $?)"
 
 # What is read of other tools is whole: the line `count N`, the set of no events, reports with a namespace.

@@ -24,6 +24,8 @@ MODEL_OPTIONS = ("--main", "--observer", "--value", "--nodes", "--drop")
 
 unsaid = []
 """What standard error did not take."""
+at_end = []
+"""Functions that are called once the work is done."""
 
 
 class Stopped(BaseException):
@@ -253,6 +255,8 @@ def ended(about, declare, work, words, needs_words):
             status = DONE
         else:
             status = work(declare(Words()).parse_args(sys.argv[1:]))
+            for check in at_end:
+                check()
         sys.stdout.flush()
         return status or DONE
     except NoUse as error:
@@ -305,6 +309,7 @@ def run(about, declare, work, own=own_words, needs_words=True):
     it has begun to write is taken away."""
     signal.signal(signal.SIGPIPE, signal.SIG_DFL)
     sys.setrecursionlimit(20000)
+    about = about or "%s: PYTHONOPTIMIZE takes away what it says of itself" % NAME
     try:
         handle_signals(Stopped.by)
         if open_what_is_closed():

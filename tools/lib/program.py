@@ -3,6 +3,7 @@ import functools
 import hashlib
 import os
 import shutil
+import stat
 import subprocess
 from collections import namedtuple
 
@@ -156,8 +157,32 @@ def run(words):
     return done.returncode, done.stdout.decode("latin-1")
 
 
+stamps = {}
+"""Of each model that was asked for: what tells whether it has changed since."""
+
+
+def stamp_of(name):
+    """What changes with a file, or None of what is no plain file."""
+    try:
+        found = os.stat(name)
+    except OSError:
+        return None
+    return (found.st_ino, found.st_size, found.st_mtime_ns) if stat.S_ISREG(found.st_mode) else None
+
+
+def check_unchanged():
+    """CouldNot where a model is another one than when it was first asked for."""
+    for name, stamp in stamps.items():
+        if stamp is not None and stamp_of(name) != stamp:
+            raise CouldNot("%s has changed while it was read: what was written may be of two models" % shown(name))
+
+
+command.at_end.append(check_unchanged)
+
+
 def ask(command, files, options=()):
     """The text that the program writes for a command; Refused where it refuses."""
+    stamps.setdefault(files[0], stamp_of(files[0]))
     words = [command, *options, *files_of(*files)]
     status, text = run(words)
     if status in (8, 9, 12) or status < 0:

@@ -130,3 +130,11 @@ equal "a listing with a byte order mark and other ends of lines" "$($tool --back
   "$({ printf '\357\273\277'; sed 's/$/\r/' "$work/list"; } | $tool --back - "$work/$name.map" 2>/dev/null)"
 equal "the set of no events is written back" '{} count 1 ' "$(printf '{}\ncount 1\n' | $tool --back - "$work/$name.map" | tr '\n' ' ')"
 equal "a map is written whole or not at all" '4' "$($tool "$work/$name.alt" --map "$work/none/map" >/dev/null 2>&1; echo $?)"
+for text in '[[[' '{"files":1,"events":2,"places":3,"text":4,"main":5}' '{"files":[],"events":{},"places":[],"text":"","main":null}' null; do
+  printf '%s\n' "$text" >"$work/wrong"
+  equal "this is no map: $text" '4 1' "$($tool --back "$work/list" "$work/wrong" >/dev/null 2>"$work/said"; echo $?) $(grep -c 'this is no map' "$work/said")"
+done
+equal "places begin at 1:1, and values and events are those of the first model" '2 4 4' \
+  "$(for words in "--place $work/$name.map 1:0" "--back $work/list $work/$name.map --observer failed --value broken" "--back $work/list $work/$name.map --leave-out nosuch"; do
+    # shellcheck disable=SC2086
+    $tool $words >/dev/null 2>&1; echo $?; done | xargs)"

@@ -6,6 +6,7 @@
 names=(
   "it's" 'a "quoted" one' "'\"'" '$(touch ran)' '`touch ran`' '; touch ran' $'new\nline' $'end\n' $'\e[31mred' $'tab\there'
   '<script>alert(1)' '-leading' '--main=B' 'модель' '模型' $'byte\xff' $'\x80\xfe' '%s%n' 'a=b' '*' '\\' 'name#1,2{3}'
+  $'turned\xe2\x80\xaetext' $'c1\xc2\x9b31m'
 )
 cd "$work" || exit 1
 # Pictures are drawn by a stand-in, which takes the texts that name files.
@@ -30,7 +31,7 @@ trial() {
   if grep -q Traceback out err || [ "$status" -gt 1 ] && { [ "$status" -ne 4 ] || is_utf8 "$name" || ! grep -q 'no UTF-8' err; }; then
     wrong+="$tool $* ends with $status: $(tail -n 1 err); "
   fi
-  grep -q $'[\x01-\x08\x0b-\x1f]' out err && wrong+="$tool $* writes control characters; "
+  LC_ALL=C grep -q $'[\x01-\x08\x0b-\x1f]\|\xc2[\x80-\x9f]\|\xe2\x80\xae' out err && wrong+="$tool $* writes control characters; "
   [ ! -e room/ran ] || wrong+="$tool $* runs a name; "
 }
 
@@ -127,3 +128,49 @@ echo 'raise KeyError("slip")' >>broken/tools/lib/lint_events.py
 printf 'def in_no_cut(blocks):\n    raise KeyError("slip")\n' >>broken/tools/lib/lint_events.py
 sed -i '/^raise/d' broken/tools/lib/lint_events.py
 equal "a fault of a helper is its status 4, with a line" "4 lint: this helper failed: KeyError: 'slip'" "$(broken/tools/lint model 2>err; echo "$? $(cat err)")"
+
+# Standard error that takes nothing is a status of its own, and none that means "found something".
+for words in "lint nosuch" "lint" "lint model --nosuch" "explain nonsense" "lint $top/examples/hydraulic.alt" "compare list nosuch" "from_altarica model --main nosuch"; do
+  # shellcheck disable=SC2086
+  equal "standard error that takes nothing: $words" 4 "$("$top"/tools/$words >/dev/full 2>/dev/full; echo $?)"
+done
+equal "a line feed in what is to be explained" '1 0' \
+  "$("$top/tools/explain" $'nothing\nat all' >/dev/null 2>&1; echo $?) $("$top/tools/explain" $'rule: L10\nat 3:3\n' >/dev/null 2>&1; echo $?)"
+equal "without its documentation a helper works" '0 0' \
+  "$(PYTHONOPTIMIZE=2 "$top/tools/lint" model >/dev/null 2>&1; echo $?) $(PYTHONOPTIMIZE=2 "$top/tools/lint" --help >/dev/null 2>&1; echo $?)"
+
+# Stopped in the middle: the status of the signal, and nothing is left of what was begun.
+mkdir slow temporary
+printf '#!/bin/sh\ncase " $* " in *" check "*) exec %q "$@" ;; esac\ntouch slow/waits\nexec sleep 60\n' "$ALTARICA" >slow/program
+chmod +x slow/program
+for signal in TERM:143 HUP:129 INT:130; do
+  for words in "draw gates model --observer too_weak --out slow/picture" "fmea model" "story model list 1 --observer too_weak"; do
+    rm -f slow/waits
+    got=$(TMPDIR=$work/temporary ALTARICA=$work/slow/program python3 - "${signal%:*}" "$top"/tools/$words <<'END'
+import os, signal, subprocess, sys, time
+signal.signal(signal.SIGINT, signal.default_int_handler)
+run = subprocess.Popen(sys.argv[2:], stdout=subprocess.DEVNULL, stderr=subprocess.PIPE)
+for _ in range(600):
+    if os.path.exists("slow/waits"):
+        break
+    time.sleep(0.05)
+run.send_signal(getattr(signal, "SIG" + sys.argv[1]))
+said = run.communicate()[1].decode()
+print(run.returncode, said.strip())
+END
+)
+    equal "stopped by ${signal%:*}: ${words%% *}" "${signal#*:}" "$({ echo "$got"; ls -A temporary slow | grep -v '^program$\|^waits$\|:$'; } | xargs)"
+  done
+done
+
+# A model that changes while it is read is said.
+cp model changing
+printf '#!/bin/sh\necho "// changed" >>changing\nexec %q "$@"\n' "$ALTARICA" >slow/program
+for words in "lint changing" "report changing --observer too_weak --out page" "effects changing"; do
+  # shellcheck disable=SC2086
+  equal "a model that changes in the middle: ${words%% *}" '4 1' \
+    "$(ALTARICA=$work/slow/program "$top"/tools/$words >out 2>err; echo $?) $(grep -c 'changing has changed while it was read' err)"
+done
+equal "and no page is made of two models" '' "$(ls page 2>/dev/null)"
+(printf 'bus.fail\n'; sleep 0.1; while ! grep -q 'fire bus' out; do sleep 0.1; done; echo '// changed' >>changing; echo back) | "$top/tools/step" changing >out 2>err
+equal "also between two steps" '4 1' "$? $(grep -c 'changing has changed' out)"

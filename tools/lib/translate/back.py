@@ -108,8 +108,17 @@ class Listing:
 
     def __init__(self, name, lines, found):
         self.name, self.lines, self.map, self.notes = name, lines, found, []
-        self.system = elaborate(Source(found["text"], found["main"]))[1]
+        self.elaboration, self.system = elaborate(Source(found["text"], found["main"]))
         self.number = {event: number for number, event in enumerate(self.system.fired)}
+
+    def values_of(self, observer):
+        """The values that an observer may have, or None of one that is a whole number."""
+        tree = self.elaboration.tree
+        kind = tree.places[observer][2].parts[0]
+        domain = tree.bodies.domains.get(kind.text)
+        if kind.kind == "Boolean":
+            return True, False
+        return None if domain is None or domain.symbols is None else [symbol.text for symbol in domain.symbols]
 
     def written(self, leave_out=(), goal=None):
         """The listing in the old names; `goal` is an observer and the value with which the order of each line ends."""

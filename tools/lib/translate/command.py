@@ -5,6 +5,7 @@ import sys
 import tempfile
 
 import command
+import grammar
 import hierarchy
 import lists
 import program
@@ -17,7 +18,7 @@ from translate.source import Source
 DONE, PROGRAM_REFUSED, COULD_NOT = command.DONE, command.REFUSED, command.COULD_NOT
 OUTSIDE = 4
 """The status of the program for a model outside the static fragment."""
-PLACE = re.compile(r"([0-9]+):([0-9]+)")
+PLACE = re.compile(r"(0|[1-9][0-9]{0,8}):(0|[1-9][0-9]{0,8})")
 
 
 def declare(parser):
@@ -184,10 +185,23 @@ def translate(words):
 def read_map(path):
     try:
         found = json.loads(read(path))
-        assert {"files", "events", "places", "text", "main"} <= set(found)
-    except (ValueError, TypeError, AssertionError) as error:
+        is_one = is_map(found)
+    except (ValueError, TypeError, AttributeError, KeyError, RecursionError, grammar.SyntaxFault, tokens.LexFault) as error:
         raise command.CouldNot("%s: this is no map that from_altarica wrote" % command.shown(path)) from error
+    if not is_one:
+        raise command.CouldNot("%s: this is no map that from_altarica wrote" % command.shown(path))
     return found
+
+
+def is_map(found):
+    """Whether what was read has the form of a map: names of files, events, places from the first one on, and a model."""
+    names = [*found["files"], *(name for one in found["events"].values() for name in [one["event"], *one["also"]])]
+    ways = [one["way"] for one in found["events"].values()]
+    numbers = [number for row in found["places"] for number in row[:5]]
+    return (all(isinstance(name, str) for name in names) and all(isinstance(way, int) or way is None for way in ways) and
+            all(isinstance(number, int) for number in numbers) and all(len(row) == 6 for row in found["places"]) and
+            found["places"][:1] and found["places"][0][:2] == [1, 1] and
+            all(0 <= row[2] < len(found["files"]) for row in found["places"]) and bool(grammar.parse(found["text"])))
 
 
 def value_of(word):
@@ -197,13 +211,22 @@ def value_of(word):
     return int(word) if re.fullmatch("-?[0-9]+", word) else word
 
 
+def goal_of(listing, words):
+    """The observer that is asked for and its value."""
+    if words.observer not in listing.system.observers:
+        raise command.CouldNot("%s is no observer of the first model" % command.shown(words.observer))
+    value, values = value_of(words.value), listing.values_of(words.observer)
+    if values is not None and value not in values or values is None and type(value) is not int:
+        raise command.CouldNot("%s is no value of %s" % (command.shown(words.value), words.observer))
+    return words.observer, value
+
+
 def write_back(words):
     listing = back.Listing(words.model[0], lists.lines_of(words.model[0]), read_map(words.model[1]))
-    goal = None
-    if words.observer:
-        if words.observer not in listing.system.observers:
-            raise command.CouldNot("%s is no observer of the first model" % command.shown(words.observer))
-        goal = words.observer, value_of(words.value)
+    goal = goal_of(listing, words) if words.observer else None
+    lost = sorted(listed(words.leave_out) - set(listing.number))
+    if lost:
+        raise command.CouldNot("--leave-out: %s is no event of the first model" % command.shown(lost[0]))
     try:
         text = listing.written(listed(words.leave_out), goal)
     except Refused as refused:
@@ -215,8 +238,8 @@ def write_back(words):
 def write_place(words):
     found = read_map(words.model[0])
     at = PLACE.fullmatch(words.model[1])
-    if not at:
-        raise command.NoUse("%s is no LINE:COLUMN" % words.model[1])
+    if not at or "0" in at.groups():
+        raise command.NoUse("%s is no LINE:COLUMN, from 1:1" % words.model[1])
     file, line, column = places.place_in(found["places"], found["files"], int(at[1]), int(at[2]))
     command.write("%s:%d:%d\n" % (command.shown(file), line, column))
     raise Stopped(DONE)

@@ -12,14 +12,10 @@ _altarica_top() {
 
 # Sets `asked`, the words that call the program, for a first word of a command line.
 _altarica_program() {
-  local found top
+  local name=${ALTARICA:-$1} found top
   asked=()
-  if [ -n "${ALTARICA-}" ]; then
-    found=$(type -P -- "$ALTARICA" 2>/dev/null) && asked=("$found")
-    return
-  fi
-  found=$(type -P -- "$1" 2>/dev/null) || return
-  top=$(_altarica_top "$1")
+  found=$(type -P -- "$name" 2>/dev/null) || return
+  top=$(_altarica_top "$name")
   if [ -z "$top" ]; then asked=("$found"); return; fi
   for found in "$top/out/altarica" "$top/crates/altarica_main/out/altarica_main"; do
     if [ -f "$found" ] && [ -x "$found" ]; then asked=("$found"); return; fi

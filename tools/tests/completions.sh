@@ -56,6 +56,11 @@ chmod +x "$work/bin/altarica"
 equal "bash runs no program of the folder one is in" '' "$(ls "$work/ran" 2>/dev/null)"
 equal "bash takes no other program where ALTARICA names none" '' "$(ALTARICA=nosuch offers altarica cuts "$top/examples/brake.alt" --observer '')"
 mkdir -p "$work/repo/out"
+printf '#!/bin/sh\ntouch "%s/ran"\n' "$work" >"$work/repo/altarica"
+chmod +x "$work/repo/altarica"
+ALTARICA=$work/repo/altarica offers altarica cuts "$top/examples/brake.alt" --observer '' >/dev/null
+equal "bash does not start the script where ALTARICA names it" '' "$(ls "$work/ran" 2>/dev/null)"
+cp "$work/repo/altarica" "$work/script"
 cp "$top/altarica" "$work/repo/altarica"
 cp "$ALTARICA" "$work/repo/out/unproved"
 : >"$work/repo/out/unproved.loader"
@@ -80,6 +85,8 @@ if have zsh; then
   equal "zsh reads a name with quotes" 'too_weak wheels' "$(asks _altarica_observers "'$work/two words.alt'")"
   equal "zsh offers the blocks for --main that may be one" 'One Two' "$(asks _altarica_blocks "$work/blocks.alt")"
   equal "zsh takes no other program where ALTARICA names none" '' "$(ALTARICA=nosuch asks _altarica_observers examples/brake.alt)"
+  ALTARICA=$work/script asks _altarica_observers examples/brake.alt >/dev/null
+  equal "zsh does not start the script where ALTARICA names it" '' "$(ls "$work/ran" 2>/dev/null)"
   equal "zsh asks the program that --unproved has compiled" 'too_weak wheels' \
     "$(unset ALTARICA; PATH=$work/bin:$PATH asks _altarica_observers examples/brake.alt)"
   # shellcheck disable=SC2016

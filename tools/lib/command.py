@@ -192,13 +192,17 @@ def put(name, content):
         return
     mask = os.umask(0)
     os.umask(mask)
-    mode = stat.S_IMODE(os.stat(target).st_mode) if os.path.exists(target) else 0o666 & ~mask
+    before = os.stat(target) if os.path.exists(target) else None
     made = None
     try:
         handle, made = tempfile.mkstemp(prefix=".altarica-", dir=os.path.dirname(target))
         with os.fdopen(handle, "wb") as file:
             file.write(content)
-        os.chmod(made, mode)
+        if before is not None:
+            # The owner stays, where this user may give files away.
+            with contextlib.suppress(OSError):
+                os.chown(made, before.st_uid, before.st_gid)
+        os.chmod(made, 0o666 & ~mask if before is None else stat.S_IMODE(before.st_mode))
         os.replace(made, target)
     except BaseException as error:
         with contextlib.suppress(OSError, TypeError):

@@ -180,8 +180,17 @@ def check_unchanged():
 command.at_end.append(check_unchanged)
 
 
+def read_again(*names):
+    """CouldNot where a file can be read once alone: it is read by the program and here, and more than once."""
+    for name in names:
+        is_stream = os.path.exists(name) and not os.path.isfile(name) and not os.path.isdir(name)
+        if is_stream or os.path.abspath(name).startswith(("/dev/stdin", "/dev/fd/", "/proc/")):
+            raise CouldNot("%s is no plain file, and it is read more than once: write it to a file first" % shown(name))
+
+
 def ask(command, files, options=()):
     """The text that the program writes for a command; Refused where it refuses."""
+    read_again(*files)
     stamps.setdefault(files[0], stamp_of(files[0]))
     words = [command, *options, *files_of(*files)]
     status, text = run(words)

@@ -174,3 +174,20 @@ done
 equal "and no page is made of two models" '' "$(ls page 2>/dev/null)"
 (printf 'bus.fail\n'; sleep 0.1; while ! grep -q 'fire bus' out; do sleep 0.1; done; echo '// changed' >>changing; echo back) | "$top/tools/step" changing >out 2>err
 equal "also between two steps" '4 1' "$? $(grep -c 'changing has changed' out)"
+
+# What can be read once alone is refused: it does not wait for a second time.
+mkfifo pipe
+for words in "lint pipe" "why check pipe" "fmea pipe" "report pipe --observer x" "lint /dev/stdin" "why check /dev/fd/0"; do
+  # shellcheck disable=SC2086
+  equal "a model that can be read once alone: $words" '4 1' "$(timeout 60 "$top"/tools/$words <model >/dev/null 2>err; echo $?) $(grep -c 'is no plain file' err)"
+done
+equal "a list may be a pipe" 0 "$(cat list >pipe & timeout 60 "$top/tools/compare" pipe list >/dev/null 2>&1; echo $?)"
+
+# A file that is written over keeps its owner and its mode.
+if [ "$(id -u)" -eq 0 ]; then
+  echo before >owned
+  chown 65534:65534 owned
+  chmod 640 owned
+  "$top/tools/draw" units model --dot --out owned
+  equal "the owner and the mode stay" '65534 65534 640' "$(find owned -printf '%U %G %m\n')"
+fi

@@ -135,6 +135,6 @@ for text in '[[[' '{"files":1,"events":2,"places":3,"text":4,"main":5}' '{"files
   equal "this is no map: $text" '4 1' "$($tool --back "$work/list" "$work/wrong" >/dev/null 2>"$work/said"; echo $?) $(grep -c 'this is no map' "$work/said")"
 done
 equal "places begin at 1:1, and values and events are those of the first model" '2 4 4' \
-  "$(for words in "--place $work/$name.map 1:0" "--back $work/list $work/$name.map --observer failed --value broken" "--back $work/list $work/$name.map --leave-out nosuch"; do
+  "$(cp "$work/$name.map" "$work/plain"; for words in "--place $work/plain 1:0" "--back $work/list $work/plain --observer failed --value broken" "--back $work/list $work/plain --leave-out nosuch"; do
     # shellcheck disable=SC2086
     $tool $words >/dev/null 2>&1; echo $?; done | xargs)"

@@ -159,7 +159,7 @@ said = run.communicate()[1].decode()
 print(run.returncode, said.strip())
 END
 )
-    equal "stopped by ${signal%:*}: ${words%% *}" "${signal#*:}" "$({ echo "$got"; ls -A temporary slow | grep -v '^program$\|^waits$\|:$'; } | xargs)"
+    equal "stopped by ${signal%:*}: ${words%% *}" "${signal#*:}" "$({ echo "$got"; find temporary slow -mindepth 1 ! -name program ! -name waits; } | xargs)"
   done
 done
 

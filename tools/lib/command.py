@@ -185,11 +185,14 @@ def say(text):
 
 def put(name, content):
     """Writes bytes to a file, whole or not at all; to what is no plain file as they come."""
-    target = os.path.realpath(name)
-    if os.path.exists(target) and not stat.S_ISREG(os.stat(target).st_mode):
-        with open(target, "wb") as file:
+    if name.endswith("/"):
+        raise CouldNot("%s names a folder" % shown(name))
+    # A pipe has a name under /dev that leads to no other one.
+    if os.path.exists(name) and not stat.S_ISREG(os.stat(name).st_mode):
+        with open(name, "wb") as file:
             file.write(content)
         return
+    target = os.path.realpath(name)
     mask = os.umask(0)
     os.umask(mask)
     before = os.stat(target) if os.path.exists(target) else None

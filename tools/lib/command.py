@@ -189,8 +189,11 @@ def put(name, content):
         raise CouldNot("%s names a folder" % shown(name))
     # A pipe has a name under /dev that leads to no other one.
     if os.path.exists(name) and not stat.S_ISREG(os.stat(name).st_mode):
-        with open(name, "wb") as file:
-            file.write(content)
+        try:
+            with open(name, "wb") as file:
+                file.write(content)
+        except OSError as error:
+            raise CouldNot("%s: %s" % (shown(name), error.strerror)) from error
         return
     target = os.path.realpath(name)
     mask = os.umask(0)

@@ -358,15 +358,17 @@ if [ "$(head -c 4 "$ALTARICA" | tail -c 3)" = ELF ] && [ -d "/proc/$$" ]; then
   : >"$lab/works"
   : >"$lab/slow"
   for signal in TERM:143 HUP:129 PIPE:141; do
-    (cd "$copy" && PATH=$lab/bin:$PATH exec ./altarica --unproved check plant.alt) >"$lab/out" 2>"$lab/err" </dev/null &
+    mkdir -p "$lab/room"
+    (cd "$copy" && TMPDIR=$lab/room PATH=$lab/bin:$PATH exec ./altarica --unproved check plant.alt) >"$lab/out" 2>"$lab/err" </dev/null &
     pid=$!
-    for _ in $(seq 100); do ls -d "${TMPDIR:-/tmp}"/altarica-try.*/try.* >/dev/null 2>&1 && break; sleep 0.1; done
+    for _ in $(seq 100); do ls -d "$lab"/room/altarica-try.*/try.* >/dev/null 2>&1 && break; sleep 0.1; done
     kill -"${signal%:*}" "$pid"
     wait "$pid"
     status=$?
-    { echo "status $status"; cat "$lab/err"; ls -d "${TMPDIR:-/tmp}"/altarica-try.*; ps -e -o args | grep "rt [t]ry"; } >"$lab/got" 2>&1
+    { ls -A "$lab/room"; ps -e -o args | grep -F -- "$lab/bin/rt try" | grep -v grep; } >"$lab/left"
+    { echo "status $status"; cat "$lab/left" "$lab/err"; } >"$lab/got" 2>&1
     point "stopped by ${signal%:*} while it compiles, it ends with ${signal#*:} and leaves nothing" \
-      both "[ $status -eq ${signal#*:} ]" '[ "$(wc -l <"$lab/got")" -eq "$(($(wc -l <"$lab/err") + 2))" ]' 'grep -q "No such file" "$lab/got"'
+      both "[ $status -eq ${signal#*:} ]" '[ ! -s "$lab/left" ]' '[ -s "$lab/err" ]'
   done
   rm -f "$lab/slow"
   new_copy

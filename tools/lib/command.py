@@ -15,6 +15,9 @@ import unicodedata
 DONE, FOUND, NO_USE, REFUSED, COULD_NOT = range(5)
 TOP = os.path.dirname(os.path.dirname(os.path.dirname(os.path.realpath(__file__))))
 NAME = os.path.basename(sys.argv[0])
+if sys.version_info < (3, 9):
+    sys.stderr.write("%s: this needs Python 3.9, and python3 is %s\n" % (NAME, sys.version.split()[0]))
+    sys.exit(COULD_NOT)
 TURNING = "\u061c\u200e\u200f\u2028\u2029\u202a\u202b\u202c\u202d\u202e\u2066\u2067\u2068\u2069"
 """Characters that end a line, or turn the direction of writing."""
 NAMED = "\0"

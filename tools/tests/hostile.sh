@@ -194,3 +194,5 @@ if [ "$(id -u)" -eq 0 ]; then
   "$top/tools/draw" units model --dot --out owned
   equal "the owner and the mode stay" '65534 65534 640' "$(find owned -printf '%U %G %m\n')"
 fi
+equal "an older Python is said" '4 lint: this needs Python 3.9' \
+  "$(python3 -c 'import argparse, runpy, sys, tempfile; sys.version_info = (3, 8); sys.argv = ["lint", "x"]; runpy.run_path("'"$top"'/tools/lint", run_name="__main__")' 2>err; echo "$? $(sed 's/,.*//' err)")"

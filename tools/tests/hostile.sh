@@ -183,8 +183,8 @@ for words in "lint pipe" "why check pipe" "fmea pipe" "report pipe --observer x"
 done
 equal "a list may be a pipe" 0 "$(cat list >pipe & timeout 60 "$top/tools/compare" pipe list >/dev/null 2>&1; echo $?)"
 
-equal "a pipe may be written to, and no folder is made a file" 'same same 4' "$("$top/tools/draw" units model --dot --out /dev/stdout | cmp - units.dot && echo -n 'same '
-  "$top/tools/draw" units model --dot --out >(cat >piped); sleep 0.5; cmp piped units.dot && echo -n 'same '
+equal "a pipe may be written to, and no folder is made a file" 'same same 4' "$("$top/tools/draw" units "$work/model" --dot --out /dev/stdout | cmp - units.dot && echo -n 'same '
+  "$top/tools/draw" units "$work/model" --dot --out >(cat >piped); sleep 0.5; cmp piped units.dot && echo -n 'same '
   "$top/tools/draw" units model --dot --out new/ >/dev/null 2>&1; echo $?)"
 # A file that is written over keeps its owner and its mode.
 if [ "$(id -u)" -eq 0 ]; then

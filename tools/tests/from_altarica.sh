@@ -138,3 +138,6 @@ equal "places begin at 1:1, and values and events are those of the first model" 
   "$(cp "$work/$name.map" "$work/plain"; for words in "--place $work/plain 1:0" "--back $work/list $work/plain --observer failed --value broken" "--back $work/list $work/plain --leave-out nosuch"; do
     # shellcheck disable=SC2086
     $tool $words >/dev/null 2>&1; echo $?; done | xargs)"
+printf 'block A\n  Boolean s (init = \033]0;title\007 true);\nend\n' >"$work/control.alt"
+equal "control characters of a model do not reach the terminal" '4 0' \
+  "$($tool "$work/control.alt" >/dev/null 2>"$work/said"; echo $?) $(grep -c $'[\001-\010\013-\037]' "$work/said")"

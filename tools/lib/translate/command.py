@@ -252,7 +252,7 @@ def work(words):
         (write_back if words.back else write_place if words.place else translate)(words)
     except Stopped as stopped:
         sys.stdout.flush()
-        command.to_errors("".join(line + "\n" for line in stopped.lines))
+        command.to_errors("".join(command.escaped(line) + "\n" for line in stopped.lines))
         return stopped.status
     except hierarchy.Unknown as error:
         raise command.CouldNot("%s: it has more units, or deeper ones, than are read" % command.shown(words.model[0])) from error

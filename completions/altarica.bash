@@ -12,14 +12,10 @@ _altarica_top() {
 
 # Sets `asked`, the words that call the program, for a first word of a command line.
 _altarica_program() {
-  local found top
+  local name=${ALTARICA:-$1} found top
   asked=()
-  if [ -n "${ALTARICA-}" ]; then
-    found=$(type -P -- "$ALTARICA" 2>/dev/null) && asked=("$found")
-    return
-  fi
-  found=$(type -P -- "$1" 2>/dev/null) || return
-  top=$(_altarica_top "$1")
+  found=$(type -P -- "$name" 2>/dev/null) || return
+  top=$(_altarica_top "$name")
   if [ -z "$top" ]; then asked=("$found"); return; fi
   for found in "$top/out/altarica" "$top/crates/altarica_main/out/altarica_main"; do
     if [ -f "$found" ] && [ -x "$found" ]; then asked=("$found"); return; fi
@@ -70,9 +66,11 @@ _altarica_model() {
   local word place=0 skip=''
   model=''
   for word in "${COMP_WORDS[@]:first:COMP_CWORD-first}"; do
+    # A value is the next word; where Bash splits at `=`, that is a word between the two.
+    if [ "$word" = = ]; then skip=yes; continue; fi
     if [ -n "$skip" ]; then skip=''; continue; fi
     case $word in
-      --main | --observer | --value | --drop | --nodes | --max-order | --port | --idle | =) skip=yes ;;
+      --main | --observer | --value | --drop | --nodes | --max-order | --port | --idle) skip=yes ;;
       --open) place=$((place + 1)) ;;
       -*) ;;
       *) place=$((place + 1)); if [ $place -eq 2 ]; then model=$(_altarica_plain "$word"); return; fi ;;
@@ -84,7 +82,7 @@ _altarica_model() {
 _altarica_offer() {
   local line
   while IFS= read -r line; do
-    [[ -z $line || $line != "$1"* ]] || COMPREPLY+=("${2-}$line")
+    [[ -z $line || $line != "$1"* ]] || COMPREPLY+=("$joined${2-}$line")
   done
 }
 
@@ -120,9 +118,11 @@ _altarica_options() {
 }
 
 _altarica() {
-  local word=${COMP_WORDS[COMP_CWORD]} before=${COMP_WORDS[COMP_CWORD - 1]} first=1 command
+  local word=${COMP_WORDS[COMP_CWORD]} before=${COMP_WORDS[COMP_CWORD - 1]} first=1 command joined=''
   COMPREPLY=()
   if [ "$word" = = ]; then word=''; elif [ "$before" = = ]; then before=${COMP_WORDS[COMP_CWORD - 2]}; fi
+  # Where Bash does not split at `=`, what is offered begins with the option.
+  case $word in --main=* | --observer=* | --drop=* | --value=*) before=${word%%=*} joined=${word%%=*}= word=${word#*=} ;; esac
   while [ "$first" -lt "$COMP_CWORD" ] && [[ ${COMP_WORDS[first]} == --unproved || ${COMP_WORDS[first]} == --why ]]; do
     first=$((first + 1))
   done

@@ -4,16 +4,45 @@ The texts of models and of the program are strings with one character for each b
 name of the command line is turned into such a text by `shown`, and what is written is turned into bytes again.
 """
 import argparse
+import contextlib
 import os
 import signal
 import stat
 import sys
 import tempfile
+import unicodedata
 
 DONE, FOUND, NO_USE, REFUSED, COULD_NOT = range(5)
 TOP = os.path.dirname(os.path.dirname(os.path.dirname(os.path.realpath(__file__))))
 NAME = os.path.basename(sys.argv[0])
+if sys.version_info < (3, 9):
+    sys.stderr.write("%s: this needs Python 3.9, and python3 is %s\n" % (NAME, sys.version.split()[0]))
+    sys.exit(COULD_NOT)
+TURNING = "\u061c\u200e\u200f\u2028\u2029\u202a\u202b\u202c\u202d\u202e\u2066\u2067\u2068\u2069"
+"""Characters that end a line, or turn the direction of writing."""
+NAMED = "\0"
+"""The mark of a word that is a name, whatever it begins with: no word of a command line has it."""
 MODEL_OPTIONS = ("--main", "--observer", "--value", "--nodes", "--drop")
+
+
+unsaid = []
+"""What standard error did not take."""
+at_end = []
+"""Functions that are called once the work is done."""
+
+
+class Stopped(BaseException):
+    """A signal ends the run."""
+
+    def __init__(self, number):
+        super().__init__(number)
+        self.status = 128 + number
+
+    @classmethod
+    def by(cls, number, _):
+        """Takes the signal, and no further one."""
+        handle_signals(signal.SIG_IGN)
+        raise cls(number)
 
 
 class NoUse(Exception):
@@ -25,11 +54,11 @@ class CouldNot(Exception):
 
 
 class Refused(Exception):
-    """The program refused these words with this line and this status."""
+    """The program refused these words with this line and this status; `file` is the model."""
 
-    def __init__(self, words, status, text):
+    def __init__(self, words, status, text, file):
         super().__init__(text)
-        self.words, self.status, self.text = words, status, text
+        self.words, self.status, self.text, self.file = words, status, text, file
 
     @property
     def line(self):
@@ -54,13 +83,33 @@ class Words(argparse.ArgumentParser):
         self.register("action", None, Once)
 
     def error(self, message):
-        raise NoUse(message)
+        raise NoUse(message.replace(NAMED, ""))
+
+    def mixed(self):
+        """Lets names come behind options too."""
+        self.parse_args = self.parse_mixed
+        return self
+
+    def parse_mixed(self, words):
+        """As parse_args, in any order; behind `--` each word is a name, which is marked until it is read."""
+        at = words.index("--") if "--" in words else len(words)
+        found = self.parse_intermixed_args(words[:at] + [NAMED + word for word in words[at + 1:]])
+        for name, value in vars(found).items():
+            setattr(found, name, unmarked(value))
+        return found
 
     def options(self, *names):
         """Adds options of the program."""
         for name in names:
             self.add_argument(name)
         return self
+
+
+def unmarked(value):
+    """A value that was read, without marks of names."""
+    if isinstance(value, list):
+        return list(map(unmarked, value))
+    return value[len(NAMED):] if isinstance(value, str) and value.startswith(NAMED) else value
 
 
 def options_of(words, *names):
@@ -74,9 +123,25 @@ def files_of(*names):
     return ["--", *names] if any(name.startswith("-") and name != "-" for name in names) else list(names)
 
 
+def without_controls(text):
+    """A text of characters in which each control character, and each that turns the direction of writing or ends a line, is
+    written as `\\x1b` or `\\u202e`."""
+    return "".join("\\x%02x" % ord(c) if unicodedata.category(c) == "Cc" else "\\u%04x" % ord(c) if c in TURNING else c for c in text)
+
+
+def bytes_of(text):
+    """The bytes of a text with one character for each, or, where some are no bytes, of a text of characters."""
+    try:
+        return text.encode("latin-1")
+    except UnicodeEncodeError:
+        return text.encode("utf-8", "surrogateescape")
+
+
 def escaped(text):
-    """A text without control characters: each is written as `\\x1b`."""
-    return "".join("\\x%02x" % ord(c) if c < " " or c == "\x7f" else c for c in text)
+    """A text of bytes without control characters."""
+    if text.isascii() and text.isprintable():
+        return text
+    return without_controls(bytes_of(text).decode("utf-8", "surrogateescape")).encode("utf-8", "surrogateescape").decode("latin-1")
 
 
 def shown(name):
@@ -86,7 +151,7 @@ def shown(name):
 
 def printed(name):
     """A name of the command line as people read it: what is no UTF-8 in it is written as `\\xff`."""
-    return escaped(os.fsencode(name).decode("utf-8", "backslashreplace"))
+    return without_controls(os.fsencode(name).decode("utf-8", "backslashreplace"))
 
 
 def readable(name):
@@ -99,34 +164,60 @@ def write(text):
     sys.stdout.buffer.write(text.encode("latin-1"))
 
 
+def to_errors(text):
+    """Writes a text of bytes to standard error. Where that takes nothing, the run ends with COULD_NOT."""
+    try:
+        sys.stderr.buffer.write(bytes_of(text))
+        sys.stderr.buffer.flush()
+    except OSError:
+        unsaid.append(text)
+        lead_away(sys.stderr)
+
+
+def lead_away(file):
+    """Lets nothing more go to a standard file that takes nothing."""
+    nowhere = os.open(os.devnull, os.O_WRONLY)
+    os.dup2(nowhere, file.fileno())
+    os.close(nowhere)
+
+
 def say(text):
     """Writes a line to standard error, with the helper's name."""
-    sys.stderr.flush()
-    sys.stderr.buffer.write(("%s: %s\n" % (NAME, text)).encode("latin-1", "backslashreplace"))
-    sys.stderr.buffer.flush()
+    to_errors("%s: %s\n" % (escaped(NAME), escaped(text)))
 
 
 def put(name, content):
     """Writes bytes to a file, whole or not at all; to what is no plain file as they come."""
-    target = os.path.realpath(name)
-    if os.path.exists(target) and not stat.S_ISREG(os.stat(target).st_mode):
-        with open(target, "wb") as file:
-            file.write(content)
+    if name.endswith("/"):
+        raise CouldNot("%s names a folder" % shown(name))
+    # A pipe has a name under /dev that leads to no other one.
+    if os.path.exists(name) and not stat.S_ISREG(os.stat(name).st_mode):
+        try:
+            with open(name, "wb") as file:
+                file.write(content)
+        except OSError as error:
+            raise CouldNot("%s: %s" % (shown(name), error.strerror)) from error
         return
+    target = os.path.realpath(name)
     mask = os.umask(0)
     os.umask(mask)
-    mode = stat.S_IMODE(os.stat(target).st_mode) if os.path.exists(target) else 0o666 & ~mask
+    before = os.stat(target) if os.path.exists(target) else None
+    made = None
     try:
         handle, made = tempfile.mkstemp(prefix=".altarica-", dir=os.path.dirname(target))
-    except OSError as error:
-        raise CouldNot("%s: %s" % (shown(name), error.strerror)) from error
-    try:
         with os.fdopen(handle, "wb") as file:
             file.write(content)
-        os.chmod(made, mode)
+        if before is not None:
+            # The owner stays, where this user may give files away.
+            with contextlib.suppress(OSError):
+                os.chown(made, before.st_uid, before.st_gid)
+        os.chmod(made, 0o666 & ~mask if before is None else stat.S_IMODE(before.st_mode))
         os.replace(made, target)
-    except BaseException:
-        os.unlink(made)
+    except BaseException as error:
+        with contextlib.suppress(OSError, TypeError):
+            os.unlink(made)
+        if isinstance(error, OSError):
+            raise CouldNot("%s: %s" % (shown(name), error.strerror)) from error
         raise
 
 
@@ -155,7 +246,7 @@ def own_words(words):
 def reason_of(error):
     """What went wrong, in a line."""
     if isinstance(error, CouldNot):
-        return str(error)
+        return escaped(str(error))
     if isinstance(error, OSError) and error.strerror:
         return "%s: %s" % (shown(error.filename), error.strerror) if error.filename is not None else error.strerror
     if isinstance(error, MemoryError):
@@ -167,7 +258,7 @@ def ended(about, declare, work, words, needs_words):
     """Does the work and returns the status; says why where it could not be done."""
     try:
         if needs_words and not words:
-            sys.stderr.write(about.strip() + "\n")
+            to_errors(about.strip() + "\n")
             return NO_USE
         if {"--help", "-h"} & set(words):
             write(about.strip() + "\n")
@@ -177,17 +268,17 @@ def ended(about, declare, work, words, needs_words):
             status = DONE
         else:
             status = work(declare(Words()).parse_args(sys.argv[1:]))
+            for check in at_end:
+                check()
         sys.stdout.flush()
         return status or DONE
     except NoUse as error:
         say(shown(str(error)))
-        sys.stderr.write("usage: %s\n%s --help says more\n" % (about.strip().split("\n\n")[0].replace("\n", "\n       "), NAME))
+        to_errors("usage: %s\n%s --help says more\n" % (about.strip().split("\n\n")[0].replace("\n", "\n       "), NAME))
         return NO_USE
     except Refused as refused:
-        say(refused.line)
+        say("%s: %s" % (shown(refused.file), refused.line))
         return REFUSED
-    except KeyboardInterrupt:
-        return 130
     except Exception as error:
         say(reason_of(error))
         return COULD_NOT
@@ -206,20 +297,40 @@ def open_what_is_closed():
     return was_closed
 
 
-def run(about, declare, work, own=own_words, needs_words=True):
-    """Runs a helper: `about` is what it says of itself, `declare` adds its words to a parser, `work` takes them and returns
-    a status, `own` gives the words among which --help and --version are its own. Ends the process."""
-    signal.signal(signal.SIGPIPE, signal.SIG_DFL)
-    sys.setrecursionlimit(20000)
-    if open_what_is_closed():
-        say("standard output is closed")
-        sys.exit(COULD_NOT)
-    status = ended(about, declare, work, own(sys.argv[1:]) or sys.argv[1:2], needs_words)
+def handle_signals(handler):
+    """Handles the signals by which a run is stopped, but for those that are ignored already."""
+    for number in (signal.SIGINT, signal.SIGTERM, signal.SIGHUP):
+        if signal.getsignal(number) != signal.SIG_IGN:
+            signal.signal(number, handler)
+
+
+def flushed(status):
+    """The status at the end, once all is written."""
     try:
         sys.stdout.buffer.flush()
     except OSError as error:
         if status != COULD_NOT:
             say("standard output: %s" % error.strerror)
         status = COULD_NOT
-        os.dup2(os.open(os.devnull, os.O_WRONLY), sys.stdout.fileno())
+        lead_away(sys.stdout)
+    return COULD_NOT if unsaid else status
+
+
+def run(about, declare, work, own=own_words, needs_words=True):
+    """Runs a helper: `about` is what it says of itself, `declare` adds its words to a parser, `work` takes them and returns
+    a status, `own` gives the words among which --help and --version are its own. Ends the process; where it is stopped, what
+    it has begun to write is taken away."""
+    signal.signal(signal.SIGPIPE, signal.SIG_DFL)
+    sys.setrecursionlimit(20000)
+    about = about or "%s: PYTHONOPTIMIZE takes away what it says of itself" % NAME
+    try:
+        handle_signals(Stopped.by)
+        if open_what_is_closed():
+            say("standard output is closed")
+            status = COULD_NOT
+        else:
+            status = flushed(ended(about, declare, work, own(sys.argv[1:]) or sys.argv[1:2], needs_words))
+        handle_signals(signal.SIG_DFL)
+    except Stopped as stopped:
+        status = stopped.status
     sys.exit(status)

@@ -263,12 +263,16 @@ class Parser(Expressions):
         return Member("variables", names[0], first, self.last, (kind, names, settings))
 
     def setting(self):
-        first = self.now
+        first, words = self.now, self.set_words()
+        return Setting(words, self.expr(), first)
+
+    def set_words(self):
+        """The words of a setting, up to its sign."""
         words = [self.take("name", "init", "reset")]
         while self.taken("."):
             words.append(self.take("name", "init", "reset"))
         self.take("=")
-        return Setting(words, self.expr(), first)
+        return words
 
     def keyed(self, members):
         """Reads a member that begins with a reserved word, where one stands here."""

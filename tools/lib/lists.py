@@ -26,6 +26,16 @@ def lines_of(name):
     return (content[len(MARK):] if content.startswith(MARK) else content).split(b"\n")
 
 
+def text_lines_of(name):
+    """The same as texts with one character for each byte."""
+    return [line.decode("latin-1") for line in lines_of(name)]
+
+
+def words_of(line):
+    """The words of a line, between which are blanks. Bytes of letters that are no ASCII are no blanks."""
+    return [word for word in re.split("[ \t\r]+", line) if word]
+
+
 def labels_of(inner):
     """The labels between the braces of a line, or None where one is missing."""
     labels = [label.strip(BLANKS) for label in inner.split(b",")]

@@ -54,4 +54,4 @@ def listing(file, question, drop=None, order=None):
         return texts.cuts(Source(file, question.block).ask("cuts", options))
     except Refused as refused:
         last = refused.text.rstrip("\n").split("\n")[-1]
-        raise Refused(refused.words, refused.status, "%s: %s" % (shown(question.name), last)) from refused
+        raise Refused(refused.words, refused.status, "%s: %s" % (shown(question.name), last), file) from refused

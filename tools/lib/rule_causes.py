@@ -1,10 +1,11 @@
-"""The cause of a broken rule L1 to L14, found in the text at its place. Not proved: where the text does not show the
-cause, the rule's own words are all that is said.
+"""The cause of a broken rule L1 to L14, found in the text at its place; `rule_words` has what is said of each. Not proved: where
+the text does not show the cause, the rule's own words are all that is said.
 """
 from asked import near
 from grammar import COMPARISONS, Domain, Expr, Instr, Member, Path, Unit
 from hierarchy import Missing, Scope, Tree, Unknown, written
 from refusals import ADVICE, IN_COUNT, KINDS, WORDS
+from rule_words import said
 
 
 def unit_named(scope):
@@ -79,8 +80,7 @@ def items(text):
             before = [i for i in text.bodies.items[:number] if i.name.text == item.name.text]
             if before:
                 kind = "domain" if isinstance(before[0], Domain) else before[0].kind
-                return "`%s` is the name of the %s on line %d already, and no two items have one name" % (
-                    item.name.text, kind, before[0].name.line)
+                return said("name is taken", item.name.text, kind, before[0].name.line)
             return domain(item) if isinstance(item, Domain) else None
     return None
 
@@ -88,12 +88,11 @@ def items(text):
 def domain(item):
     if item.symbols is None:
         if item.low > item.high:
-            return "its low end %d is above its high end %d" % (item.low, item.high)
-        return "it has %d values, and a domain has at most 256" % (item.high - item.low + 1)
+            return said("ends turned round", item.low, item.high)
+        return said("too many values", item.high - item.low + 1)
     names = [s.text for s in item.symbols]
     twice = [n for n in names if names.count(n) > 1]
-    return "it has the symbol `%s` twice" % twice[0] if twice else "it has %d values, and a domain has at most 256" % len(
-        names)
+    return said("symbol twice", twice[0]) if twice else said("too many values", len(names))
 
 
 def type_name(text):
@@ -110,15 +109,14 @@ def type_name(text):
 def type_cause(text, name, wanted):
     bodies = text.bodies
     if name in bodies.units and bodies.units[name].kind == "block":
-        return "`%s` is a block, and %s is needed: of a block there is one only, where it is written" % (
-            name, " or ".join("a " + w for w in wanted))
+        return said("a block is one", name, " or ".join("a " + w for w in wanted))
     if name in bodies.domains:
-        return "`%s` is a domain, and a class is needed" % name
+        return said("domain, no class", name)
     if name in bodies.classes:
-        return "`%s` is a class, and a domain is needed" % name
+        return said("class, no domain", name)
     known = (list(bodies.classes) if "class" in wanted else []) + (
         ["Boolean"] + list(bodies.domains) if "domain" in wanted else [])
-    return "no %s of the text has the name `%s`%s" % (" and no ".join(wanted), name, near(name, known))
+    return said("no such type", " and no ".join(wanted), name, near(name, known))
 
 
 def contains_itself(text):
@@ -146,9 +144,9 @@ def contains_itself(text):
     for name, inner in names.items():
         found = way(name, name, set())
         if found and len(found) == 2:
-            return "`%s` has itself as a part, or extends itself" % name
+            return said("itself as a part", name)
         if found and inner:
-            return "`%s` contains itself: %s" % (name, ", which contains ".join("`%s`" % n for n in found))
+            return said("contains itself", name, ", which contains ".join("`%s`" % n for n in found))
     return None
 
 
@@ -159,7 +157,7 @@ def twice(text):
             if text.here(token) and token.text in names:
                 first = names[token.text]
                 kind = "a part" if first[1] == "unit" else WORDS[first[1]]
-                return "this unit has %s `%s` already, on line %d" % (kind, token.text, first[0].line)
+                return said("member twice", kind, token.text, first[0].line)
             names.setdefault(token.text, (token, kind))
     return None
 
@@ -167,8 +165,8 @@ def twice(text):
 def no_main(text):
     blocks = [n for n, u in text.bodies.units.items() if u.kind == "block"]
     if blocks:
-        return "no top-level block has the name that `--main` gives: there is %s" % ", ".join("`%s`" % b for b in blocks)
-    return "the text has no `block` outside of all others: the last such block is the system, and classes alone are none"
+        return said("no such main block", ", ".join("`%s`" % b for b in blocks))
+    return said("no block at all")
 
 
 def copy_path(text):
@@ -189,15 +187,15 @@ def unit_above(text, missing, path):
     if path.start or missing.found or missing.number or where.unit.kind != "block" or where.owner is None:
         return ""
     kind, _ = text.bodies.find(where.owner, missing.name) or (None, None)
-    return "; the unit above has one: write `owner.%s`" % written(path) if kind == "unit" else ""
+    return said("owner has the unit", written(path)) if kind == "unit" else ""
 
 
 def missing_cause(text, missing, wanted):
     where, name = missing.where, missing.name
     if missing.found:
-        return "`%s` in the %s is %s and no %s" % (name, unit_named(where), WORDS[missing.found[0]], wanted)
+        return said("other kind of member", name, unit_named(where), WORDS[missing.found[0]], wanted)
     names = [t.text for t, kind, _ in text.bodies.names(where.unit) if kind in ("unit", wanted)]
-    return "the %s has no member `%s`%s" % (unit_named(where), name, near(name, names))
+    return said("no such member", unit_named(where), name, near(name, names))
 
 
 def circle(text):
@@ -208,11 +206,11 @@ def circle(text):
         try:
             target = text.bodies.unit(scope, member.parts[0])
         except Unknown:
-            return "to find `%s` one has to follow this `%s` itself" % (path, member.kind)
+            return said("follows itself", path, member.kind)
         outer = scope
         while outer is not None:
             if outer.unit is target.unit:
-                return "`%s` is the unit that this stands in, so its copy would contain a copy, and so on" % path
+                return said("copy of what is around it", path)
             outer = outer.owner
         return None
     return text.first(cause) or "the path comes back to itself, by other `clones` and `embeds`"
@@ -225,13 +223,12 @@ def one_setting(text):
         settings = member.parts[2]
         words = [".".join(w.text for w in s.words) for s in settings]
         if not words:
-            return "it has none: `(init = ..)` makes it a state, which transitions change, and `(reset = ..)` a flow, which " \
-                   "assertions set"
+            return said("no setting")
         if sorted(words) == ["init", "reset"]:
-            return "it has both: `init` makes it a state, `reset` a flow, and it is one of them"
+            return said("both settings")
         if len(words) == 1:
-            return "its setting is `%s`, and a variable has `init` or `reset`" % words[0]
-        return "it has the settings %s, and it has one, `init` or `reset`" % ", ".join("`%s`" % w for w in words)
+            return said("another setting", words[0])
+        return said("several settings", ", ".join("`%s`" % w for w in words))
     return text.first(cause)
 
 
@@ -243,7 +240,7 @@ def setting_target(text):
             if text.here(setting.first):
                 words = [w.text for w in setting.words]
                 if words in [[w.text for w in s.words] for s in member.parts[2][:number]]:
-                    return "this declaration sets `%s` already" % ".".join(words)
+                    return said("set already", ".".join(words))
                 inner = Scope(text.bodies.classes[member.parts[0].text], scope)
                 return target_cause(text, inner, words, member.parts[1][0].text)
         return None
@@ -255,17 +252,16 @@ def target_cause(text, scope, words, part):
     attribute = words[-1] if words[-1] in ("init", "reset") else None
     names = words[:-1] if attribute else words
     if not names:
-        return "it names no variable of the part: a state's value is set as `v.init`, a flow's as `v.reset`"
+        return said("no variable to set")
     for number, name in enumerate(names):
         found = text.bodies.find(scope, name)
         last = number == len(names) - 1
         if not found:
             known = [t.text for t, _, _ in text.bodies.names(scope.unit)]
-            return "the %s has no member `%s`%s" % (unit_named(scope), name, near(name, known))
+            return said("no such member", unit_named(scope), name, near(name, known))
         if not last:
             if found[0] != "unit" or found[1].kind == "embeds":
-                return "`%s` in the %s is no part: a setting goes through parts, not through aliases" % (
-                    name, unit_named(scope))
+                return said("setting through an alias", name, unit_named(scope))
             scope = text.bodies.inner(scope, name, found[1])
     return last_cause(scope, names[-1], attribute, found, ".".join([part, *names]))
 
@@ -273,16 +269,14 @@ def target_cause(text, scope, words, part):
 def last_cause(scope, name, attribute, found, path):
     kind, member = found
     if kind in ("parameter", "kept"):
-        return "`%s` is a parameter: it is set by its name alone" % name if attribute else None
+        return said("parameter by its name", name) if attribute else None
     if kind != "variable":
-        return "`%s` in the %s is %s, and parameters, `init` and `reset` are set alone" % (name, unit_named(scope),
-                                                                                        WORDS[kind])
+        return said("nothing to set", name, unit_named(scope), WORDS[kind])
     own = ".".join(w.text for w in member.parts[2][0].words) if member.parts[2] else "init"
     if own == "reset" and attribute is None:
-        return ("`%s` is a flow, and a setting feeds nothing: write `assertion %s := VALUE;` in the unit above. `%s.reset` is its "
-                "value where no assertion gives it one" % (name, path, name))
+        return said("flow is fed by an assertion", name, path, name)
     if attribute != own:
-        return "`%s` is a %s: it is set as `%s.%s`" % (name, "state" if own == "init" else "flow", name, own)
+        return said("set by another word", name, "state" if own == "init" else "flow", name, own)
     return None
 
 
@@ -300,10 +294,9 @@ def path_cause(text, scope, member):
         if kinds.get(member.name.text) == "event":
             return None
         if member.name.text in kinds:
-            return "`%s` is %s of this unit and no event" % (member.name.text, WORDS[kinds[member.name.text]])
-        return "the %s declares no event `%s`%s: a transition is one of an event of its own unit, as `event %s;`" % (
-            unit_named(scope), member.name.text, near(member.name.text, [n for n, k in own if k == "event"]),
-            member.name.text)
+            return said("no event of this unit", member.name.text, WORDS[kinds[member.name.text]])
+        event = member.name.text
+        return said("no such event", unit_named(scope), event, near(event, [n for n, k in own if k == "event"]), event)
     wanted = "event" if member.kind in ("synchronisation", "hide") else "variable"
     if member.kind in ("clones", "embeds", "variables", "parameter"):
         return None
@@ -318,36 +311,33 @@ def named(text, scope, path, wanted):
     if wanted == "variable" and not path.start and len(path.names) == 1 and path.names[0].text in text.bodies.symbols:
         name = path.names[0].text
         kind = (text.bodies.find(scope, name) or ("variable",))[0]
-        return None if kind in ("variable", "parameter") else (
-            "`%s` is %s of the %s, which hides the symbol `%s`: give one of them another name" % (
-                name, WORDS[kind], unit_named(scope), name))
+        return None if kind in ("variable", "parameter") else said("symbol is hidden", name, WORDS[kind], unit_named(scope), name)
     try:
         found = text.bodies.thing(scope, path)
     except Missing as missing:
         return alone(text, missing, path) if wanted == "variable" else missing_cause(text, missing, wanted)
     except Unknown:
         if path.start == "owner" and scope.unit is text.bodies.main:
-            return "the main block has no unit above it, so `owner` names nothing here"
+            return said("nothing above the main block")
         raise
     if found.kind == wanted or wanted == "variable" and found.kind == "parameter":
         return None
-    return "`%s` is %s, and %s is needed" % (written(path), WORDS[found.kind], "an event" if wanted == "event" else
-                                            "a variable or a parameter")
+    needed = "an event" if wanted == "event" else "a variable or a parameter"
+    return said("other kind is needed", written(path), WORDS[found.kind], needed)
 
 
 def alone(text, missing, path):
     """Why a name of an expression is nothing."""
     if len(path.names) > 1 or path.start:
         if missing.found:
-            return "`%s` in the %s is %s and no unit" % (missing.name, unit_named(missing.where), WORDS[missing.found[0]])
-        return "the %s has no member `%s`%s%s" % (
-            unit_named(missing.where), missing.name, near(missing.name, [t.text for t, _, _ in text.bodies.names(
-                missing.where.unit)]), of_the_unit_above(text, missing, path) or of_the_main_block(text, missing, path))
+            return said("no unit on the way", missing.name, unit_named(missing.where), WORDS[missing.found[0]])
+        names = [t.text for t, _, _ in text.bodies.names(missing.where.unit)]
+        return said("no such member of a path", unit_named(missing.where), missing.name, near(missing.name, names),
+                    of_the_unit_above(text, missing, path) or of_the_main_block(text, missing, path))
     if missing.name.lower() in ("true", "false"):
-        return "the truth values are written `true` and `false`, in small letters"
+        return said("truth values")
     known = [t.text for t, k, _ in text.bodies.names(missing.where.unit) if k in ("variable", "parameter")]
-    return "`%s` is no variable or parameter of the %s, and no domain has such a symbol%s" % (
-        missing.name, unit_named(missing.where), near(missing.name, known + list(text.bodies.symbols)))
+    return said("no such name", missing.name, unit_named(missing.where), near(missing.name, known + list(text.bodies.symbols)))
 
 
 def of_the_unit_above(text, missing, path):
@@ -356,8 +346,7 @@ def of_the_unit_above(text, missing, path):
     if missing.number or where.unit.kind != "block" or where.owner is None or where.owner.unit is main or not text.bodies.find(
             where.owner, missing.name):
         return ""
-    return "; the unit above has one, `owner.%s`. Or the `end` of the block `%s` is missing above" % (
-        ".".join(n.text for n in path.names), where.unit.name.text)
+    return said("owner has the member", ".".join(n.text for n in path.names), where.unit.name.text)
 
 
 def of_the_main_block(text, missing, path):
@@ -368,10 +357,9 @@ def of_the_main_block(text, missing, path):
     scope = missing.where
     while scope is not None:
         if scope.unit.kind == "class":
-            return ("; the main block has one: a class takes what is outside of it by a flow, which the unit above sets for each "
-                    "part")
+            return said("flow into a class")
         scope = scope.owner
-    return "; the main block has one, `main.%s`" % ".".join(n.text for n in path.names)
+    return said("main has the member", ".".join(n.text for n in path.names))
 
 
 def constant_cause(text, scope, member):
@@ -381,15 +369,14 @@ def constant_cause(text, scope, member):
     for path in paths_of([list(exprs_of(v)) for v in values]):
         if text.here(path.first):
             if path.start or len(path.names) > 1:
-                return "the value is a constant, and names symbols and parameters of its own unit alone, without a dot"
+                return said("constant with a dot")
             name = path.names[0].text
             kind = (text.bodies.find(scope, name) or ("",))[0]
             if kind == "parameter":
-                return "a parameter's value names parameters alone that come before it"
+                return said("later parameter")
             if kind:
-                return "the value is a constant, and `%s` is %s" % (name, WORDS[kind])
-            return "`%s` is no symbol of a domain and no parameter of the %s%s" % (
-                name, unit_named(scope), near(name, text.bodies.symbols))
+                return said("no constant", name, WORDS[kind])
+            return said("no such symbol", name, unit_named(scope), near(name, text.bodies.symbols))
     return None
 
 
@@ -492,7 +479,7 @@ def wrong_type(text):
             types.instr(member.parts[0], "")
         for expr, kind, found, what in types.wrong:
             if text.here(expr.first):
-                return "%s has to be %s, and this is %s%s" % (what, KINDS[kind], KINDS[found], advice(kind, found, what, expr))
+                return said("wrong type", what, KINDS[kind], KINDS[found], advice(kind, found, what, expr))
         return None
     return text.first(cause)
 
@@ -537,10 +524,10 @@ def values_cause(text, kind):
     if found is None:
         return None
     if found.symbols is None:
-        return "the domain `%s` has the values from %d to %d" % (kind.text, found.low, found.high)
+        return said("values of a range", kind.text, found.low, found.high)
     names = [s.text for s in found.symbols]
     shown = names if len(names) < 9 else names[:8] + ["and so on"]
-    return "the domain `%s` has the symbols %s" % (kind.text, ", ".join(shown))
+    return said("symbols of a domain", kind.text, ", ".join(shown))
 
 
 # L13 and L14.
@@ -552,7 +539,7 @@ def wrong_target(text):
         for form, path in targets(member.parts[-1]):
             if text.here(path.first):
                 if member.kind == "transition" and form == ":=:":
-                    return "`:=:` is for assertions: it sets two flows from each other, and a transition sets states"
+                    return said("two-way in a transition")
                 return target_kind(text, scope, member.kind, path)
         return None
     return text.first(cause)
@@ -573,10 +560,8 @@ def target_kind(text, scope, kind, path):
     found = text.bodies.thing(scope, path)
     word = found.member.parts[2][0].words[0].text
     if kind == "transition":
-        return "`%s` is a flow, as it is declared with `%s` on line %d: transitions set states, and assertions set flows" % (
-            written(path), word, found.member.first.line)
-    return "`%s` is a state, as it is declared with `%s` on line %d: assertions set flows, and transitions set states" % (
-        written(path), word, found.member.first.line)
+        return said("flow in a transition", written(path), word, found.member.first.line)
+    return said("state in an assertion", written(path), word, found.member.first.line)
 
 
 def part_of_itself(text):
@@ -585,7 +570,7 @@ def part_of_itself(text):
             return None
         start = (scope.unit.name, member.name.text)
         way = circle_of(text, scope, member.name.text, start, [], 0)
-        return "`%s` is a part of itself: %s" % (member.name.text, ", which has the part ".join(way)) if way else None
+        return said("part of itself", member.name.text, ", which has the part ".join(way)) if way else None
     return text.first(cause)
 
 

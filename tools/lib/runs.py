@@ -52,7 +52,7 @@ def trace(source, lines):
         words = source.words("replay", more=[script.name])
         status, text = program.run(words)
     if status not in (0, FAULT):
-        raise Refused(words, status, text)
+        raise Refused(words, status, text, source.file)
     return read(text)
 
 

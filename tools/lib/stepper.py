@@ -4,6 +4,7 @@ import re
 import runs
 from command import CouldNot, Refused, put, shown
 
+BLANKS = " \t\r\n"
 REPLIES = {"needs a way": "this event has several ways: write one with its number, as in the list",
            "names no event": "this names no event"}
 
@@ -82,9 +83,9 @@ def labels_of(lines):
     """The events of a script that only fires, as `save` writes it."""
     found = []
     for number, line in enumerate(lines, 1):
-        text = line.split("//")[0].strip()
+        text = line.split("//")[0].strip(BLANKS)
         if text and not text.startswith("fire "):
             raise CouldNot("line %d of the script is no line `fire LABEL`" % number)
         if text:
-            found.append(text[len("fire "):].strip())
+            found.append(text[len("fire "):].strip(BLANKS))
     return found

@@ -4,7 +4,7 @@ import re
 
 import runs
 import texts
-from command import CouldNot
+from command import CouldNot, shown
 
 REASON = re.compile(r"(\S+) = (.*?) (?:by reset|round [0-9]+ assignment [0-9]+ at ([0-9]+):[0-9]+(?: from (.*))?)")
 
@@ -98,7 +98,7 @@ def story(source, labels, observer):
     start = trace.steps[0]
     observer = source.tree.canonical(observer)
     if observer not in start.observers:
-        raise CouldNot("there is no observer %s" % observer)
+        raise CouldNot("there is no observer %s" % shown(observer))
     lines, known = steps(trace)
     changed = {path for path, value in start.values.items() if known["", path] != value}
     why = Reasons(source, labels, known, changed).lines(observer)

@@ -5,24 +5,32 @@ lines: what is in several zones has a line for each.
 """
 import csv
 
+import lists
 import texts
-from command import CouldNot, shown
+from command import CouldNot, escaped, shown
 
 HEADS = {"path", "unit", "event", "part", "component"}
+BLANKS = " \t\r"
 
 
 def read(name):
     """The zones of each path of a file."""
     found = {}
-    with open(name, encoding="latin-1", newline="") as file:
-        for number, row in enumerate(csv.reader(file), 1):
-            cells = [cell.strip() for cell in row]
-            if not any(cells) or cells[0].startswith("//") or number == 1 and cells[0].lower() in HEADS:
-                continue
-            if len(cells) != 2 or not all(cells):
-                raise CouldNot("%s:%d: this is no line PATH,ZONE: %s" % (shown(name), number, ",".join(cells)))
-            found.setdefault(cells[0], set()).add(cells[1])
+    for number, cells in enumerate(rows(name), 1):
+        if not any(cells) or cells[0].startswith("//") or number == 1 and cells[0].lower() in HEADS:
+            continue
+        if len(cells) != 2 or not all(cells):
+            raise CouldNot("%s:%d: this is no line PATH,ZONE: %s" % (shown(name), number, ",".join(cells)))
+        found.setdefault(cells[0], set()).add(cells[1])
     return found
+
+
+def rows(name):
+    """The cells of each line of a file, without the blanks around them."""
+    try:
+        return [[escaped(cell.strip(BLANKS)) for cell in row] for row in csv.reader(lists.text_lines_of(name))]
+    except csv.Error as error:
+        raise CouldNot("%s is no table with commas: %s" % (shown(name), error)) from error
 
 
 def known_paths(events):

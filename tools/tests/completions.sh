@@ -16,6 +16,12 @@ equal "bash finds the model behind --max-order" 'too_weak wheels' "$(offers alta
 equal "bash offers no other options" '--main' "$(offers altarica check examples/brake.alt --)"
 equal "bash offers the observers of the model" 'too_weak wheels' "$(offers altarica cuts examples/brake.alt --observer '')"
 equal "bash offers them behind =" 'wheels' "$(offers altarica cuts examples/brake.alt --observer = w)"
+equal "bash finds the model behind a value with =" 'too_weak wheels' "$(offers altarica cuts --main = Brake examples/brake.alt --observer '')"
+equal "and where the words are not split at =" 'too_weak wheels' "$(offers altarica cuts --main=Brake examples/brake.alt --observer '')"
+equal "what is typed behind = is offered with its option where the words are not split" '--observer=too_weak --observer=wheels' \
+  "$(offers altarica cuts examples/brake.alt --observer=)"
+equal "also of several events" '--drop=left_feeder.close,tie.close --drop=left_feeder.close,tie.open' \
+  "$(offers altarica cuts examples/bus.alt --drop=left_feeder.close,tie.)"
 equal "bash offers the events of the model" 'tie.close tie.open' "$(offers altarica cuts examples/bus.alt --drop tie)"
 equal "bash offers further events behind a comma" 'left_feeder.close,tie.close left_feeder.close,tie.open' "$(offers altarica cuts examples/bus.alt --drop left_feeder.close,tie.)"
 equal "bash offers the files" 'examples/bus.alt examples/bus.cuts examples/bus.script examples/bus.trace' "$(offers altarica replay examples/bus)"
@@ -55,6 +61,11 @@ chmod +x "$work/bin/altarica"
 equal "bash runs no program of the folder one is in" '' "$(ls "$work/ran" 2>/dev/null)"
 equal "bash takes no other program where ALTARICA names none" '' "$(ALTARICA=nosuch offers altarica cuts "$top/examples/brake.alt" --observer '')"
 mkdir -p "$work/repo/out"
+printf '#!/bin/sh\ntouch "%s/ran"\n' "$work" >"$work/repo/altarica"
+chmod +x "$work/repo/altarica"
+ALTARICA=$work/repo/altarica offers altarica cuts "$top/examples/brake.alt" --observer '' >/dev/null
+equal "bash does not start the script where ALTARICA names it" '' "$(ls "$work/ran" 2>/dev/null)"
+cp "$work/repo/altarica" "$work/script"
 cp "$top/altarica" "$work/repo/altarica"
 cp "$ALTARICA" "$work/repo/out/unproved"
 : >"$work/repo/out/unproved.loader"
@@ -81,6 +92,8 @@ if have zsh; then
   equal "zsh reads a name with quotes" 'too_weak wheels' "$(asks _altarica_observers "'$work/two words.alt'")"
   equal "zsh offers the blocks for --main that may be one" 'One Two' "$(asks _altarica_blocks "$work/blocks.alt")"
   equal "zsh takes no other program where ALTARICA names none" '' "$(ALTARICA=nosuch asks _altarica_observers examples/brake.alt)"
+  ALTARICA=$work/script asks _altarica_observers examples/brake.alt >/dev/null
+  equal "zsh does not start the script where ALTARICA names it" '' "$(ls "$work/ran" 2>/dev/null)"
   equal "zsh asks the program that --unproved has compiled" 'too_weak wheels' \
     "$(unset ALTARICA; PATH=$work/bin:$PATH asks _altarica_observers examples/brake.alt)"
   # shellcheck disable=SC2016

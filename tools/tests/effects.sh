@@ -22,6 +22,10 @@ grep -v b.fail "$work/zones" >"$work/apart"
 equal "a rule that is kept ends with 0" 'effects: no rule is broken status 0' "$(tools/effects $model --apart lost "$work/apart" 2>&1) status $?"
 echo 'nosuch,hall' >"$work/wrong"
 equal "a zone of what is not in the model is refused" 4 "$(tools/effects $model --apart lost "$work/wrong" >"$work/out" 2>&1; echo $?)"
-equal "an observer that is not there is refused with its name" 'effects: nosuch: script: no observer (status 11) status 3' \
+equal "an observer that is not there is refused with its name" "effects: $model: nosuch: script: no observer (status 11) status 3" \
   "$(tools/effects $model nosuch 2>&1) status $?"
 equal "the tables of random models are those of brute force" '5 models' "$(python3 tools/tests/effects.py 5 2>&1)"
+printf 'path,zone\r\na,цех\r\nb,цех \r\n' >"$work/zones"
+equal "names of zones are as they came" 'together lost in цех: {a.fail, b.fail}' "$(tools/effects $model --apart lost "$work/zones" 2>&1)"
+printf 'a,\340\205\nb,\340\240\n' >"$work/zones"
+equal "two zones whose names differ in a byte that is no ASCII are two" 0 "$(tools/effects $model --apart lost "$work/zones" >/dev/null 2>&1; echo $?)"

@@ -113,3 +113,31 @@ $tool $models/edf.alt --immediate settle --map "$work/map" >"$work/new.alt" 2>/d
 "$ALTARICA" cuts "$work/new.alt" --observer dead >"$work/list"
 equal "a list without events that happen at once" "{GRID.failure, DG.startFailure} {GRID.failure, DG.failure} {T1.failure, T2.failure, DG.startFailure} \
 {T1.failure, T2.failure, DG.failure} {BB.failure} count 5" "$($tool --back "$work/list" "$work/map" --leave-out DG.start 2>/dev/null | tr '\n' ' ' | sed 's/ $//')"
+
+# What is written back is whole, and names of files are written as they came.
+name='модель],[1,"'
+{ echo '// [1],[2],"'; cat $models/burns.alt; } >"$work/$name.alt"
+(cd "$work" && "$top/$tool" "$name.alt" --map "$name.map" >new.alt 2>notes)
+"$ALTARICA" cuts "$work/new.alt" --observer failed >"$work/list"
+equal "a map of a file with a strange name is read" 0 "$($tool --back "$work/list" "$work/$name.map" >"$work/back" 2>&1; echo $?)"
+equal "a place has the name of the file as it came" "$name.alt:4:3" "$($tool --place "$work/$name.map" 5:3)"
+equal "and so have the notes" "$name.alt:15:20" "$(sed -n '1s/: note.*//p' "$work/notes")"
+sed 2d "$work/list" >"$work/short"
+equal "a listing that is not whole is not written back" '4 0 1' \
+  "$($tool --back "$work/short" "$work/$name.map" >"$work/back" 2>"$work/said"; echo $?) $(wc -c <"$work/back") $(grep -c 'is not whole: count' "$work/said")"
+equal "a line that is none of a listing is refused" 4 "$({ echo 'no cut'; cat "$work/list"; } | $tool --back - "$work/$name.map" >/dev/null 2>&1; echo $?)"
+equal "a listing with a byte order mark and other ends of lines" "$($tool --back "$work/list" "$work/$name.map" 2>/dev/null)" \
+  "$({ printf '\357\273\277'; sed 's/$/\r/' "$work/list"; } | $tool --back - "$work/$name.map" 2>/dev/null)"
+equal "the set of no events is written back" '{} count 1 ' "$(printf '{}\ncount 1\n' | $tool --back - "$work/$name.map" | tr '\n' ' ')"
+equal "a map is written whole or not at all" '4' "$($tool "$work/$name.alt" --map "$work/none/map" >/dev/null 2>&1; echo $?)"
+for text in '[[[' '{"files":1,"events":2,"places":3,"text":4,"main":5}' '{"files":[],"events":{},"places":[],"text":"","main":null}' null; do
+  printf '%s\n' "$text" >"$work/wrong"
+  equal "this is no map: $text" '4 1' "$($tool --back "$work/list" "$work/wrong" >/dev/null 2>"$work/said"; echo $?) $(grep -c 'this is no map' "$work/said")"
+done
+equal "places begin at 1:1, and values and events are those of the first model" '2 4 4' \
+  "$(cp "$work/$name.map" "$work/plain"; for words in "--place $work/plain 1:0" "--back $work/list $work/plain --observer failed --value broken" "--back $work/list $work/plain --leave-out nosuch"; do
+    # shellcheck disable=SC2086
+    $tool $words >/dev/null 2>&1; echo $?; done | xargs)"
+printf 'block A\n  Boolean s (init = \033]0;title\007 true);\nend\n' >"$work/control.alt"
+equal "control characters of a model do not reach the terminal" '4 0' \
+  "$($tool "$work/control.alt" >/dev/null 2>"$work/said"; echo $?) $(grep -c $'[\001-\010\013-\037]' "$work/said")"

@@ -37,3 +37,15 @@ equal "a name that two texts have is said with both places" "join: $work/pump.al
   "$(tools/join "${parts[0]}" "$work/pump.alt" 2>&1 >"$work/out")"
 equal "a text that join has not made has no places" 4 "$(tools/join --places examples/pumps.alt </dev/null >"$work/out" 2>&1; echo $?)"
 equal "a file that is joined is not written over" 2 "$(tools/join "$work/pump.alt" --out "$work/pump.alt" >"$work/out" 2>&1; echo $?)"
+
+# A line of a text itself is no remark of join.
+{ echo '// a pump'; echo '// from elsewhere (1 lines)'; sed 's/pump.power := changeover.power/pump.powr := changeover.power/' examples/parts/plant.alt; } >"$work/plant.alt"
+tools/join "${parts[@]}" "$work/plant.alt" --out "$work/own.alt"
+equal "a remark of a text leads no place astray" "$work/plant.alt:$((line + 2)):5" \
+  "$(tools/why check "$work/own.alt" | tools/join --places "$work/own.alt" | sed -n '1s/: rule.*//p')"
+sed '3d' "$work/own.alt" >"$work/changed.alt"
+equal "a joined text that was changed has no places" 4 "$(tools/join --places "$work/changed.alt" </dev/null >"$work/out" 2>&1; echo $?)"
+: >"$work/changed.alt"
+equal "nor has an empty one" 4 "$(tools/join --places "$work/changed.alt" </dev/null >"$work/out" 2>&1; echo $?)"
+ln "$work/pump.alt" "$work/linked.alt"
+equal "nor is a file written over by another name of it" 2 "$(tools/join "$work/pump.alt" --out "$work/linked.alt" >"$work/out" 2>&1; echo $?)"

@@ -114,3 +114,26 @@ statuses=$(tools/report "$work/kept.alt" --observer lost --out "$work/kept.alt" 
   tools/effects "$work/kept.alt" --no-single , >/dev/null 2>&1; echo -n "$? "
   cmp -s "$work/kept.alt" "$work/clone.alt" && echo kept)
 equal "a model that is read is not written over, and a question names an observer" '2 2 2 2 2 kept' "$statuses"
+
+# Aliases of a list are followed, and observers of one version alone are named whatever their type.
+sed 's/^{bus_2\.fail/{second.fail/' "$work/right" >"$work/aliased"
+sed 's/^end$/&/; s/^block \(.*\)$/block \1\n  embeds bus_2 as second;/' "$work/right.alt" >"$work/aliased.alt"
+equal "a list with an alias is the list without it" "$(tools/exchange "$work/right.alt" "$work/right")" "$(tools/exchange "$work/aliased.alt" "$work/aliased")"
+equal "and has lines with the alias" yes "$(grep -q second "$work/aliased" && "$ALTARICA" check "$work/aliased.alt" >/dev/null && echo yes)"
+sed '/observer Boolean lost/s/observer.*/&\n  observer Integer feeds = count(bus_1.ok);/' "$work/right.alt" >"$work/typed.alt"
+equal "an observer that is not Boolean is named where one version alone has it" '+ observer feeds, which is not Boolean' \
+  "$(tools/compare_models "$work/right.alt" "$work/typed.alt" 2>&1 | grep feeds)"
+sed 's/observer Boolean lost = \(.*\);/observer Integer lost = count(\1);/' "$work/right.alt" >"$work/turned.alt"
+equal "and one that is no longer Boolean" '- observer lost + observer lost, which is not Boolean ' \
+  "$(tools/compare_models "$work/right.alt" "$work/turned.alt" 2>&1 | grep observer | tr '\n' ' ')"
+printf 'a.fail\2400.1\nb.fail 0.1\nc.fail 0.1\n' >"$work/wrong"
+equal "bytes that are no ASCII part no label and number" 4 "$(tools/quantify "$work/list" "$work/wrong" >/dev/null 2>&1; echo $?)"
+sed 's/Boolean ok/Boolean okay/' "$work/right.alt" >"$work/refused.alt"
+equal "a refusal names the model, of two the one that is refused" 'compare_models: WORK/refused.alt: rule: L10 at 5:20 (status 3)' \
+  "$(tools/compare_models "$work/right.alt" "$work/refused.alt" 2>&1 | sed "s|$work|WORK|")"
+equal "a list of another model is refused" '4 1' \
+  "$(echo '{nosuch.fail}' | tools/exchange "$work/right.alt" - >"$work/out" 2>"$work/said"; echo "$? $(grep -c 'the model has no event nosuch.fail' "$work/said")")"
+printf 'a.fail 1e-400\nb.fail 0\nc.fail 0\n' >"$work/wrong"
+equal "a number that is too small to be reckoned with is refused" 4 "$(tools/quantify "$work/list" "$work/wrong" >/dev/null 2>&1; echo $?)"
+printf 'a.fail 0\nb.fail 0\nc.fail 0.0e5\n' >"$work/wrong"
+equal "of numbers that are all 0 both sums are 0" '0 0' "$(tools/quantify "$work/list" "$work/wrong" | sed -n '1,2s/.* //p' | xargs)"

@@ -56,3 +56,8 @@ equal "two lists without cuts are the same" 'both 0, first alone 0, second alone
 equal "a file name adds no line to a script" '// line 1 of WORK/x\x0afire evil fire a ' \
   "$(cp "$work/x=1" "$work/x"$'\n'"fire evil"; tools/line_as_script "$work/x"$'\n'"fire evil" 1 | sed "s|$work|WORK|" | tr '\n' ' ')"
 equal "order says that events can be left out" 'order: --drop leaves events out, as for cuts' "$(tools/order examples/bus.alt examples/bus.cuts 2>&1 | tail -n 1)"
+printf 'outside: S1 at lose_grid\n' >"$work/refused"
+equal "in CI the cut sets are not as before where the list of before is not there, or is none" '2 2 0' \
+  "$(for list in "$work/nowhere" "$work/refused" "$work/none_at_all"; do
+    echo 'count 0' >"$work/none_at_all"
+    tests/ci/same_cuts "$list" tests/beside/wear.alt odd >"$work/out" 2>&1; echo $?; done | xargs)"

@@ -36,17 +36,45 @@ equal "a list that is refused is said, with its line and status" 'report: exampl
 equal "and the page shows the line with its status, in each part that is refused" 4 "$(grep -c 'line: outside: S1 at lose_grid (status 4)' "$work/supply.html")"
 equal "an observer that is misspelt has no page, and status 3" 'report: examples/brake.alt: script: no observer (status 11) status 3 no page' \
   "$(tools/report examples/brake.alt --observer too_wek --out "$work/none.html" 2>&1) status $(tools/report examples/brake.alt --observer too_wek >/dev/null 2>&1; echo $?) $([ -e "$work/none.html" ] || echo no page)"
-mkdir -p "$work/repo/out"
-cp -r tools docs "$work/repo/"
-proved() { (cd "$work/repo" && env "$@" tools/report "$top/examples/brake.alt" --observer too_weak 2>/dev/null) | grep -o 'id="proved"[^>]*>[^<]*' | sed 's/.*>//'; }
+# What the page says of the program is what the script knows of it by its notes.
+mkdir -p "$work/repo"/crates/altarica_main/{src,specs,proofs,out} "$work/repo/out"
+cp -r tools docs altarica "$work/repo/"
+echo 'altarica_main:' >"$work/repo/crates.txt"
+echo source >"$work/repo/crates/altarica_main/src/text"
+proved() {
+  (cd "$work/repo" && env "$@" tools/report "$top/examples/brake.alt" --observer too_weak 2>"$work/said") |
+    sed -n 's/.*id="proved"[^>]*>The program that made the lists is \([^:.<]*\).*/\1/p'
+  sed 's/[,:].*//' "$work/said" | grep -v '^report$'
+}
+cp "$ALTARICA" "$work/elsewhere"
+kept=$work/repo/out/altarica gate=$work/repo/crates/altarica_main/out/altarica_main
 cp "$ALTARICA" "$work/repo/out/unproved"
-equal "the page says that a program without its proofs is not proved" 'The program that made the lists is not proved: it was compiled without its proofs.' "$(proved -u ALTARICA)"
-equal "also where ALTARICA names a copy of it" 'The program that made the lists is not proved: it was compiled without its proofs.' "$(proved ALTARICA="$ALTARICA")"
+equal "the page says that a program without its proofs is not proved" 'not proved' "$(proved -u ALTARICA)"
+equal "also where ALTARICA names a copy of it" 'not proved' "$(proved ALTARICA="$work/elsewhere")"
 rm "$work/repo/out/unproved"
-equal "of a program from elsewhere it says that this is not known" 'The program that made the lists is none that this checkout has proved: whether it is proved is not known here.' "$(proved ALTARICA="$ALTARICA")"
-cp "$ALTARICA" "$work/repo/out/altarica"
-printf 'sum\n%s\nkit\n' "$(sha256sum <"$ALTARICA")" >"$work/repo/out/altarica.made_of"
-equal "of the proved one it says so" 'The program that made the lists is the proved one of this checkout.' "$(proved -u ALTARICA)"
+equal "of a program from elsewhere it says that this is not known" 'not known to be proved' "$(proved ALTARICA="$work/elsewhere")"
+cp "$ALTARICA" "$kept"
+printf 'sum\n%s\nkit\n%s\n' "$(sha256sum <"$kept")" "$(find "$kept" -printf '%s %T@ %C@ %i\n')" >"$kept.made_of"
+equal "nor is it known of one whose note has the sum of other sources" 'not known to be proved' "$(proved -u ALTARICA)"
+rm "$kept.made_of"
+equal "nor of one without a note" 'not known to be proved' "$(proved -u ALTARICA)"
+sum=$("$work/repo/altarica" --version | sed -n 's/^sum of the sources and proofs: //p')
+printf '%s  -\n%s\nkit\n%s\n' "$sum" "$(sha256sum <"$kept")" "$(find "$kept" -printf '%s %T@ %C@ %i\n')" >"$kept.made_of"
+equal "of the one whose note has the sum of these sources it says so" 'the proved one of this checkout' "$(proved -u ALTARICA)"
+equal "also where ALTARICA names a copy of it" 'the proved one of this checkout' "$(proved ALTARICA="$work/elsewhere")"
+echo another >"$work/repo/crates/altarica_main/src/text"
+equal "once a source has changed it does not" 'not known to be proved' "$(proved -u ALTARICA)"
+rm "$kept" "$kept.made_of"
+cp "$ALTARICA" "$gate"
+equal "the program of the gate that is newer than all sources is the proved one" 'the proved one of this checkout' "$(proved -u ALTARICA)"
+sleep 0.02
+echo newer >"$work/repo/crates/altarica_main/proofs/text"
+equal "and none that is known to be where a proof is newer" 'not known to be proved' "$(proved -u ALTARICA)"
+rm "$gate"
+mkdir "$work/bin"
+ln -s "$work/repo/altarica" "$work/bin/altarica"
+equal "a helper does not take the script, which would begin the proofs" '4 1' \
+  "$(cd "$work/repo" && env -u ALTARICA PATH="$work/bin:$PATH" timeout 60 tools/lint "$top/examples/brake.alt" >/dev/null 2>"$work/said"; echo "$? $(grep -c 'there is no program' "$work/said")")"
 # By hand: docs/EXAMPLES.md finds the cut sets of the ring, three of one event and nine of two; HOWTO_LISTING counts those of the aircraft.
 equal "the head has the number of cut sets by their events" '3 of 1 event 9 of 2 events' \
   "$(grep -o '<span class="count">.*' "$work/ring.html" | head -n 1 | sed 's|</td>.*||; s/<[^>]*>//g' | xargs)"

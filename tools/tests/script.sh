@@ -167,6 +167,20 @@ point "a model that is not there is refused before a build" both '[ $status -eq 
 run replay plant.alt nowhere.script
 point "a script that is not there is refused before a build" both '[ $status -eq 7 ]' 'wrote "read: script"'
 
+run check $'model\xff'
+point "a word that is no UTF-8 is refused with a line" both '[ $status -eq 7 ] || [ $status -eq 12 ]' '[ "$(grep -c . "$lab/err")" -eq 1 ]'
+cp "$copy/plant.alt" "$copy/"$'plant\xff'
+run check $'plant\xff'
+point "also where it names a file" both '[ $status -eq 12 ]' 'said "no UTF-8"' 'calls 0'
+(cd "$copy" && PATH=$lab/empty /bin/bash ./altarica check plant.alt) >"$lab/out" 2>"$lab/err" </dev/null
+status=$?
+cp "$lab/err" "$lab/got"
+point "without the commands of the system it ends at once" both '[ $status -eq 12 ]' 'said "are not on the path"'
+(cd "$copy" && /bin/bash -s -- check plant.alt) <"$top/altarica" >"$lab/out" 2>"$lab/err"
+status=$?
+cp "$lab/err" "$lab/got"
+point "so does a script that is read from a pipe" both '[ $status -eq 12 ]' 'said "not beside this script"'
+
 # Before a long build.
 : >"$lab/calls"
 run check plant.alt
@@ -365,6 +379,24 @@ if [ "$(head -c 4 "$ALTARICA" | tail -c 3)" = ELF ] && [ -d "/proc/$$" ]; then
   rm -f "$lab/slow"
   point "--unproved says while it compiles that it does" both '[ $status -eq 0 ]' 'said "still compiling, for 0:0"'
   new_copy
+  # Stopped while it compiles: nothing goes on, and nothing is left.
+  : >"$lab/works"
+  : >"$lab/slow"
+  for signal in TERM:143 HUP:129 PIPE:141; do
+    mkdir -p "$lab/room"
+    (cd "$copy" && TMPDIR=$lab/room PATH=$lab/bin:$PATH exec ./altarica --unproved check plant.alt) >"$lab/out" 2>"$lab/err" </dev/null &
+    pid=$!
+    for _ in $(seq 100); do ls -d "$lab"/room/altarica-try.*/try.* >/dev/null 2>&1 && break; sleep 0.1; done
+    kill -"${signal%:*}" "$pid"
+    wait "$pid"
+    status=$?
+    { ls -A "$lab/room"; ps -e -o args | grep -F -- "$lab/bin/rt try" | grep -v grep; } >"$lab/left"
+    { echo "status $status"; cat "$lab/left" "$lab/err"; } >"$lab/got" 2>&1
+    point "stopped by ${signal%:*} while it compiles, it ends with ${signal#*:} and leaves nothing" \
+      both "[ $status -eq ${signal#*:} ]" '[ ! -s "$lab/left" ]' '[ -s "$lab/err" ]'
+  done
+  rm -f "$lab/slow"
+  new_copy
   # A process of anyone that has the words of the kit's program.
   mkdir "$lab/evil_home"
   printf '#!/bin/sh\nsleep 4\n' >"$lab/evil_home/program"
@@ -389,6 +421,19 @@ if [ "$(head -c 4 "$ALTARICA" | tail -c 3)" = ELF ] && [ -d "/proc/$$" ]; then
   point "--unproved gives the program's answer" both '[ $status -eq 0 ]' 'wrote "$answer"' 'calls 1'
   : >"$lab/calls"
   point "--unproved leaves nothing behind but what it keeps" test -z "$(ls -d "${TMPDIR:-/tmp}"/altarica-try.* 2>/dev/null; ls "$copy/out" | grep -v '^unproved$\|^unproved\.\(loader\|lock\|made_of\)$\|^code.files$')"
+  if [ "$(id -u)" -eq 0 ] && command -v setpriv >/dev/null; then
+    chmod a+rx "$lab" "$lab/bin"
+    (cd "$copy" && PATH=$lab/bin:$PATH setpriv --reuid=65534 --regid=65534 --clear-groups ./altarica --unproved check plant.alt) >"$lab/out" 2>"$lab/err" </dev/null
+    status=$?
+    cat "$lab/out" "$lab/err" >"$lab/got"
+    point "another user runs what is kept" both '[ $status -eq 0 ]' 'wrote "$answer"' 'calls 0'
+    mv "$copy/out/unproved" "$copy/out/away"
+    (cd "$copy" && PATH=$lab/bin:$PATH setpriv --reuid=65534 --regid=65534 --clear-groups ./altarica --unproved check plant.alt) >"$lab/out" 2>"$lab/err" </dev/null
+    status=$?
+    cat "$lab/out" "$lab/err" >"$lab/got"
+    mv "$copy/out/away" "$copy/out/unproved"
+    point "where nothing can be kept, nothing is compiled: status 12 and a line" both '[ $status -eq 12 ]' 'said "nothing can be kept"' 'calls 0' '[ "$(grep -c . "$lab/err")" -eq 1 ]'
+  fi
   run --unproved check plant.alt
   point "--unproved keeps what it compiled" both '[ $status -eq 0 ]' 'wrote "$answer"' 'calls 0' '! said compiling'
   echo more >"$copy/crates/low/proofs/text"

@@ -52,3 +52,8 @@ fault: upper.lose_sensor: flow setpoint has two values
 > events
 no event yet' "$(printf '%s\n' upper.lose_sensor events | tools/step examples/conflict.alt | tail -n 4)"
 equal "a model and a script that are refused" '3 4 4' "$(for words in 'tests/mistakes/nosuch.alt' 'examples/pumps.alt examples/brake.alt' ; do tools/step $words </dev/null >"$work/out" 2>&1; echo $?; done | xargs) $(tools/step examples/pumps.alt "$work/none" </dev/null >"$work/out" 2>&1; echo $?)"
+cp examples/pumps.alt "$work/model.alt"
+ln -s model.alt "$work/link.alt"
+said=$(printf '%s\n' "save $work/model.alt" "save $work/link.alt" 'save' "save $work/none/x" "save $work" back | tools/step "$work/model.alt" 2>&1; echo "status $?")
+equal "the model is not written over, and the session goes on" 'same 2 1 status 0' \
+  "$(cmp "$work/model.alt" examples/pumps.alt && echo same) $(grep -c 'so it is not written' <<<"$said") $(grep -c 'no event to take back' <<<"$said") $(tail -n 1 <<<"$said")"

@@ -90,5 +90,24 @@ equal "numbers of dropped events and of events that are in no cut are taken" 9 \
   "$({ cat "$work/numbers"; echo 'north.mend 0.1'; } >"$work/more"; tools/to_open_psa cuts examples/ring.alt "${words[@]}" --numbers "$work/more" | grep -c '<float')"
 equal "--probability is no word of this helper" 2 "$(tools/to_open_psa cuts examples/ring.alt "${words[@]}" --probability >/dev/null 2>&1; echo $?)"
 equal "without them there are none" 0 "$(grep -c '<float' "$work/ring.tree.xml")"
-equal "a model with a conflict is not exported" 'to_open_psa: fault: {upper.lose_sensor}: flow setpoint has two values (status 5) status 3' \
+equal "a model with a conflict is not exported" 'to_open_psa: examples/conflict.alt: fault: {upper.lose_sensor}: flow setpoint has two values (status 5) status 3' \
   "$(tools/to_open_psa tree examples/conflict.alt --observer low 2>&1) status $(tools/to_open_psa tree examples/conflict.alt --observer low >/dev/null 2>&1; echo $?)"
+
+# What is read of other tools is whole: the line `count N`, the set of no events, reports with a namespace.
+printf '{east-fail, west-fail}\n{}\n\ncount 2\n' >"$work/result"
+equal "the set of no events is kept" '{east.fail, west.fail} {} count 2 ' "$(tools/to_open_psa back "$work/ring.tree.xml" "$work/result" | tr '\n' ' ')"
+printf '{east-fail, west-fail}\ncount 2\n' >"$work/result"
+equal "a result with another count than it has sets is refused" '4 0 1' \
+  "$(tools/to_open_psa back "$work/ring.tree.xml" "$work/result" >"$work/back" 2>"$work/said"; echo $?) $(wc -c <"$work/back") $(grep -c 'is not whole: count 2, and 1 sets' "$work/said")"
+: >"$work/result"
+equal "a result of nothing is none" 4 "$(tools/to_open_psa back "$work/ring.tree.xml" "$work/result" >/dev/null 2>&1; echo $?)"
+printf 'east-fail\302\240west-fail\n' >"$work/result"
+equal "bytes that are no ASCII part no names" 4 "$(tools/to_open_psa back "$work/ring.tree.xml" "$work/result" >/dev/null 2>&1; echo $?)"
+report_of() { printf '<r:report xmlns:r="urn:results"><r:sum-of-products products="%s"><r:product order="1"><r:basic-event name="south-fail"/></r:product></r:sum-of-products></r:report>\n' "$1"; }
+report_of 1 >"$work/result"
+equal "a report with a namespace" '{south.fail} count 1 ' "$(tools/to_open_psa back "$work/ring.tree.xml" "$work/result" | tr '\n' ' ')"
+equal "from standard input" '{south.fail} count 1 ' "$(report_of 1 | tools/to_open_psa back "$work/ring.tree.xml" - | tr '\n' ' ')"
+report_of 12 >"$work/result"
+equal "a report with fewer products than it says is refused" 4 "$(tools/to_open_psa back "$work/ring.tree.xml" "$work/result" >/dev/null 2>&1; echo $?)"
+echo '<html/>' >"$work/result"
+equal "and what is no report" 4 "$(tools/to_open_psa back "$work/ring.tree.xml" "$work/result" >/dev/null 2>&1; echo $?)"

@@ -28,7 +28,7 @@ function cutSets(section) {
     const cell = cut.row.insertCell();
     cut.numbers.forEach((e, k) => {
       const add = (tag, text) => cell.append(Object.assign(document.createElement(tag), { textContent: text }), " ");
-      if (k > 0) add("i", trees[e] === trees[cut.numbers[k - 1]] ? "then" : "and");
+      if (k > 0) add("i", trees[e] < 0 ? "," : trees[e] === trees[cut.numbers[k - 1]] ? "then" : "and");
       add("b", labels[e]);
     });
     return cut.row;

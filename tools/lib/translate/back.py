@@ -2,7 +2,8 @@
 import re
 from collections import ChainMap
 
-import texts
+import lists
+from command import shown
 from translate import expressions
 from translate.elaborate import elaborate
 from translate.places import place_in
@@ -12,6 +13,7 @@ from translate.system import Fault
 
 MOST_STATES = 4096
 FAULT = re.compile(r"fault: \{(.*)\}: (.*)")
+MODULES = re.compile(rb"module |lines [0-9]+$")
 ASSIGNMENT = re.compile(r"assignment ([0-9]+) at ([0-9]+):([0-9]+)")
 
 
@@ -102,28 +104,29 @@ class Orders:
 
 
 class Listing:
-    """A listing of the new model, with the map of its events."""
+    """The lines of a listing of the new model, which has a name, with the map of its events."""
 
-    def __init__(self, text, found):
-        self.text, self.map, self.notes = text, found, []
-        self.system = elaborate(Source(found["text"], found["main"]))[1]
+    def __init__(self, name, lines, found):
+        self.name, self.lines, self.map, self.notes = name, lines, found, []
+        self.elaboration, self.system = elaborate(Source(found["text"], found["main"]))
         self.number = {event: number for number, event in enumerate(self.system.fired)}
+
+    def values_of(self, observer):
+        """The values that an observer may have, or None of one that is a whole number."""
+        tree = self.elaboration.tree
+        kind = tree.places[observer][2].parts[0]
+        domain = tree.bodies.domains.get(kind.text)
+        if kind.kind == "Boolean":
+            return True, False
+        return None if domain is None or domain.symbols is None else [symbol.text for symbol in domain.symbols]
 
     def written(self, leave_out=(), goal=None):
         """The listing in the old names; `goal` is an observer and the value with which the order of each line ends."""
-        last = self.text.rstrip().rpartition("\n")[2]
-        if last.startswith("fault: "):
-            return self._fault(last)
-        if re.search(r"^module |^lines [0-9]+$", self.text, re.M):
-            raise Refused("this is a listing of modules: the modules of the new model are not those of the first; write "
-                          "`cuts` back")
-        if re.fullmatch(r"count [0-9]+ up to order [0-9]+", last):
-            raise Refused("this is a listing up to an order: an event of the new model may be several of the first, so which "
-                          "sets are small differs; write the listing of all cuts back")
-        if not re.fullmatch(r"count [0-9]+", last):
-            raise Refused("this is no listing of `cuts`: its last line is not `count N`")
+        cuts = self._cuts()
+        if isinstance(cuts, str):
+            return self._fault(cuts)
         lines = {}
-        for labels in texts.cuts(self.text):
+        for labels in cuts:
             steps = [step for label in labels for step in steps_of(self.map["events"], label)]
             key = frozenset(event for event, _ in steps if event not in leave_out)
             lines.setdefault(key, [step for step in steps if step[0] not in leave_out])
@@ -132,13 +135,29 @@ class Listing:
             raise Refused("%s is no event of the model of this map: is the listing of another model?" % unknown[0])
         sets = sorted(least(lines), key=lambda one: sorted(self.number[event] for event in one))
         if len(sets) < len(lines):
-            left_out = len(texts.cuts(self.text)) - len(sets)
+            left_out = len(cuts) - len(sets)
             said = "1 line is" if left_out == 1 else "%d lines are" % left_out
             self.notes.append("%s left out: in the names of the first model %s the same as others, or with others in them"
                               % (said, "it is" if left_out == 1 else "they are"))
         orders = Orders(self.system, goal)
         written = ["{%s}" % ", ".join(self._labels(orders, one, lines[one])) for one in sets]
         return "\n".join([*written, "count %d" % len(sets)]) + "\n"
+
+    def _cuts(self):
+        """The labels of each cut; the line of a fault in place of them."""
+        lines = [line.strip(lists.BLANKS) for line in self.lines]
+        last = next((line for line in reversed(lines) if line), b"")
+        if last.startswith(b"fault: "):
+            return last.decode("latin-1")
+        if any(MODULES.match(line) for line in lines):
+            raise Refused("this is a listing of modules: the modules of the new model are not those of the first; write "
+                          "`cuts` back")
+        if lists.order_of(self.lines) is not None:
+            raise Refused("this is a listing up to an order: an event of the new model may be several of the first, so which "
+                          "sets are small differs; write the listing of all cuts back")
+        if not lists.COUNT.fullmatch(last):
+            raise Refused("this is no listing of `cuts`: its last line is not `count N`")
+        return [[label.decode("latin-1") for label in labels] for labels in lists.cuts_of(self.name, self.lines)]
 
     def _labels(self, orders, one, steps):
         found = orders.as_written(steps)
@@ -154,6 +173,8 @@ class Listing:
 
     def _fault(self, line):
         """The line of a fault, with old events and the place in the first text."""
+        if not FAULT.fullmatch(line):
+            raise Refused("this is no listing of `cuts`: its last line is no fault of a set of events")
         labels, what = FAULT.fullmatch(line).groups()
         events = dict.fromkeys(event for label in labels.split(", ") if label for event in old_events(self.map["events"], label))
         self.notes.append("after these events the flows contradict each other, or one is outside its domain (a wider --range may help); "
@@ -162,4 +183,4 @@ class Listing:
 
     def _assignment(self, found):
         file, line, column = place_in(self.map["places"], self.map["files"], int(found[2]), int(found[3]))
-        return "an assignment at %s:%d:%d" % (file, line, column)
+        return "an assignment at %s:%d:%d" % (shown(file), line, column)

@@ -5,7 +5,9 @@ import sys
 import tempfile
 
 import command
+import grammar
 import hierarchy
+import lists
 import program
 import tokens
 from translate import back, edits, places, semantic, syntax
@@ -13,10 +15,10 @@ from translate.elaborate import elaborate
 from translate.refused import Refused
 from translate.source import Source
 
-DONE, NO_USE, PROGRAM_REFUSED, COULD_NOT = command.DONE, command.NO_USE, command.REFUSED, command.COULD_NOT
+DONE, PROGRAM_REFUSED, COULD_NOT = command.DONE, command.REFUSED, command.COULD_NOT
 OUTSIDE = 4
 """The status of the program for a model outside the static fragment."""
-PLACE = re.compile(r"([0-9]+):([0-9]+)")
+PLACE = re.compile(r"(0|[1-9][0-9]{0,8}):(0|[1-9][0-9]{0,8})")
 
 
 def declare(parser):
@@ -54,10 +56,7 @@ class Stopped(Exception):
 
 
 def read(path):
-    try:
-        return sys.stdin.buffer.read().decode("latin-1") if path == "-" else tokens.read(path)
-    except OSError as error:
-        raise Stopped(COULD_NOT, "from_altarica: %s: %s" % (path, error.strerror)) from error
+    return sys.stdin.buffer.read().decode("latin-1") if path == "-" else tokens.read(path)
 
 
 def listed(text):
@@ -69,7 +68,7 @@ class Translation:
 
     def __init__(self, words):
         self.words = words
-        files = places.Files(words.model, [read(path) for path in words.model])
+        files = places.Files(list(map(command.shown, words.model)), [read(path) for path in words.model])
         self.trail, self.notes = places.Trail(files), []
 
     def note(self, text, at, skip=0):
@@ -78,7 +77,7 @@ class Translation:
             self.notes.append(line)
 
     def refuse(self, refused, skip=0):
-        at = self.trail.written(refused.place.start, skip) if refused.place else self.words.model[0]
+        at = self.trail.written(refused.place.start, skip) if refused.place else command.shown(self.words.model[0])
         return Stopped(COULD_NOT, *self.notes, "%s: refused: %s" % (at, refused.reason))
 
     def _asked(self, command, text, *more):
@@ -149,12 +148,23 @@ class Translation:
         status, said = self._asked("fragment", self.trail.text)
         if status:
             raise Stopped(COULD_NOT, *self.notes, "%s: refused: the program says of the new model: %s"
-                          % (self.words.model[0], said.strip()))
+                          % (command.shown(self.words.model[0]), said.strip()))
 
     def map_text(self, events, system, profile):
         found = dict(files=self.words.model, main=self.words.main, drop=sorted(listed(self.words.drop)), events=events,
                      order=system.fired, notes=self.notes, places=self.trail.rows(), text=profile)
-        return json.dumps(found, indent=None, separators=(",", ":")).replace('],[', '],\n[').replace(',"', ',\n"') + "\n"
+        return "{%s}\n" % ",\n".join("%s:%s" % (compact(key), in_lines(value)) for key, value in found.items())
+
+
+def compact(value):
+    return json.dumps(value, separators=(",", ":"))
+
+
+def in_lines(value):
+    """A value as JSON with a line for each of its members."""
+    if isinstance(value, dict):
+        return "{%s}" % ",\n".join("%s:%s" % (compact(key), compact(one)) for key, one in value.items())
+    return "[%s]" % ",\n".join(map(compact, value)) if isinstance(value, list) else compact(value)
 
 
 def translate(words):
@@ -164,29 +174,34 @@ def translate(words):
     if not words.profile:
         events, system = run.to_static()
         if words.map:
-            write_map(words.map, run.map_text(events, system, profile))
+            command.put(words.map, run.map_text(events, system, profile).encode("latin-1"))
         elif any(new != found["event"] or found["also"] for new, found in events.items()):
             run.notes.append("%s: note: events of the new model stand for others: --map FILE keeps what --back needs to write "
-                             "its list in the old names" % words.model[0])
+                             "its list in the old names" % command.shown(words.model[0]))
     command.write(run.trail.text)
     raise Stopped(DONE, *run.notes)
-
-
-def write_map(path, text):
-    try:
-        with open(path, "w", encoding="latin-1") as file:
-            file.write(text)
-    except OSError as error:
-        raise Stopped(COULD_NOT, "from_altarica: %s: %s" % (path, error.strerror)) from error
 
 
 def read_map(path):
     try:
         found = json.loads(read(path))
-        assert {"files", "events", "places", "text", "main"} <= set(found)
-    except (ValueError, TypeError, AssertionError) as error:
-        raise Stopped(COULD_NOT, "from_altarica: %s: this is no map that from_altarica wrote" % path) from error
+        is_one = is_map(found)
+    except (ValueError, TypeError, AttributeError, KeyError, RecursionError, grammar.SyntaxFault, tokens.LexFault) as error:
+        raise command.CouldNot("%s: this is no map that from_altarica wrote" % command.shown(path)) from error
+    if not is_one:
+        raise command.CouldNot("%s: this is no map that from_altarica wrote" % command.shown(path))
     return found
+
+
+def is_map(found):
+    """Whether what was read has the form of a map: names of files, events, places from the first one on, and a model."""
+    names = [*found["files"], *(name for one in found["events"].values() for name in [one["event"], *one["also"]])]
+    ways = [one["way"] for one in found["events"].values()]
+    numbers = [number for row in found["places"] for number in row[:5]]
+    return (all(isinstance(name, str) for name in names) and all(isinstance(way, int) or way is None for way in ways) and
+            all(isinstance(number, int) for number in numbers) and all(len(row) == 6 for row in found["places"]) and
+            found["places"][:1] and found["places"][0][:2] == [1, 1] and
+            all(0 <= row[2] < len(found["files"]) for row in found["places"]) and bool(grammar.parse(found["text"])))
 
 
 def value_of(word):
@@ -196,27 +211,37 @@ def value_of(word):
     return int(word) if re.fullmatch("-?[0-9]+", word) else word
 
 
+def goal_of(listing, words):
+    """The observer that is asked for and its value."""
+    if words.observer not in listing.system.observers:
+        raise command.CouldNot("%s is no observer of the first model" % command.shown(words.observer))
+    value, values = value_of(words.value), listing.values_of(words.observer)
+    if values is not None and value not in values or values is None and type(value) is not int:
+        raise command.CouldNot("%s is no value of %s" % (command.shown(words.value), words.observer))
+    return words.observer, value
+
+
 def write_back(words):
-    listing = back.Listing(read(words.model[0]), read_map(words.model[1]))
-    goal = None
-    if words.observer:
-        if words.observer not in listing.system.observers:
-            raise Stopped(COULD_NOT, "from_altarica: %s is no observer of the first model" % words.observer)
-        goal = words.observer, value_of(words.value)
+    listing = back.Listing(words.model[0], lists.lines_of(words.model[0]), read_map(words.model[1]))
+    goal = goal_of(listing, words) if words.observer else None
+    lost = sorted(listed(words.leave_out) - set(listing.number))
+    if lost:
+        raise command.CouldNot("--leave-out: %s is no event of the first model" % command.shown(lost[0]))
     try:
         text = listing.written(listed(words.leave_out), goal)
     except Refused as refused:
-        raise Stopped(COULD_NOT, "%s: refused: %s" % (words.model[0], refused.reason)) from refused
+        raise Stopped(COULD_NOT, "%s: refused: %s" % (command.shown(words.model[0]), refused.reason)) from refused
     command.write(text)
-    raise Stopped(DONE, *["%s: note: %s" % (words.model[0], note) for note in listing.notes])
+    raise Stopped(DONE, *["%s: note: %s" % (command.shown(words.model[0]), note) for note in listing.notes])
 
 
 def write_place(words):
     found = read_map(words.model[0])
     at = PLACE.fullmatch(words.model[1])
-    if not at:
-        raise Stopped(NO_USE, "from_altarica: %s is no LINE:COLUMN" % words.model[1])
-    command.write("%s:%d:%d\n" % places.place_in(found["places"], found["files"], int(at[1]), int(at[2])))
+    if not at or "0" in at.groups():
+        raise command.NoUse("%s is no LINE:COLUMN, from 1:1" % words.model[1])
+    file, line, column = places.place_in(found["places"], found["files"], int(at[1]), int(at[2]))
+    command.write("%s:%d:%d\n" % (command.shown(file), line, column))
     raise Stopped(DONE)
 
 
@@ -227,9 +252,7 @@ def work(words):
         (write_back if words.back else write_place if words.place else translate)(words)
     except Stopped as stopped:
         sys.stdout.flush()
-        for line in stopped.lines:
-            sys.stderr.buffer.write((line + "\n").encode("latin-1", "backslashreplace"))
-        sys.stderr.buffer.flush()
+        command.to_errors("".join(command.escaped(line) + "\n" for line in stopped.lines))
         return stopped.status
     except hierarchy.Unknown as error:
         raise command.CouldNot("%s: it has more units, or deeper ones, than are read" % command.shown(words.model[0])) from error

@@ -148,11 +148,7 @@ class Parser(Expressions):
         return name
 
     def setting(self):
-        first = self.now
-        words = [self.take("name", "init", "reset")]
-        while self.taken("."):
-            words.append(self.take("name", "init", "reset"))
-        self.take("=")
+        first, words = self.now, self.set_words()
         context, self.context = self.context, self.setting_context(words)
         if self.at("string"):
             value = Expr("string", [], self.now, self.now)

@@ -13,6 +13,9 @@ equal "the small cut sets of the example plants and of the patterns are those of
 for seed in $(seq $((models / 50))); do python3 tools/tests/random_static.py "$seed" >"$work/static$seed.alt"; done
 equal "so are those of models whose modes branch" "$((models / 50)) models" \
   "$(python3 tools/tests/bounded.py "$work"/static*.alt 2>&1 | head -n 5)"
+for seed in $(seq 20); do python3 tools/tests/interleaved.py "$seed" >"$work/across$seed.alt"; done
+equal "and of models whose trees of modes lie across each other" '20 models 20' \
+  "$(python3 tools/tests/bounded.py "$work"/across*.alt 2>&1 | head -n 5) $(for it in "$work"/across*.alt; do "$ALTARICA" cuts "$it" --observer o0 --max-order 1; done | grep -c '^count')"
 
 usage_line=$("$ALTARICA")
 words() { for order; do "$ALTARICA" cuts examples/brake.alt --observer too_weak --max-order="$order" | tail -n 1; done; }
@@ -99,17 +102,17 @@ equal "why says what the option takes" '  cause: --max-order is the largest numb
   "$(tools/why cuts examples/brake.alt --observer too_weak --max-order 0 | sed -n 2p)"
 tools/report examples/brake.alt --observer too_weak --nodes 1 --out "$work/page.html" 2>"$work/said"
 equal "the report has the command, and says that it has the option" '1 1' \
-  "$(grep -c 'try: ./altarica cuts .* --max-order 2' <<<"$(sed -n '/id="cuts"/,/<.section>/p' "$work/page.html")") $(grep -c 'with --max-order 2' "$work/said")"
+  "$(grep -c 'try: ./altarica cuts .* --max-order 2' <<<"$(sed -n '/id="cuts0"/,/<.section>/p' "$work/page.html")") $(grep -c 'with --max-order 2' "$work/said")"
 tools/report examples/brake.alt --observer too_weak --max-order 2 --out "$work/page.html"
-equal "a report up to an order says so" '28 of at most 2 events; larger ones are not listed, and a conflict of more events is not looked for' \
-  "$(sed -n 's/.*There are <b>\([0-9]*\)<.b> minimal cut sets\([^.]*\)\..*/\1\2/p' "$work/page.html")"
+found() { grep -o '<b class="found">.*' "$work/page.html" | sed 's|</td>.*||; s/<[^>]*>//g'; }
+equal "a report up to an order says so" '28 minimal cut sets of at most 2 events 1 of 1 event 27 of 2 events; larger ones are not listed, and a conflict of more events is not looked for' "$(found)"
 equal "and takes no number that is none" 2 "$(tools/report examples/brake.alt --observer too_weak --max-order 0 >/dev/null 2>&1; echo $?)"
 equal "--explain max-order says what it promises" 1 "$(tools/explain max-order | grep -c 'conflict of more than K events is not looked for')"
 equal "and so it does of the last lines" "$(tools/explain max-order)" "$(tools/explain 'yes up to order 2')"
 
 tools/report tests/models/refusals/S8.alt --observer first --max-order 2 --out "$work/page.html" 2>"$work/said"
 equal "also of a model with too many events for trees of modes" '0 1 -1' \
-  "$? $(sed -n 's/.*There are <b>\([0-9]*\)<.*/\1/p' "$work/page.html") $(sed -n 's/.*tree = \[\(.*\)\];/\1/p' "$work/page.html")"
+  "$? $(found | sed 's/ .*//') $(sed -n 's/.*"trees":\[\([^]]*\)\].*/\1/p' "$work/page.html")"
 equal "the test for single failures of docs/IN_CI.md takes such a model" '1 single failures for first: {p1.r1.c1.fail}' \
   "$(said=$(tests/ci/no_single_failure tests/models/refusals/S8.alt first); echo "$? "$said)"
 

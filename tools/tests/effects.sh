@@ -24,7 +24,7 @@ echo 'nosuch,hall' >"$work/wrong"
 equal "a zone of what is not in the model is refused" 4 "$(tools/effects $model --apart lost "$work/wrong" >"$work/out" 2>&1; echo $?)"
 equal "an observer that is not there is refused with its name" "effects: $model: nosuch: script: no observer (status 11) status 3" \
   "$(tools/effects $model nosuch 2>&1) status $?"
-equal "the tables of random models are those of brute force" '5 models' "$(python3 tools/tests/effects.py 5 2>&1)"
+equal "the tables of random models are those of brute force" '50 models' "$(python3 tools/tests/effects.py 50 2>&1)"
 printf 'path,zone\r\na,цех\r\nb,цех \r\n' >"$work/zones"
 equal "names of zones are as they came" 'together lost in цех: {a.fail, b.fail}' "$(tools/effects $model --apart lost "$work/zones" 2>&1)"
 printf 'a,\340\205\nb,\340\240\n' >"$work/zones"

@@ -382,7 +382,10 @@ if [ "$(head -c 4 "$ALTARICA" | tail -c 3)" = ELF ] && [ -d "/proc/$$" ]; then
   # Stopped while it compiles: nothing goes on, and nothing is left.
   : >"$lab/works"
   : >"$lab/slow"
+  # A signal that is ignored from outside, as HUP under nohup, stops no script.
+  ignored=$(sed -n 's/^SigIgn:[[:blank:]]*//p' "/proc/$$/status")
   for signal in TERM:143 HUP:129 PIPE:141; do
+    [ $(((16#${ignored:-0} >> (${signal#*:} - 129)) & 1)) -eq 0 ] || continue
     mkdir -p "$lab/room"
     (cd "$copy" && TMPDIR=$lab/room PATH=$lab/bin:$PATH exec ./altarica --unproved check plant.alt) >"$lab/out" 2>"$lab/err" </dev/null &
     pid=$!

@@ -63,7 +63,7 @@ class Answers:
         words = [command, *options_of(self.words, "--main"), *files_of(self.copy)]
         status, text, _ = self.calls.run(words)
         if status:
-            raise Refused(words, status, text)
+            raise Refused(words, status, text, self.words.model)
         return text
 
     def listed(self):

@@ -10,8 +10,9 @@ equal "small cut sets, conflicts and checked lists of $models random models are 
 plants=(examples/*.alt tests/models/howto/*.alt)
 equal "the small cut sets of the example plants and of the patterns are those of the whole listing" "${#plants[@]} models" \
   "$(python3 tools/tests/bounded.py "${plants[@]}" 2>&1 | head -n 5)"
-for seed in $(seq $((models / 50))); do python3 tools/tests/random_static.py "$seed" >"$work/static$seed.alt"; done
-equal "so are those of models whose modes branch" "$((models / 50)) models" \
+branching=$((models / 50 + 1))
+for seed in $(seq "$branching"); do python3 tools/tests/random_static.py "$seed" >"$work/static$seed.alt"; done
+equal "so are those of models whose modes branch" "$branching models" \
   "$(python3 tools/tests/bounded.py "$work"/static*.alt 2>&1 | head -n 5)"
 for seed in $(seq 20); do python3 tools/tests/interleaved.py "$seed" >"$work/across$seed.alt"; done
 equal "and of models whose trees of modes lie across each other" '20 models 20' \

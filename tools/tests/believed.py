@@ -61,6 +61,7 @@ compare(files(real_run), set(words("--files", "--from", begins)) - first, "files
 compare(types(), declared(), "types")
 compare([f"{crate} {lines}" for crate, lines in re.findall(r"`(\w+)` (\d+)", call)],
         [line for line in counted if re.fullmatch(r"\w+ \d+", line)], "lines")
+differ.extend(f"need not be believed, and stands among what must: {line}" for line in words("--unread") if line)
 total, more = re.search(r"(\d+) lines must be believed, (\d+) more", counted[-1]).groups()
 if f"they have {total} lines" not in call:
     differ.append(f"the page has not {total} lines")

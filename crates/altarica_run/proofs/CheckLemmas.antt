@@ -1,7 +1,7 @@
 -- What is to be said of the lines of a list: the dropped events are those that stand ready.
 use Rattle.std.proofs.Common.{◌≡◌, ℕ, List, Result, IfOk, Vec, sym, subst}
 use Rattle.std.specs.Global.{Global}
-use Rattle.ar_base.specs.Numbers.{EventId}
+use Rattle.ar_base.specs.NumbersInside.{EventId}
 use Rattle.ar_base.specs.declared.faults.Memory.{Memory}
 use Rattle.ar_meaning.specs.Systems.{System}
 use Rattle.cut_check.specs.Flat.{numbers_of, AreVerdicts}

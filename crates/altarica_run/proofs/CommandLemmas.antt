@@ -1,8 +1,9 @@
 -- The stages that each command passes, one after the other, as the calls that stand for them answer.
 use Rattle.std.proofs.Common.{◌≡◌, ℕ, Bool, true, false, List, [], ◌∷◌, Option, Some, None, Result, Ok, Err, Vec, map, refl, sym, ◌∙◌, ap, subst}
 use Rattle.std.specs.Global.{Global}
-use Rattle.ar_base.specs.Numbers.{EventId}
-use Rattle.ar_base.specs.Stages.{IsRefusal, Where}
+use Rattle.ar_base.specs.NumbersInside.{EventId}
+use Rattle.ar_base.specs.Stages.{Where}
+use Rattle.ar_base.specs.StagesInside.{IsRefusal}
 use Rattle.ar_base.specs.Stages as then
 use Rattle.ar_io.specs.Writing.{SinkState}
 use Rattle.ar_meaning.specs.Runs as runs

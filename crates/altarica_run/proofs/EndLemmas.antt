@@ -7,7 +7,7 @@ use Rattle.run_words.specs.Jobs.{IsAsked}
 use Rattle.altarica_run.specs.Answers.{IsUntouched}
 use Rattle.job_stages.specs.Files.{files_of, Loads}
 use Rattle.altarica_run.specs.Doing.{AnswersFor, RefusesWords, no_job, stage, not_read, AnswersWords}
-use Rattle.job_stages.specs.Jobs.{AnswersJob}
+use Rattle.job_stages.specs.JobsInside.{AnswersJob}
 use Rattle.job_stages.specs.Loading.{RefusesFiles, AnswersTexts, AreTexts, texts_of}
 use Rattle.job_stages.specs.Loading as loading
 use Rattle.job_stages.specs.Refusals.{line_of, status_of}

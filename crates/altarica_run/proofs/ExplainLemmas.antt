@@ -28,7 +28,8 @@ use Rattle.hierarchy.specs.Units.{Thing}
 use Rattle.reason_text.specs.Answers.{Explains, observed, AreSameObserver, IsObserverIn}
 use Rattle.reason_text.specs.Texts.{IsReasonText}
 use Rattle.job_inputs.specs.Flat.{command_of}
-use Rattle.replayer.specs.Settles.{last_standing, Settles, IsFaultLine, AnswersSettle}
+use Rattle.replayer.specs.Settles.{last_standing, Settles, IsFaultLine}
+use Rattle.replayer.specs.SettlesInside.{AnswersSettle}
 use Rattle.job_inputs.specs.declared.commands.Command.{Command as Given}
 use Rattle.replayer.specs.declared.replaying.ReplayFault.{ReplayFault}
 use Rattle.replayer.specs.declared.replaying.ReplayFault.TheVariants as fault

@@ -11,7 +11,8 @@ use Rattle.ar_meaning.specs.Systems.{Variable, Net}
 use Rattle.ar_meaning.proofs.StatesAlone.{same_flows}
 use Rattle.cut_check.specs.Verdicts.{IsMissing}
 use Rattle.cut_text.proofs.UpToOrder.{has_it, has_other}
-use Rattle.check_text.specs.Texts.{EndsYes, all_good, is_none}
+use Rattle.check_text.specs.Texts.{all_good, is_none}
+use Rattle.check_text.specs.TextsInside.{EndsYes}
 use Rattle.check_text.proofs.YesLemmas.{yes_told, told_yes}
 use Rattle.flow_reasons.specs.Reasons.{Reason, IsReason, derived, reset}
 use Rattle.flow_reasons.proofs.RoundStanding.{reason_at, no_two, descends}

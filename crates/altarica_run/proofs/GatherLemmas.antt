@@ -1,7 +1,8 @@
 -- Text that was gathered and then handed on: what is so of the gathered text is so of the sink behind it.
 use Rattle.std.proofs.Common.{◌≡◌, ℕ, Bool, true, false, List, [], Option, Result, Ok, Err, sym, ap, subst}
 use Rattle.ar_io.proofs.Writing.{front_longer}
-use Rattle.ar_io.specs.Writing.{SinkState, IsFront, Appended, WroteFront, Writes}
+use Rattle.ar_io.specs.Writing.{SinkState, IsFront, Appended, WroteFront}
+use Rattle.ar_io.specs.WritingInside.{Writes}
 use Rattle.ar_io.specs.declared.outside.SinkFailed.{SinkFailed}
 use Rattle.ar_io.proofs.Gathering.{put_whole, put_front, put_nothing, rose_failed}
 use Rattle.ar_io.specs.Gathering.{gathered_state}

@@ -3,7 +3,8 @@ use Rattle.std.proofs.Common.{◌≡◌, ◌≤◌, ℕ, Bool, true, false, List
 use Rattle.std.specs.Global.{Global}
 use Rattle.ar_base.specs.Counts.{limit_of}
 use Rattle.ar_base.specs.declared.counts.Count.TheVariants.{ModelBytes}
-use Rattle.run_words.specs.Commands.{shape_of, is_second}
+use Rattle.run_words.specs.Commands.{shape_of}
+use Rattle.run_words.specs.CommandsInside.{is_second}
 use Rattle.run_words.specs.Jobs.{IsAsked, IsAskedOf, IsNodes, IsTaken, NamesFiles, OptionsFit, nodes_by_default}
 use Rattle.run_words.specs.Lines.{CommandWords}
 use Rattle.run_words.specs.declared.jobs.Asked.{Asked}

@@ -5,7 +5,7 @@ use Rattle.ar_io.specs.Writing.{SinkState}
 use Rattle.run_words.specs.declared.jobs.Asked.{Asked}
 use Rattle.run_words.specs.Jobs.{IsAsked}
 use Rattle.job_stages.specs.Files.{files_of, IsText}
-use Rattle.job_stages.specs.Jobs.{AnswersJob}
+use Rattle.job_stages.specs.JobsInside.{AnswersJob}
 use Rattle.job_stages.specs.Loading.{AnswersLoads, texts_of}
 use Rattle.job_stages.specs.Logs.{AreLoads, Grew, PassesBy, not_come, come}
 use Rattle.job_stages.specs.Refusals.{line_of, status_of}

@@ -5,7 +5,8 @@ use Rattle.ar_base.specs.declared.counts.Count.TheVariants.{ModelBytes}
 use Rattle.ar_io.specs.Loads.{Load}
 use Rattle.ar_io.specs.Outside.{Told}
 use Rattle.ar_io.specs.Writing.{SinkState}
-use Rattle.run_words.specs.Commands.{shape_of, is_second}
+use Rattle.run_words.specs.Commands.{shape_of}
+use Rattle.run_words.specs.CommandsInside.{is_second}
 use Rattle.run_words.specs.Jobs.{IsAsked}
 use Rattle.run_words.specs.declared.jobs.Asked.{Asked}
 use Rattle.job_stages.specs.Files.{files_of, Loads}

@@ -6,12 +6,14 @@ use Rattle.ar_meaning.specs.Facts.{PassesConditions as Reached, FactOf, HasValue
 use Rattle.ar_meaning.specs.Flows.{Flows, Total}
 use Rattle.ar_meaning.specs.Runs.{Label}
 use Rattle.ar_meaning.specs.Systems.{Assign}
-use Rattle.check_text.specs.Texts.{EndsYes, AreSaid, within_order, lines_in, said_lines, missing_lines, last_line}
-use Rattle.cut_check.specs.Verdicts.{Said, IsListed, IsMissing, AreTheCuts}
+use Rattle.check_text.specs.Texts.{AreSaid, within_order, lines_in, said_lines, missing_lines, last_line}
+use Rattle.check_text.specs.TextsInside.{EndsYes}
+use Rattle.cut_check.specs.Verdicts.{Said, IsListed, IsMissing}
+use Rattle.cut_check.specs.VerdictsInside.{AreTheCuts}
 use Rattle.firable_families.specs.Firable.{AndUpTo}
 use Rattle.domains.specs.declared.Value.{Value}
 use Rattle.flow_reasons.specs.Reasons.{Reason, AreReasons}
-use Rattle.flow_reasons.specs.Rounds.{OfThese}
+use Rattle.flow_reasons.specs.RoundsInside.{OfThese}
 use Rattle.gts_flatten.specs.Flat.{naming_of}
 use Rattle.hierarchy.specs.Units.{Thing}
 use Rattle.reason_text.specs.Texts.{ReasonLines, IsTold}

@@ -3,7 +3,7 @@
 ghost use Rattle.std.specs.Prelude.{◌≡◌, drop, map};
 ghost use Rattle.std.specs.Process.{exit_status};
 ghost use Rattle.std.specs.String.{string_bytes};
-ghost use Rattle.ar_base.specs.Texts.{bytes_of_all};
+ghost use Rattle.ar_base.specs.TextsInside.{bytes_of_all};
 ghost use Rattle.ar_io.specs.Outside.{Rose};
 ghost use Rattle.altarica_run.specs.Answers.{Answers};
 ghost use Rattle.altarica_run.specs.Doing.{AreGiven, AnswersFor, AnswersReading, AnswersWords};

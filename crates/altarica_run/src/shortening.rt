@@ -1,7 +1,7 @@
 //! The text of `modules`.
 
 ghost use Rattle.std.specs.Prelude.{◌≡◌, None};
-ghost use Rattle.gate_modules.specs.Modules.{AreRanges};
+ghost use Rattle.gate_modules.specs.ModulesInside.{AreRanges};
 ghost use Rattle.module_text.specs.Ranges.{AreRangesOf};
 ghost use Rattle.run_words.specs.declared.jobs.Asked.{Asked};
 ghost use Rattle.run_words.specs.declared.verbs.Verb.TheVariants.{Modules as ModulesAsked};

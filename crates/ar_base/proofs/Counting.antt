@@ -2,7 +2,7 @@
 use Rattle.std.proofs.Common.{◌≡◌, ℕ, zero, suc, ◌+◌, ◌<◌, List, [], ◌∷◌, ◌++◌, length, map, take, get_or, ap, ◌∙◌, sym, subst, arith, inl, inr, length-append}
 use Rattle.std.proofs.lemmas.List.{map-append, take_more}
 use Rattle.ar_base.specs.Lists.{Stands, IsOneOf}
-use Rattle.ar_base.specs.Numbers.{numbers_of}
+use Rattle.ar_base.specs.NumbersInside.{numbers_of}
 use Rattle.ar_base.specs.Sets.{Ascends}
 use Rattle.ar_base.specs.declared.numbers.Id.{Id}
 use Rattle.ar_base.proofs.Standing.{stands_none, stands_some, stands_split, stands_within}

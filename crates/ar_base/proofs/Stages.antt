@@ -1,6 +1,7 @@
 -- One stage after the other, as calls joined by `?`.
 use Rattle.std.proofs.Common.{◌≡◌, Option, Some, None, Result, Ok, Err, sym, ◌∙◌, ap, subst}
-use Rattle.ar_base.specs.Stages.{Then, refuses, passes, IsRefusal, IsStage}
+use Rattle.ar_base.specs.Stages.{Then, refuses, passes}
+use Rattle.ar_base.specs.StagesInside.{IsRefusal, IsStage}
 
 module _ {A B C R X Y E : Type 0} (told : E → Option R) (first : A → Result B R → Type 0)
     (next : B → Result C R → Type 0) (a : A) (view : B → X → Type 0) (see : C → Y → Type 0) where

@@ -3,7 +3,7 @@ use Rattle.std.proofs.Common.{◌≡◌, ℕ, ◌+◌, ◌⊎◌, Bool, true, fa
 use Rattle.std.specs.Str.{IsUtf8, bytes_eq}
 use Rattle.std.proofs.lemmas.Slice.Eq.{bytes_eq-Decides}
 use Rattle.ar_base.specs.Lists.{Stands, HasNo, AreDifferent}
-use Rattle.ar_base.specs.Texts.{AreUtf8, NumbersTexts}
+use Rattle.ar_base.specs.TextsInside.{AreUtf8, NumbersTexts}
 use Rattle.ar_base.proofs.Standing.{stands_left, stands_split, stands_next, stands_alone}
 
 module _ (texts : List (List ℕ)) (number_of : List ℕ → Option ℕ) (h : NumbersTexts texts number_of) where

@@ -18,11 +18,3 @@ limit_of WayParts = 1000000
 limit_of ExpressionNodes = 1000000
 limit_of Gates = 2000000
 limit_of CutLines = 4096
-
--- the most nodes that may be asked for
-abbrev pub most_nodes : ℕ
-most_nodes = 16777216
-
--- how many nodes there may be where no number is asked for
-abbrev pub usual_nodes : ℕ
-usual_nodes = 1000000

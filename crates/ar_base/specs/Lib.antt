@@ -1,8 +1,12 @@
 pub mod Lists
+pub mod ListsInside
 pub mod Sets
 pub mod Numbers
+pub mod NumbersInside
 pub mod Breach
 pub mod Counts
 pub mod Texts
+pub mod TextsInside
 pub mod Stages
+pub mod StagesInside
 pub mod Least

@@ -1,22 +1,6 @@
 -- Texts as lists of bytes: tables of texts, lines, and texts joined.
-use Rattle.std.specs.Prelude.{◌≡◌, ℕ, Bool, false, if◌then◌else◌, List, [], ◌∷◌, ◌++◌, Option, Some, map, codes, slice_get, unwrap_or}
-use Rattle.std.specs.Str.{IsUtf8}
-use Rattle.std.specs.String.{string_bytes}
-use Rattle.std.specs.declared.string.String.{String}
-use Rattle.ar_base.specs.Lists.{Stands, IsOneOf, HasNo}
-
--- the bytes of each text
-abbrev pub bytes_of_all : {Z : Type 0} → List (String Z) → List (List ℕ)
-bytes_of_all texts = map string_bytes texts
-
--- each text is one in UTF-8
-pub record AreUtf8 (texts : List (List ℕ)) : Type 0 where
-  pub each : (n : ℕ) (t : List ℕ) → Stands texts n t → IsUtf8 t
-
--- each text's number is its place in the table, and a text that the table lacks has none
-pub record NumbersTexts (texts : List (List ℕ)) (number_of : List ℕ → Option ℕ) : Type 0 where
-  pub found : (t : List ℕ) (n : ℕ) → number_of t ≡ Some n → Stands texts n t
-  pub placed : (t : List ℕ) (n : ℕ) → Stands texts n t → number_of t ≡ Some n
+use Rattle.std.specs.Prelude.{◌≡◌, ℕ, Bool, false, if◌then◌else◌, List, [], ◌∷◌, ◌++◌, codes, slice_get, unwrap_or}
+use Rattle.ar_base.specs.Lists.{IsOneOf, HasNo}
 
 -- the table `new` is `old` with this text: a text that stands there already changes nothing, another one goes last
 pub data Interns (old : List (List ℕ)) (text : List ℕ) : List (List ℕ) → Type 0 where

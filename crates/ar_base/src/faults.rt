@@ -1,7 +1,7 @@
 //! Refusals that many layers share.
 
 ghost use Rattle.std.specs.Prelude.{◌≡◌};
-ghost use Rattle.ar_base.specs.Stages.{kept_rule};
+ghost use Rattle.ar_base.specs.StagesInside.{kept_rule};
 
 use crate::{Count, Place};
 use std::alloc::{AllocError, AllocFailed};

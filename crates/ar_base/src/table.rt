@@ -23,7 +23,7 @@ pub struct Names {
 impl Model for Names {
     ghost use Rattle.std.specs.Prelude.{ℕ, ◌<◌, ◌^◌, List, length};
     ghost use Rattle.std.specs.HashMap.{get_by_text};
-    ghost use Rattle.ar_base.specs.Texts.{bytes_of_all, AreUtf8, NumbersTexts};
+    ghost use Rattle.ar_base.specs.TextsInside.{bytes_of_all, AreUtf8, NumbersTexts};
 
     ghost Value = { List (List ℕ) };
 

@@ -4,11 +4,12 @@ use Rattle.ar_base.specs.Lists.{IsOneOf}
 use Rattle.domains.specs.declared.Value.{Value}
 use Rattle.typed_expr.specs.declared.expr.Expr.{Expr}
 use Rattle.ar_meaning.specs.Systems.{System}
-use Rattle.ar_meaning.specs.Facts.{AreKeyed}
+use Rattle.ar_meaning.specs.FactsInside.{AreKeyed}
 use Rattle.ar_meaning.specs.Flows.{FlowFault}
 use Rattle.ar_meaning.specs.Runs.{Label, first_values}
 use Rattle.ar_firing.specs.Static.{IsStatic}
-use Rattle.ar_firing.specs.Cuts.{Conflicts, IsFirable, IsLegalOrder, IsLeast, AreEvents}
+use Rattle.ar_firing.specs.Cuts.{Conflicts, IsFirable, IsLeast, AreEvents}
+use Rattle.ar_firing.specs.CutsInside.{IsLegalOrder}
 use Rattle.ar_base.specs.Sets.{Within}
 use Rattle.ar_firing.specs.Cuts as cuts
 use Rattle.ar_firing.specs.Operands.{Agrees, HasFlows, IsFirableWith}

@@ -3,7 +3,8 @@ use Rattle.std.proofs.Common.{Option, None, slice_get, ◌≡◌, ◌+◌, ◌<�
 use Rattle.std.proofs.lemmas.Bool.Decides.{nat_tests}
 use Rattle.ar_base.specs.Lists.{Stands, IsOneOf, HasNo}
 use Rattle.ar_meaning.specs.Systems.{Variable, Way, System}
-use Rattle.ar_meaning.specs.Facts.{AreKeyed, HasValue}
+use Rattle.ar_meaning.specs.Facts.{HasValue}
+use Rattle.ar_meaning.specs.FactsInside.{AreKeyed}
 use Rattle.ar_meaning.specs.Flows.{Flows, FlowFault, Fails}
 use Rattle.ar_meaning.specs.Ways.{Can, Effects}
 use Rattle.ar_meaning.specs.Steps.{flow, Clashes, LeavesDomain, Receives, changed, kept, Step, Next, moves}

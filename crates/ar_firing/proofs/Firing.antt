@@ -6,7 +6,8 @@ use Rattle.ar_base.specs.Lists.{Stands, IsOneOf}
 use Rattle.typed_expr.specs.Yields.{Level, Yields}
 use Rattle.typed_expr.proofs.Facts.{yields_named}
 use Rattle.ar_meaning.specs.Systems.{Variable, Way, System}
-use Rattle.ar_meaning.specs.Facts.{AreKeyed, PassesConditions, HasValue, FactOf}
+use Rattle.ar_meaning.specs.Facts.{PassesConditions, HasValue, FactOf}
+use Rattle.ar_meaning.specs.FactsInside.{AreKeyed}
 use Rattle.ar_meaning.specs.Facts as f
 use Rattle.ar_meaning.specs.Flows.{Completes, state, known, unknown, Outcome, FlowFault, Flows, Fails, Total, all_hold}
 use Rattle.ar_meaning.specs.Flows as flows
@@ -16,8 +17,10 @@ use Rattle.ar_meaning.specs.Steps as s
 use Rattle.ar_meaning.specs.Runs.{Label, first_values}
 use Rattle.ar_firing.specs.Fragment.{IsOpen, IsModeOf, named, first, At, Edge, Path, root, edge}
 use Rattle.ar_firing.specs.Static.{Only, IsOf, transition, IsStatic}
-use Rattle.ar_firing.specs.Cuts.{Reaches, Conflicts, IsFirable, MovesTo}
+use Rattle.ar_firing.specs.Cuts.{Reaches, Conflicts, IsFirable}
+use Rattle.ar_firing.specs.CutsInside.{MovesTo}
 use Rattle.ar_firing.specs.Cuts as cuts
+use Rattle.ar_firing.specs.CutsInside as moves
 use Rattle.domains.specs.declared.Value.{Value}
 use Rattle.typed_expr.specs.declared.expr.Expr.{Expr, out-Expr}
 use Rattle.ar_meaning.proofs.OneAnswer.{first_same, no_first}
@@ -320,12 +323,12 @@ module _ {V : Type 0} (sys : System V) (dropped : List ℕ) (keyed : AreKeyed sy
         (subst (λ v. Contains e.variable.domain v) (sym a) e.facts.in_domain)))
     ready l w o c (flow new d n m r k) = record {
       values = new;
-      moves_to = cuts.fails k;
+      moves_to = moves.fails k;
       is_firable = moved l w (next_edge l w o d) new r;
     }
     ready l w o c (moves new d n m r k) = record {
       values = new;
-      moves_to = cuts.on k;
+      moves_to = moves.on k;
       is_firable = moved l w (next_edge l w o d) new r;
     }
 

@@ -1,14 +1,15 @@
 -- A system and its image have the same firing orders, cuts and conflict sets.
 use Rattle.std.proofs.Common.{ℕ, List, sym, ◌∙◌, subst}
 use Rattle.domains.specs.declared.Value.{Value}
-use Rattle.typed_expr.specs.Pairs.{turned}
+use Rattle.typed_expr.specs.PairsInside.{turned}
 use Rattle.typed_expr.specs.declared.expr.Expr.{Expr}
 use Rattle.typed_expr.proofs.Renaming.{carries}
 use Rattle.ar_meaning.specs.Systems.{Way, System}
 use Rattle.ar_meaning.specs.Facts.{HasValue}
 use Rattle.ar_meaning.specs.Flows.{FlowFault, Flows, Fails, Total}
 use Rattle.ar_meaning.specs.Runs.{Label}
-use Rattle.ar_meaning.specs.Image.{Way_renames, Expr_renames, IsImage}
+use Rattle.ar_meaning.specs.Image.{Way_renames, Expr_renames}
+use Rattle.ar_meaning.specs.ImageInside.{IsImage}
 use Rattle.ar_meaning.proofs.ImageTurned.{image_turned}
 use Rattle.typed_expr.proofs.Renaming.{renames_turned}
 use Rattle.ar_meaning.proofs.ImageFlows.{partner, value_there, flows_there, step_there}

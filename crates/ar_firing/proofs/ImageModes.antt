@@ -4,14 +4,15 @@ use Rattle.ar_base.specs.Lists.{Stands, IsOneOf, IsFirst, HasNo, Along}
 use Rattle.ar_base.specs.Lists as l
 use Rattle.ar_base.proofs.Standing.{stands_one, along_length}
 use Rattle.domains.specs.declared.Value.{Value}
-use Rattle.typed_expr.specs.Pairs.{turned}
+use Rattle.typed_expr.specs.PairsInside.{turned}
 use Rattle.typed_expr.specs.Renames.{Renames}
 use Rattle.typed_expr.specs.declared.expr.Expr.{Expr, out-Expr}
 use Rattle.typed_expr.proofs.Renaming.{Mentioned, mentions_carry}
 use Rattle.ar_meaning.specs.Systems.{Assign, Variable, Way, System}
 use Rattle.ar_meaning.specs.Ways.{Can, Effects}
 use Rattle.ar_meaning.specs.Runs.{Label}
-use Rattle.ar_meaning.specs.Image.{Conditions_rename, Assign_renames, Variable_renames, Way_renames, leaves, Event_renames, IsImage}
+use Rattle.ar_meaning.specs.Image.{Conditions_rename, Assign_renames, Variable_renames, Way_renames, leaves, Event_renames}
+use Rattle.ar_meaning.specs.ImageInside.{IsImage}
 use Rattle.ar_meaning.specs.Image as i
 use Rattle.ar_meaning.proofs.ImageTurned.{image_turned, way_turned}
 use Rattle.ar_meaning.proofs.Dependence.{tests_there}

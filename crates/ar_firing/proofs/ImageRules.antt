@@ -2,19 +2,21 @@
 use Rattle.std.proofs.Common.{◌≡◌, ℕ, List, Option, Contains, refl, sym, ◌∙◌, subst}
 use Rattle.ar_base.specs.Lists.{Stands}
 use Rattle.domains.specs.declared.Value.{Value}
-use Rattle.typed_expr.specs.Pairs.{turned}
+use Rattle.typed_expr.specs.PairsInside.{turned}
 use Rattle.typed_expr.specs.Yields.{Level}
 use Rattle.typed_expr.specs.Renames.{Renames}
 use Rattle.typed_expr.specs.Possible.{IsWide}
 use Rattle.ar_meaning.specs.Facts.{Allows}
 use Rattle.ar_meaning.specs.Systems.{Assign, Variable, Transition, Way, Joint, Branches, System}
 use Rattle.ar_meaning.specs.Runs.{Label, IsWay}
-use Rattle.ar_meaning.specs.Image.{Assign_renames, Variable_renames, Way_renames, leaves, joints, IsImage}
+use Rattle.ar_meaning.specs.Image.{Assign_renames, Variable_renames, Way_renames, leaves, joints}
+use Rattle.ar_meaning.specs.ImageInside.{IsImage}
 use Rattle.ar_meaning.proofs.OneRun.{way_same}
 use Rattle.ar_meaning.proofs.ImageTurned.{image_turned, way_turned}
 use Rattle.ar_meaning.proofs.ImageFlows.{allows_there, partner}
 use Rattle.ar_firing.specs.Fragment.{IsKept, IsModeOf, IsLive}
-use Rattle.ar_firing.specs.Rules.{IsTransition, transition, KeepsS1, BreaksS1, KeepsS2, BreaksS2, HasModeVariable, KeepsS3, BreaksS3, IsLiveAt, GivesOther, nothing, two, outside, KeepsS4, BreaksS4, names, gives, KeepsS5, HasLive, BreaksS5, KeepsS6, BreaksS6, stays, by_events, by_edges, initial, AssignIsWide, by_value, by_condition, KeepsS7, BreaksS7, ObserverBreaksS7, KeepsS8, BreaksS8, Spot, Rule, S1, S2, S3, S4, S5, S6, S7, S8, BreaksStaticRule, s1, s2, s3, s4, s5, s6, s7, s7_observer, s8, KeepsStaticRule, IsFirstBroken, KeepsAll, KeepsUpTo}
+use Rattle.ar_firing.specs.Rules.{IsTransition, transition, KeepsS1, BreaksS1, KeepsS2, BreaksS2, HasModeVariable, KeepsS3, BreaksS3, IsLiveAt, GivesOther, nothing, two, outside, KeepsS4, BreaksS4, names, gives, KeepsS5, HasLive, BreaksS5, KeepsS6, BreaksS6, stays, by_events, by_edges, initial, AssignIsWide, by_value, by_condition, KeepsS7, BreaksS7, ObserverBreaksS7, KeepsS8, BreaksS8, Spot, Rule, S1, S2, S3, S4, S5, S6, S7, S8, BreaksStaticRule, s1, s2, s3, s4, s5, s6, s7, s7_observer, s8, KeepsStaticRule, IsFirstBroken, KeepsUpTo}
+use Rattle.ar_firing.specs.RulesInside.{KeepsAll}
 use Rattle.ar_firing.proofs.Widths.{wide_there}
 use Rattle.ar_firing.proofs.ImageModes.{condition_there, guard_there, action_there, kept_there, transitions_there, is_mode_there, can_at_there, effects_at_there, effects_at_back, reached_there, live_there}
 

@@ -2,12 +2,14 @@
 use Rattle.std.proofs.Common.{◌≡◌, ◌+◌, ◌<◌, ◌⊎◌, inl, inr, ⊎_elim, ℕ, zero, suc, true, List, [], ◌∷◌, ◌++◌, map, length, length-append, refl, sym, ◌∙◌, ap, subst, arith}
 use Rattle.ar_base.specs.Lists.{Stands, IsOneOf}
 use Rattle.ar_meaning.specs.Systems.{Variable, System}
-use Rattle.ar_meaning.specs.Facts.{AreKeyed, HasValue}
+use Rattle.ar_meaning.specs.Facts.{HasValue}
+use Rattle.ar_meaning.specs.FactsInside.{AreKeyed}
 use Rattle.ar_meaning.specs.Ways.{Can}
 use Rattle.ar_meaning.specs.Runs.{Label}
 use Rattle.ar_firing.specs.Fragment.{Path, root, edge, Edge}
 use Rattle.ar_firing.specs.Static.{IsStatic}
-use Rattle.ar_firing.specs.Cuts.{Reaches, IsFirable, AreEvents, AreInOrder}
+use Rattle.ar_firing.specs.Cuts.{Reaches, IsFirable, AreEvents}
+use Rattle.ar_firing.specs.CutsInside.{AreInOrder}
 use Rattle.ar_base.specs.Sets.{Within}
 use Rattle.domains.specs.declared.Value.{Value}
 use Rattle.ar_base.proofs.Standing.{stands_one, stands_none}

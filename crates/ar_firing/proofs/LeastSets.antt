@@ -1,7 +1,8 @@
 -- Least sets, said by what is within them and by what is lesser.
 use Rattle.std.proofs.Common.{◌≡◌, ◌<◌, ◌≤◌, ◌⊎◌, inl, inr, ⊎_elim, ℕ, zero, suc, List, [], ◌∷◌, refl, sym, subst, arith}
 use Rattle.ar_base.specs.Lists.{Stands, IsOneOf}
-use Rattle.ar_firing.specs.Cuts.{IsLeast, HasNoLesser}
+use Rattle.ar_firing.specs.Cuts.{IsLeast}
+use Rattle.ar_firing.specs.CutsInside.{HasNoLesser}
 use Rattle.ar_base.specs.Sets.{Within}
 use Rattle.ar_base.proofs.Sets.{member_told, within_self}
 

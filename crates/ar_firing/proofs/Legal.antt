@@ -3,14 +3,16 @@ use Rattle.std.proofs.Common.{◌≡◌, ℕ, zero, suc, List, [], ◌∷◌, �
 use Rattle.ar_base.specs.Lists.{Stands}
 use Rattle.domains.specs.declared.Value.{Value}
 use Rattle.ar_meaning.specs.Systems.{System}
-use Rattle.ar_meaning.specs.Facts.{AreKeyed, HasValue}
+use Rattle.ar_meaning.specs.Facts.{HasValue}
+use Rattle.ar_meaning.specs.FactsInside.{AreKeyed}
 use Rattle.ar_meaning.specs.Ways.{Can}
 use Rattle.ar_meaning.specs.Flows.{FlowFault, Flows, Fails}
 use Rattle.ar_meaning.specs.Steps.{moves, flow}
 use Rattle.ar_meaning.specs.Runs.{Label, first_values}
 use Rattle.ar_firing.specs.Fragment.{Edge}
 use Rattle.ar_firing.specs.Static.{IsStatic}
-use Rattle.ar_firing.specs.Cuts.{Reaches, Conflicts, IsFirable, IsLegalOrder, AreEvents, MovesTo}
+use Rattle.ar_firing.specs.Cuts.{Reaches, Conflicts, IsFirable, AreEvents}
+use Rattle.ar_firing.specs.CutsInside.{IsLegalOrder, MovesTo}
 use Rattle.ar_base.specs.Sets.{Within}
 use Rattle.ar_firing.specs.Cuts as cuts
 use Rattle.ar_firing.specs.Operands.{HasFlows}

@@ -5,11 +5,12 @@ use Rattle.ar_base.specs.Lists.{Stands, IsOneOf}
 use Rattle.ar_base.proofs.Standing.{stands_left, stands_right, stands_split}
 use Rattle.domains.specs.declared.Value.{Value}
 use Rattle.ar_meaning.specs.Systems.{Variable, System}
-use Rattle.ar_meaning.specs.Facts.{AreKeyed}
+use Rattle.ar_meaning.specs.FactsInside.{AreKeyed}
 use Rattle.ar_meaning.specs.Runs.{Label}
 use Rattle.ar_firing.specs.Fragment.{Path, root, edge, Edge}
 use Rattle.ar_firing.specs.Static.{IsStatic}
-use Rattle.ar_firing.specs.Cuts.{IsFirable, IsLegalOrder, AreEvents, AreInOrder}
+use Rattle.ar_firing.specs.Cuts.{IsFirable, AreEvents}
+use Rattle.ar_firing.specs.CutsInside.{IsLegalOrder, AreInOrder}
 use Rattle.ar_base.specs.Sets.{Within}
 use Rattle.ar_firing.specs.Forest.{firing_line, IsLine}
 use Rattle.ar_firing.proofs.Ends.{split_live, split, path_unique, live, label_same, path_same, on_path}

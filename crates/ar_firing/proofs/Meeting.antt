@@ -3,7 +3,7 @@ use Rattle.std.proofs.Common.{◌≡◌, ◌+◌, ⊎_elim, ℕ, zero, suc, Bool
 use Rattle.std.proofs.lemmas.Bool.Decides.{nat_tests}
 use Rattle.ar_base.specs.Lists.{Stands, IsOneOf}
 use Rattle.ar_meaning.specs.Systems.{Variable, System}
-use Rattle.ar_meaning.specs.Facts.{AreKeyed}
+use Rattle.ar_meaning.specs.FactsInside.{AreKeyed}
 use Rattle.ar_meaning.specs.Flows.{FlowFault, Flows, Fails}
 use Rattle.ar_meaning.specs.Steps.{flow}
 use Rattle.ar_meaning.specs.Runs.{Label, first_values}

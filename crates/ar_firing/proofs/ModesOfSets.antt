@@ -4,11 +4,12 @@ use Rattle.ar_base.specs.Lists.{Stands, IsOneOf}
 use Rattle.ar_base.proofs.Standing.{stands_one}
 use Rattle.domains.specs.declared.Value.{Value}
 use Rattle.ar_meaning.specs.Systems.{Variable, System}
-use Rattle.ar_meaning.specs.Facts.{AreKeyed}
+use Rattle.ar_meaning.specs.FactsInside.{AreKeyed}
 use Rattle.ar_meaning.specs.Runs.{Label}
 use Rattle.ar_firing.specs.Fragment.{Path, root, edge, Edge, IsLive}
 use Rattle.ar_firing.specs.Static.{IsStatic}
-use Rattle.ar_firing.specs.Cuts.{IsFirable, NoneLeaves}
+use Rattle.ar_firing.specs.Cuts.{IsFirable}
+use Rattle.ar_firing.specs.CutsInside.{NoneLeaves}
 use Rattle.ar_firing.proofs.Ends.{split_live, split, path_unique, path_end, live, end_same, label_same}
 use Rattle.ar_firing.proofs.InOrder.{leaves}
 

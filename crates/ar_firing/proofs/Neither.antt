@@ -2,8 +2,9 @@
 use Rattle.std.proofs.Common.{◌≡◌, ◌<◌, ◌⊎◌, inl, inr, ⊎_elim, ℕ, zero, suc, List, Option, Some, None, sym, ◌∙◌, ap, subst, arith}
 use Rattle.std.proofs.lemmas.Bool.{cases_eq}
 use Rattle.ar_meaning.specs.Systems.{System}
-use Rattle.ar_meaning.specs.Found.{AreTold}
-use Rattle.ar_firing.specs.Rules.{HasTargets, Spot, AtEvent, AtUnit, AtVariable, AtObserver, AtWhole, IsShownBefore, events, units, variables, observers, variable_first, Rule, S1, S2, S3, S4, S5, S6, S7, S8, BreaksStaticRule, KeepsStaticRule, rule_number, IsFirstBroken, KeepsAll, IsAskedUpTo, KeepsUpTo}
+use Rattle.ar_meaning.specs.FoundInside.{AreTold}
+use Rattle.ar_firing.specs.Rules.{Spot, AtEvent, AtUnit, AtVariable, AtObserver, AtWhole, IsShownBefore, events, units, variables, observers, variable_first, Rule, S1, S2, S3, S4, S5, S6, S7, S8, BreaksStaticRule, KeepsStaticRule, rule_number, IsFirstBroken, IsAskedUpTo, KeepsUpTo}
+use Rattle.ar_firing.specs.RulesInside.{HasTargets, KeepsAll}
 use Rattle.ar_firing.proofs.RulesHold.{rule_of, numbered}
 use Rattle.ar_firing.proofs.Unbroken.{Unbroken, keeps_s1, keeps_s2, keeps_s3, keeps_s4, keeps_s5, keeps_s6, keeps_s7, keeps_s8}
 

@@ -2,10 +2,10 @@
 use Rattle.std.proofs.Common.{◌⊎◌, inl, inr, ⊎_elim, ℕ, List, []}
 use Rattle.domains.specs.declared.Value.{Value}
 use Rattle.ar_meaning.specs.Systems.{System}
-use Rattle.ar_meaning.specs.Facts.{AreKeyed}
+use Rattle.ar_meaning.specs.FactsInside.{AreKeyed}
 use Rattle.ar_meaning.specs.Runs.{Label}
 use Rattle.ar_meaning.specs.Flows.{Flows, Outcome, Fails, Total}
-use Rattle.ar_meaning.specs.Found.{AreTold}
+use Rattle.ar_meaning.specs.FoundInside.{AreTold}
 use Rattle.ar_meaning.proofs.Outcomes.{has_outcome}
 use Rattle.ar_firing.specs.Static.{IsStatic}
 use Rattle.ar_base.specs.Sets.{Within}

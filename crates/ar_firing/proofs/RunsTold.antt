@@ -18,7 +18,7 @@ use Rattle.ar_meaning.specs.Flows.{Flows, FlowFault, Outcome, Fails, Total}
 use Rattle.ar_meaning.specs.Steps.{Answer, Refused, Next, NotEnabled, Clash, Range, Flow, Step}
 use Rattle.ar_meaning.specs.Runs.{Label, IsWay, first_values}
 use Rattle.ar_meaning.specs.TraceText.{ways_of}
-use Rattle.ar_meaning.specs.Found.{AreTold}
+use Rattle.ar_meaning.specs.FoundInside.{AreTold}
 use Rattle.ar_meaning.proofs.OneAnswer.{flows_same, step_same}
 use Rattle.ar_meaning.proofs.OneRun.{way_same}
 use Rattle.ar_meaning.proofs.Lengths.{total_long, first_long, step_long}

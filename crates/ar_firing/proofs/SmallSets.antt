@@ -2,7 +2,8 @@
 use Rattle.std.proofs.Common.{◌≤◌, ℕ, List, Option, None, Some, arith}
 use Rattle.ar_base.specs.Sets.{Within}
 use Rattle.ar_meaning.specs.Systems.{System}
-use Rattle.ar_firing.specs.Cuts.{IsLeast, MeetsConflict, IsConflictFree, HasAtMost, UpTo, IsConflictFreeUpTo}
+use Rattle.ar_firing.specs.Cuts.{IsLeast, MeetsConflict, IsConflictFree, HasAtMost, IsConflictFreeUpTo}
+use Rattle.ar_firing.specs.CutsInside.{UpTo}
 use Rattle.ar_firing.proofs.LeastSets.{within_then}
 
 -- a part of a set has no more events

@@ -14,12 +14,13 @@ use Rattle.ar_meaning.specs.Systems.{Assign, Variable, Way, Leaf, Joint, System}
 use Rattle.ar_meaning.specs.Dependence.{Tests, in_this, in_later}
 use Rattle.ar_meaning.specs.Ways.{Effects}
 use Rattle.ar_meaning.specs.Runs.{Label, IsWay}
-use Rattle.ar_meaning.specs.Found.{AreTold}
+use Rattle.ar_meaning.specs.FoundInside.{AreTold}
 use Rattle.ar_meaning.proofs.Outcomes.{both_told, bool_told, one_told}
 use Rattle.ar_meaning.proofs.Answering.{effects_known}
 use Rattle.ar_firing.specs.Fragment.{Involves, as_target, as_source, GuardNames, guard, ActionNames, action, WayNames, in_guard, in_action, IsStateOf, IsNamedStateOf, IsModeOf, named, first, At, IsLive}
 use Rattle.ar_firing.specs.Static.{IsStatic}
-use Rattle.ar_firing.specs.Rules.{IsTransition, transition, KeepsS1, KeepsS2, HasState, HasModeVariable, KeepsS3, IsLiveAt, GivesOne, GivesOther, nothing, two, outside, KeepsS4, names, gives, AreTwoEdges, ways, variables, modes, HasLive, KeepsS5, KeepsS6, stays, by_events, by_edges, initial, HasTargets, KeepsS7, IsLiveEvent, KeepsS8, Spot, AtEvent, AtUnit, AtVariable, AtObserver, AtWhole, Rule, S1, S2, S3, S4, S5, S6, S7, S8, BreaksStaticRule, s1, s2, s3, s4, s5, s6, s7, s7_observer, s8}
+use Rattle.ar_firing.specs.Rules.{IsTransition, transition, KeepsS1, KeepsS2, HasState, HasModeVariable, KeepsS3, IsLiveAt, GivesOne, GivesOther, nothing, two, outside, KeepsS4, names, gives, AreTwoEdges, ways, variables, modes, HasLive, KeepsS5, KeepsS6, stays, by_events, by_edges, initial, KeepsS7, IsLiveEvent, KeepsS8, Spot, AtEvent, AtUnit, AtVariable, AtObserver, AtWhole, Rule, S1, S2, S3, S4, S5, S6, S7, S8, BreaksStaticRule, s1, s2, s3, s4, s5, s6, s7, s7_observer, s8}
+use Rattle.ar_firing.specs.RulesInside.{HasTargets}
 use Rattle.ar_firing.proofs.RulesHold.{static}
 
 -- what a way names

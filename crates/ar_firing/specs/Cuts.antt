@@ -1,16 +1,16 @@
 -- Firable sets, firing orders, cuts and conflicts. A set of events is a list of their numbers.
-use Rattle.std.specs.Prelude.{◌<◌, ◌≤◌, ◌≡◌, ℕ, true, List, [], ◌∷◌, length, Option, Some, None}
+use Rattle.std.specs.Prelude.{◌≤◌, ◌≡◌, ℕ, true, List, [], ◌∷◌, length, Option, Some, None}
 use Rattle.ar_base.specs.Lists.{Stands, IsOneOf}
 use Rattle.ar_base.specs.Sets.{Within}
 use Rattle.domains.specs.declared.Value.{Value}
 use Rattle.typed_expr.specs.Yields.{Yields}
 use Rattle.typed_expr.specs.declared.expr.Expr.{Expr, out-Expr}
-use Rattle.ar_meaning.specs.Systems.{Variable, Way, Net, System}
+use Rattle.ar_meaning.specs.Systems.{Variable, Way, System}
 use Rattle.ar_meaning.specs.Facts.{HasValue}
-use Rattle.ar_meaning.specs.Flows.{Flows, FlowFault, Fails, Total}
-use Rattle.ar_meaning.specs.Steps.{Step, Answer, Refused, Next, Flow}
+use Rattle.ar_meaning.specs.Flows.{FlowFault}
+use Rattle.ar_meaning.specs.Steps.{Step, Refused, Next, Flow}
 use Rattle.ar_meaning.specs.Runs.{Label, Start, StartFails}
-use Rattle.ar_firing.specs.Fragment.{Edge, IsOpen, IsLive, Path}
+use Rattle.ar_firing.specs.Fragment.{IsOpen, Path}
 
 -- the run that starts and fires these labels of visible events that are not dropped, the last first, has no fault and
 -- ends in this valuation
@@ -51,11 +51,6 @@ pub record IsLeast (P : List ℕ → Type 0) (set : List ℕ) : Type 0 where
   pub has : P set
   pub least : (part : List ℕ) → Within part set → P part → Within set part
 
--- the set has P, and no proper part of it has
-pub record HasNoLesser (P : List ℕ → Type 0) (set : List ℕ) : Type 0 where
-  pub has : P set
-  pub no_lesser : (part : List ℕ) → Within part set → (Within set part → ⊥) → P part → ⊥
-
 -- some order of the set fires without fault up to its last event, and meets a flow fault there; the empty set does
 -- where the start does
 pub record MeetsConflict {V : Type 0} (sys : System V) (dropped : List ℕ) (set : List ℕ) : Type 0 where
@@ -82,11 +77,6 @@ pub record HasAtMost (k : ℕ) (set : List ℕ) : Type 0 where
   pub within : Within set list
   pub few : length list ≤ k
 
--- the set has at most as many events as are asked for; where no number is given, every set has
-abbrev pub UpTo : Option ℕ → List ℕ → Type 0
-UpTo None set = Unit {0}
-UpTo (Some k) set = HasAtMost k set
-
 -- no set of at most so many events meets a conflict; where no number is given, none does
 abbrev pub IsConflictFreeUpTo : {V : Type 0} → Option ℕ → System V → List ℕ → Type 0
 IsConflictFreeUpTo None sys dropped = IsConflictFree sys dropped
@@ -103,27 +93,3 @@ pub record IsFirable {V : Type 0} (sys : System V) (dropped : List ℕ) (set : L
       → Stands (path n) k l → IsOneOf set l.event
   pub whole : (e : ℕ) → IsOneOf set e → (n : ℕ) × (x : Variable V) × (l : Label) × Stands sys.net.variables n x ×
       (x.is_state ≡ true) × IsOneOf (path n) l × (l.event ≡ e)
-
--- no live edge of the variable that leaves this mode has its event in the set
-abbrev pub NoneLeaves : {V : Type 0} → System V → List ℕ → List ℕ → ℕ → Value → Type 0
-NoneLeaves sys dropped set n m = (l : Label) (to : Value) → IsLive sys dropped l n m to → IsOneOf set l.event → ⊥
-
--- what follows of a new state: its flows, or a flow fault
-pub data MovesTo {V : Type 0} (net : Net V) : List Value → Answer → Type 0 where
-  on : {state next : List Value} → Flows net state (Total next) → MovesTo net state (Next next)
-  fails : {state : List Value} {f : FlowFault} → Flows net state (Fails f) → MovesTo net state (Refused (Flow f))
-
--- in this list, the last first, each label stands after the one that enters the mode that it leaves
-pub record AreInOrder {V : Type 0} (sys : System V) (dropped : List ℕ) (ls : List Label) : Type 0 where
-  pub after : (k : ℕ) (l : Label) (n : ℕ) (from to : Value) (m : Label) (ms : List Label) → Stands ls k l
-      → Path sys dropped n (m ∷ ms) from → Edge sys dropped l n from to
-      → (j : ℕ) × (k < j) × Stands ls j m
-
--- the labels, the last first, are those of a firable set's paths, one for each of its events, in such an order
-pub record IsLegalOrder {V : Type 0} (sys : System V) (dropped : List ℕ) (set : List ℕ) (ls : List Label) : Type 0 where
-  pub values : List Value
-  pub is_firable : IsFirable sys dropped set values
-  pub on_paths : (k : ℕ) (l : Label) → Stands ls k l
-      → (n : ℕ) × (x : Variable V) × Stands sys.net.variables n x × (x.is_state ≡ true) × IsOneOf (is_firable.path n) l
-  pub events : AreEvents ls set
-  pub in_order : AreInOrder sys dropped ls

@@ -1,9 +1,11 @@
 pub mod Fragment
 pub mod Cuts
+pub mod CutsInside
 pub mod Operands
 pub mod Forest
 pub mod Replays
 pub mod Rules
+pub mod RulesInside
 pub mod Listed
 pub mod Static
 pub mod Trees

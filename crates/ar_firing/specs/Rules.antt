@@ -181,11 +181,6 @@ pub data AssignIsWide {V : Type 0} (net : Net V) (a : Assign V) : Type 0 where
   by_condition : {e : Expr V} {b : Bool} → IsOneOf a.conditions (e, b) → IsWide (Allows net) 64 (out-Expr V e)
       → AssignIsWide net a
 
--- each assignment of an assertion has a variable of the net as its target, as it must have to be shown
-pub record HasTargets {V : Type 0} (sys : System V) : Type 0 where
-  pub each : (k : ℕ) (a : Assign V) → Stands sys.net.assertions k a
-      → (n : ℕ) × (x : Variable V) × Stands sys.net.variables n x × (a.target ≡ x.key)
-
 -- no assignment of an assertion and no observer has too many possible values
 pub record KeepsS7 {V : Type 0} (sys : System V) : Type 0 where
   pub assignments : (k : ℕ) (a : Assign V) → Stands sys.net.assertions k a → AssignIsWide sys.net a → ⊥
@@ -285,10 +280,6 @@ pub record IsFirstBroken {V : Type 0} (sys : System V) (dropped : List ℕ) (rul
   pub breaks : BreaksStaticRule sys dropped rule spot
   pub lesser_kept : (lesser : Rule) → rule_number lesser < rule_number rule → KeepsStaticRule sys dropped lesser
   pub is_first : (other : Spot) → IsShownBefore other spot → BreaksStaticRule sys dropped rule other → ⊥
-
--- every rule is kept
-pub record KeepsAll {V : Type 0} (sys : System V) (dropped : List ℕ) : Type 0 where
-  pub each : (rule : Rule) → KeepsStaticRule sys dropped rule
 
 -- the rule is one of those that are asked of a system: every rule, and where the cuts of at most so many events are asked for
 -- every one but the last, which says how many events may have a live edge

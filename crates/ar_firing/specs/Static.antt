@@ -6,7 +6,7 @@ use Rattle.typed_expr.specs.Yields.{Level}
 use Rattle.typed_expr.specs.Mentions.{Mentions}
 use Rattle.typed_expr.specs.declared.expr.Expr.{Expr, out-Expr}
 use Rattle.ar_meaning.specs.Systems.{Assign, Variable, Transition, Way, Leaf, System}
-use Rattle.ar_meaning.specs.Facts.{AreKeyed}
+use Rattle.ar_meaning.specs.FactsInside.{AreKeyed}
 use Rattle.ar_meaning.specs.Runs.{Label}
 use Rattle.ar_firing.specs.Fragment.{IsOpen, IsModeOf, Edge}
 use Rattle.ar_firing.specs.Rules.{IsLiveAt, KeepsS5, KeepsS6}

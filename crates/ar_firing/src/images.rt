@@ -10,7 +10,8 @@ ghost use Rattle.ar_meaning.specs.Image.{Expr_renames};
 ghost use Rattle.ar_meaning.specs.FlatOf.{IsNumber, IsFlatOf};
 ghost use Rattle.ar_firing.specs.Cuts.{Reaches, Conflicts, Makes, MeetsConflict, Cut, ConflictSet, IsFirable};
 ghost use Rattle.ar_firing.specs.Forest.{ModeTree, IsModeTree, IsForest, IsLine};
-ghost use Rattle.ar_firing.specs.Rules.{Rule, Spot, KeepsStaticRule, BreaksStaticRule, IsFirstBroken, KeepsAll, KeepsUpTo};
+ghost use Rattle.ar_firing.specs.Rules.{Rule, Spot, KeepsStaticRule, BreaksStaticRule, IsFirstBroken, KeepsUpTo};
+ghost use Rattle.ar_firing.specs.RulesInside.{KeepsAll};
 
 /// Laws of a flat system and the system that it is of.
 ///

@@ -2,9 +2,10 @@
 
 ghost use Rattle.std.specs.Prelude.{ℕ, List, Option, None, ◌≡◌};
 ghost use Rattle.ar_meaning.specs.Systems.{System};
-ghost use Rattle.ar_meaning.specs.Found.{AreTold};
+ghost use Rattle.ar_meaning.specs.FoundInside.{AreTold};
 ghost use Rattle.ar_firing.specs.Static.{IsStatic};
-ghost use Rattle.ar_firing.specs.Rules.{Rule, Spot, HasTargets, KeepsStaticRule, BreaksStaticRule, IsFirstBroken, KeepsAll, IsAskedUpTo, KeepsUpTo};
+ghost use Rattle.ar_firing.specs.Rules.{Rule, Spot, KeepsStaticRule, BreaksStaticRule, IsFirstBroken, IsAskedUpTo, KeepsUpTo};
+ghost use Rattle.ar_firing.specs.RulesInside.{HasTargets, KeepsAll};
 
 /// Laws of systems that keep the rules of the static fragment, and of those that break one.
 ///

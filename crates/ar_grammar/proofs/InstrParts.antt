@@ -5,7 +5,8 @@ use Rattle.ar_lexer.specs.declared.token.TokenKind.{TokenKind}
 use Rattle.ar_lexer.specs.declared.token.TokenKind.TheVariants.{Sign}
 use Rattle.ar_syntax.specs.declared.instructions.Instr.{Instr}
 use Rattle.expression_grammar.specs.Words.{Form, Tokens, kind_or, ◌▸◌, between}
-use Rattle.ar_grammar.specs.Instructions.{simple, group, conditional, ReadsInstr, ReadsSimple, ReadsGroup, ReadsConditional}
+use Rattle.ar_grammar.specs.Instructions.{simple, group, conditional, ReadsInstr}
+use Rattle.ar_grammar.specs.InstructionsInside.{ReadsSimple, ReadsGroup, ReadsConditional}
 use Rattle.expression_grammar.specs.Results.{is_sign}
 use Rattle.expression_grammar.proofs.Finding.{kind_join, then_kind}
 use Rattle.expression_grammar.proofs.ExpressionForms.{sign_from}

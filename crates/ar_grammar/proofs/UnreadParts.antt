@@ -8,7 +8,8 @@ use Rattle.ar_lexer.specs.declared.token.TokenKind.TheVariants.{Name, Whole, Rea
 use Rattle.ar_lexer.specs.declared.signs.TheConstants.{OPEN_PARENTHESIS, CLOSE_PARENTHESIS, SEMICOLON}
 use Rattle.expression_grammar.specs.declared.lexeme.Refusal.{Refusal}
 use Rattle.expression_grammar.specs.Words.{Form, Tokens, kind_or, token, no_kind, deep, ◌▸◌, many, between}
-use Rattle.ar_grammar.specs.Members.{plain_token, unread, unread_piece, bracketed}
+use Rattle.ar_grammar.specs.Members.{plain_token, unread, unread_piece}
+use Rattle.ar_grammar.specs.MembersInside.{bracketed}
 use Rattle.expression_grammar.specs.declared.lexeme.Lexeme.{Lexeme}
 use Rattle.expression_grammar.specs.Texts.{one_of}
 use Rattle.ar_grammar.specs.Texts.{is_unread, bracketed_tokens}

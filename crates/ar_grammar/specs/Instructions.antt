@@ -54,12 +54,3 @@ pub data ReadsInstrOf (Expr : RawForm → Form) (Inner : Instr → Form) (i : In
 abbrev pub ReadsInstr : ℕ → Instr → TokenKind → Tokens → Type 0
 ReadsInstr zero i next ts = ⊥
 ReadsInstr (suc n) i next ts = ReadsInstrOf (ReadsExpr n) (ReadsInstr n) i next ts
-
-abbrev pub ReadsSimple : ℕ → Instr → Form
-ReadsSimple n = ReadsSimpleOf (ReadsExpr n)
-
-abbrev pub ReadsGroup : ℕ → Instr → Form
-ReadsGroup n = ReadsGroupOf (ReadsInstr n)
-
-abbrev pub ReadsConditional : ℕ → Instr → Form
-ReadsConditional n = ReadsIfOf (ReadsExpr n) (ReadsInstr n)

@@ -75,11 +75,6 @@ unread_piece (suc n) next ts = (plain_token ∣ between (Sign OPEN_PARENTHESIS) 
 abbrev pub unread : ℕ → Form
 unread n = many (unread_piece n)
 
--- "(" Unread ")"
-abbrev pub bracketed : ℕ → Form
-bracketed zero = never
-bracketed (suc n) = between (Sign OPEN_PARENTHESIS) (Sign CLOSE_PARENTHESIS) (unread n)
-
 -- [ "(" Unread ")" ], with the span of what is unread
 abbrev pub ReadsAttribute : ℕ → Option Span → Form
 ReadsAttribute n None = nothing

@@ -3,7 +3,8 @@
 ghost use Rattle.std.specs.Prelude.{◌≡◌, ◌++◌, IfOk, IfErr};
 ghost use Rattle.ar_lexer.specs.declared.token.TokenKind.TheVariants.{Reserved};
 ghost use Rattle.expression_grammar.specs.Words.{token, deep, ◌▸◌, each, many};
-ghost use Rattle.ar_grammar.specs.Instructions.{ReadsInstr, ReadsElse, ReadsConditional, ReadsGroup, ReadsSimple};
+ghost use Rattle.ar_grammar.specs.Instructions.{ReadsInstr, ReadsElse};
+ghost use Rattle.ar_grammar.specs.InstructionsInside.{ReadsConditional, ReadsGroup, ReadsSimple};
 ghost use Rattle.ar_lexer.specs.declared.words.TheConstants.{ELSE};
 ghost use Rattle.expression_grammar.specs.Texts.{expr_tokens};
 ghost use Rattle.ar_grammar.specs.Texts.{instr_tokens, conditional_tokens, else_tokens, group_tokens, simple_tokens};

@@ -6,7 +6,8 @@ ghost use Rattle.ar_lexer.specs.declared.signs.TheConstants.{OPEN_PARENTHESIS, C
 ghost use Rattle.expression_grammar.specs.Words.{deep, many, covering};
 ghost use Rattle.ar_grammar.specs.Texts.{bracketed_tokens, kept_tokens};
 ghost use Rattle.ar_grammar.specs.Parts.{unread_tokens, attribute_tokens, kept_piece_tokens};
-ghost use Rattle.ar_grammar.specs.Members.{unread, unread_piece, kept, kept_piece, bracketed, ReadsAttribute};
+ghost use Rattle.ar_grammar.specs.Members.{unread, unread_piece, kept, kept_piece, ReadsAttribute};
+ghost use Rattle.ar_grammar.specs.MembersInside.{bracketed};
 ghost use Rattle.expression_grammar.specs.Results.{kind_at, Takes, Finds, Halts, Spans, anything};
 ghost use Rattle.ar_grammar.specs.Results.{goes_unread, goes_kept, ends_unread, ends_kept, ends_attribute};
 

@@ -3,7 +3,7 @@
 ghost use Rattle.std.specs.Prelude.{◌≡◌, ◌≤◌, [], Some, length, is_ok, take, OnOk, IfErr};
 ghost use Rattle.std.specs.Io.KnownBytes.{Appends};
 ghost use Rattle.ar_io.specs.Handing.{Handed};
-ghost use Rattle.ar_io.specs.Writing.{Writes};
+ghost use Rattle.ar_io.specs.WritingInside.{Writes};
 
 use crate::ghost_text::{GhostText, Piece};
 use crate::memory_shelf::next_count;

@@ -4,7 +4,8 @@ use Rattle.ar_base.specs.Lists.{Stands}
 use Rattle.ar_base.proofs.Standing.{stands_one}
 use Rattle.domains.specs.declared.Value.{Value}
 use Rattle.ar_meaning.specs.Systems.{Variable, Net}
-use Rattle.ar_meaning.specs.Facts.{Allows, HasValue, HasStateValue, AreKeyed, AreNumbered}
+use Rattle.ar_meaning.specs.Facts.{Allows, HasValue, HasStateValue}
+use Rattle.ar_meaning.specs.FactsInside.{AreKeyed, AreNumbered}
 
 module _ (net : Net ℕ) (numbered : AreNumbered net) where
   pub keyed : AreKeyed net

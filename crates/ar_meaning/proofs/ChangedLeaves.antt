@@ -5,7 +5,8 @@ use Rattle.ar_base.specs.Lists as l
 use Rattle.ar_base.proofs.Standing.{stands_map}
 use Rattle.ar_meaning.specs.Systems.{Tree, Leaf, Joint, Branches}
 use Rattle.ar_meaning.specs.Image.{Trees_along, leaves, joints, Branches_along, no_branch, branch}
-use Rattle.ar_meaning.specs.Numbered.{changed, branches_changed, Body, body_changed, Means_way, leaf, joint, Mean_parts, part}
+use Rattle.ar_meaning.specs.Numbered.{Body, Means_way, leaf, joint, Mean_parts, part}
+use Rattle.ar_meaning.specs.NumberedInside.{changed, branches_changed, body_changed}
 use Rattle.ar_meaning.specs.Numbered as t
 
 module _ {L M : Type 0} (f : L → M) (bodies : List (Body L)) where

@@ -2,14 +2,16 @@
 use Rattle.std.proofs.Common.{◌≡◌, ℕ, Bool, List, sym, ◌∙◌, subst}
 use Rattle.ar_base.specs.Lists.{Stands, Along}
 use Rattle.ar_base.proofs.Standing.{stands_one}
-use Rattle.typed_expr.specs.Pairs.{turned}
+use Rattle.typed_expr.specs.PairsInside.{turned}
 use Rattle.ar_meaning.specs.Systems.{Variable, Transition, Net, System}
-use Rattle.ar_meaning.specs.Facts.{AreKeyed, AreNumbered}
+use Rattle.ar_meaning.specs.FactsInside.{AreKeyed, AreNumbered}
 use Rattle.ar_meaning.specs.Expand.{EventDeclaration, Member}
-use Rattle.ar_meaning.specs.ExpandImage.{Part_renames, Member_renames, transitions, synchronise, Declared_renames}
-use Rattle.ar_meaning.specs.Image.{IsNetImage, IsImage}
+use Rattle.ar_meaning.specs.ExpandImage.{Part_renames, transitions, synchronise, Declared_renames}
+use Rattle.ar_meaning.specs.ExpandImageInside.{Member_renames}
+use Rattle.ar_meaning.specs.ImageInside.{IsNetImage, IsImage}
 use Rattle.ar_meaning.specs.TraceText.{Naming}
-use Rattle.ar_meaning.specs.FlatOf.{IsNumber, IsFlatOf, AreFlatOf, NameAlike}
+use Rattle.ar_meaning.specs.FlatOf.{IsNumber, IsFlatOf}
+use Rattle.ar_meaning.specs.FlatOfInside.{AreFlatOf, NameAlike}
 use Rattle.ar_meaning.proofs.ImageTurned.{net_turned, image_turned}
 use Rattle.ar_meaning.proofs.ImageFlows.{partner}
 use Rattle.ar_meaning.proofs.ImageJoined.{along_joined, assign_joined, variable_joined, transition_joined, event_joined, observer_joined}

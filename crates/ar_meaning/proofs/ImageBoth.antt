@@ -1,14 +1,15 @@
 -- A system and its image answer alike, both ways.
 use Rattle.std.proofs.Common.{◌↔◌, List}
 use Rattle.domains.specs.declared.Value.{Value}
-use Rattle.typed_expr.specs.Pairs.{turned}
+use Rattle.typed_expr.specs.PairsInside.{turned}
 use Rattle.ar_meaning.specs.Systems.{Net, System, Way}
 use Rattle.ar_meaning.specs.Facts.{HasValue, FactOf}
 use Rattle.ar_meaning.specs.Flows.{Outcome, Flows}
 use Rattle.ar_meaning.specs.Ways.{Can, Effects}
 use Rattle.ar_meaning.specs.Steps.{Answer, Step}
 use Rattle.ar_meaning.specs.Runs.{Command, Moment, Runs}
-use Rattle.ar_meaning.specs.Image.{Way_renames, IsNetImage, IsImage}
+use Rattle.ar_meaning.specs.Image.{Way_renames}
+use Rattle.ar_meaning.specs.ImageInside.{IsNetImage, IsImage}
 use Rattle.ar_meaning.proofs.ImageTurned.{net_turned, image_turned, way_turned}
 use Rattle.ar_meaning.proofs.ImageFlows.{value_there, fact_there, can_there, effects_there, flows_there, step_there}
 use Rattle.ar_meaning.proofs.ImageRuns.{runs_there}

@@ -10,13 +10,14 @@ use Rattle.ar_meaning.specs.Ways.{has_must, Can, guard_holds, all_musts, some_ma
 use Rattle.ar_meaning.specs.Ways as w
 use Rattle.ar_meaning.specs.Steps.{Clashes, LeavesDomain, Receives, Answer, Step, not_enabled, clash, range, flow, moves}
 use Rattle.ar_meaning.specs.Steps as s
-use Rattle.ar_meaning.specs.Image.{Conditions_rename, Assign_renames, Variable_renames, Transition_renames, Way_renames, leaves, joints, Branches_rename, no_branch, branch, IsNetImage}
+use Rattle.ar_meaning.specs.Image.{Conditions_rename, Assign_renames, Variable_renames, Transition_renames, Way_renames, leaves, joints, no_branch, branch}
+use Rattle.ar_meaning.specs.ImageInside.{Branches_rename, IsNetImage}
 use Rattle.ar_meaning.specs.Image as i
 use Rattle.domains.specs.declared.Value.{Value}
 use Rattle.typed_expr.specs.declared.expr.Expr.{Expr}
 use Rattle.ar_meaning.proofs.Least.{least, closed}
 use Rattle.typed_expr.proofs.Renaming.{carries}
-use Rattle.typed_expr.specs.Pairs.{turned}
+use Rattle.typed_expr.specs.PairsInside.{turned}
 use Rattle.ar_meaning.proofs.ImageTurned.{net_turned, way_turned}
 
 -- the item at the same place of the other list

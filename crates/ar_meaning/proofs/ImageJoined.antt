@@ -5,7 +5,8 @@ use Rattle.ar_base.specs.Lists as l
 use Rattle.typed_expr.specs.declared.expr.Expr.{Expr}
 use Rattle.typed_expr.proofs.Renaming.{renames_joined}
 use Rattle.ar_meaning.specs.Systems.{Assign, Variable, Transition, Way, Branches, Event}
-use Rattle.ar_meaning.specs.Image.{Conditions_rename, Assign_renames, Variable_renames, Transition_renames, Way_renames, leaves, joints, Branches_rename, no_branch, branch, Event_renames, Expr_renames}
+use Rattle.ar_meaning.specs.Image.{Conditions_rename, Assign_renames, Variable_renames, Transition_renames, Way_renames, leaves, joints, no_branch, branch, Event_renames, Expr_renames}
+use Rattle.ar_meaning.specs.ImageInside.{Branches_rename}
 use Rattle.ar_meaning.specs.Image as i
 
 pub along_joined : {A B C : Type 0} {R : A → B → Type 0} {S : B → C → Type 0} {T : A → C → Type 0}

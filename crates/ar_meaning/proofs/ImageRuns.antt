@@ -3,13 +3,14 @@ use Rattle.std.proofs.Common.{◌≡◌, ℕ, List, refl, sym, ◌∙◌, subst}
 use Rattle.ar_base.specs.Lists.{Stands, Along, IsFirst}
 use Rattle.ar_base.specs.Lists as l
 use Rattle.ar_meaning.specs.Systems.{Variable, System, Event, Way}
-use Rattle.ar_meaning.specs.Image.{Way_renames, Variable_renames, Event_renames, IsImage}
+use Rattle.ar_meaning.specs.Image.{Way_renames, Variable_renames, Event_renames}
+use Rattle.ar_meaning.specs.ImageInside.{IsImage}
 use Rattle.ar_meaning.specs.Facts.{HasValue}
 use Rattle.ar_meaning.specs.Flows.{Flows, Fails, Total}
 use Rattle.ar_meaning.specs.Runs.{Label, IsWay, Command, Moment, Ways_listed, can, cannot, Listed, visible, hidden, Goes, ends, fires, fails, back, no_step, shows, lists, Runs, starts, start_fails, first_values}
 use Rattle.ar_meaning.specs.Runs as r
 use Rattle.domains.specs.declared.Value.{Value}
-use Rattle.typed_expr.specs.Pairs.{turned}
+use Rattle.typed_expr.specs.PairsInside.{turned}
 use Rattle.ar_meaning.proofs.ImageTurned.{net_turned, way_turned}
 use Rattle.ar_meaning.proofs.ImageFlows.{partner, can_there, value_there, flows_there, step_there}
 

@@ -13,8 +13,9 @@ use Rattle.ar_meaning.specs.Facts.{HasValue}
 use Rattle.ar_meaning.specs.Flows.{FlowFault, Two, Outside, Broken}
 use Rattle.ar_meaning.specs.Steps.{StepFault, NotEnabled, Clash, Range, Flow}
 use Rattle.ar_meaning.specs.Runs.{Label, Moment, Starts, Start_fails, Fires, Fire_fails, Shows, Lists}
-use Rattle.ar_meaning.specs.Image.{Expr_renames, Event_renames, IsImage}
-use Rattle.ar_meaning.specs.FlatOf.{NameAlike}
+use Rattle.ar_meaning.specs.Image.{Expr_renames, Event_renames}
+use Rattle.ar_meaning.specs.ImageInside.{IsImage}
+use Rattle.ar_meaning.specs.FlatOfInside.{NameAlike}
 use Rattle.ar_meaning.specs.TraceText.{Naming, variable_line, observer_line, lines_from, Changed, none, same, differs, Observed, all_lines, ChangedLines, way_text, ways_of, label_text, label_lines, optional_place_text, flow_fault_text, step_fault_text, MomentText, starts, start_fails, fires, fire_fails, goes_back, no_step, shows, lists, ends, TraceText}
 use Rattle.ar_meaning.specs.TraceText as t
 use Rattle.ar_meaning.specs.ValueTexts.{value_text}

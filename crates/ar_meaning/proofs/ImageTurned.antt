@@ -3,10 +3,11 @@ use Rattle.std.proofs.Common.{Bool, List, sym}
 use Rattle.ar_base.specs.Lists.{Along}
 use Rattle.ar_base.specs.Lists as l
 use Rattle.typed_expr.specs.declared.expr.Expr.{Expr}
-use Rattle.typed_expr.specs.Pairs.{turned}
+use Rattle.typed_expr.specs.PairsInside.{turned}
 use Rattle.typed_expr.proofs.Renaming.{renames_turned}
 use Rattle.ar_meaning.specs.Systems.{Assign, Variable, Transition, Way, Branches, Event, Net, System}
-use Rattle.ar_meaning.specs.Image.{Conditions_rename, Assign_renames, Variable_renames, Transition_renames, Way_renames, leaves, joints, Branches_rename, no_branch, branch, Event_renames, IsNetImage, IsImage}
+use Rattle.ar_meaning.specs.Image.{Conditions_rename, Assign_renames, Variable_renames, Transition_renames, Way_renames, leaves, joints, no_branch, branch, Event_renames}
+use Rattle.ar_meaning.specs.ImageInside.{Branches_rename, IsNetImage, IsImage}
 use Rattle.ar_meaning.specs.Image as i
 
 pub along_turned : {A B : Type 0} {R : A → B → Type 0} {S : B → A → Type 0} → ((a : A) (b : B) → R a b → S b a)

@@ -6,11 +6,12 @@ use Rattle.ar_base.specs.Lists as l
 use Rattle.ar_base.proofs.Items.{along_append}
 use Rattle.ar_base.proofs.Standing.{along_length}
 use Rattle.ar_meaning.specs.Systems.{Transition, Tree, Branches, Leaf, Joint, Empty, Branch, Event}
-use Rattle.ar_meaning.specs.Expand.{EventDeclaration, Member, Synchronises, Ways, event, Members_give, no_member, one, synchronises, Parts_give, no_part, choice, choices, HasPart, ReachesPart, part_of, further, LeadsBack, AreKeyedEvents, IsExpanded}
+use Rattle.ar_meaning.specs.Expand.{EventDeclaration, Member, Synchronises, Ways, event, Members_give, no_member, one, synchronises, Parts_give, no_part, choice, choices, HasPart, ReachesPart, part_of, further, LeadsBack, IsExpanded}
+use Rattle.ar_meaning.specs.ExpandInside.{AreKeyedEvents}
 use Rattle.ar_meaning.specs.ExpandImage.{Part_renames, Member_along, transitions, synchronise, Declared_along, Declared_renames}
 use Rattle.ar_meaning.specs.Image.{Trees_along, leaves, joints, Branches_along, no_branch, branch, Transition_renames, Event_renames}
 use Rattle.ar_meaning.specs.TraceText.{ways_of}
-use Rattle.typed_expr.specs.Pairs.{turned}
+use Rattle.typed_expr.specs.PairsInside.{turned}
 use Rattle.ar_meaning.proofs.ImageTurned.{along_turned, transition_turned, event_turned}
 use Rattle.ar_meaning.proofs.ImageFlows.{partner}
 

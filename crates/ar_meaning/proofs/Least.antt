@@ -5,7 +5,8 @@ use Rattle.ar_base.specs.Lists.{IsOneOf}
 use Rattle.domains.specs.declared.Value.{Value}
 use Rattle.typed_expr.specs.Yields.{Yields}
 use Rattle.typed_expr.specs.declared.expr.Expr.{Expr, out-Expr}
-use Rattle.typed_expr.specs.Pairs.{HasPair, Needs}
+use Rattle.typed_expr.specs.Pairs.{HasPair}
+use Rattle.typed_expr.specs.PairsInside.{Needs}
 use Rattle.typed_expr.proofs.Facts.{yields_more, needs, either_holds, nothing_holds}
 use Rattle.ar_meaning.specs.Systems.{Assign}
 use Rattle.ar_meaning.specs.Facts.{PassesConditions, Fact, given, assigned}

@@ -9,7 +9,8 @@ use Rattle.ar_meaning.specs.Facts.{HasValue}
 use Rattle.ar_meaning.specs.Flows.{Flows, Outcome, Fails, Total}
 use Rattle.ar_meaning.specs.Ways.{Can}
 use Rattle.ar_meaning.specs.Steps.{Answer, Refused, Next, Step}
-use Rattle.ar_meaning.specs.Runs.{Label, IsWay, Command, Fire, Back, Show, Enabled, FiresWays, Moment, Ways_listed, can, cannot, Listed, visible, hidden, Goes, ends, fires, fails, back, no_step, shows, lists, first_values, Runs, starts, start_fails}
+use Rattle.ar_meaning.specs.Runs.{Label, IsWay, Command, Fire, Back, Show, Enabled, Moment, Ways_listed, can, cannot, Listed, visible, hidden, Goes, ends, fires, fails, back, no_step, shows, lists, first_values, Runs, starts, start_fails}
+use Rattle.ar_meaning.specs.RunsInside.{FiresWays}
 use Rattle.ar_meaning.specs.Runs as r
 use Rattle.ar_meaning.proofs.Lengths.{first_long, total_long, step_long}
 use Rattle.ar_meaning.proofs.Outcomes.{values_known, has_outcome}

@@ -4,7 +4,8 @@ use Rattle.ar_base.specs.Lists.{Stands, Along}
 use Rattle.ar_base.specs.Lists as l
 use Rattle.ar_base.proofs.Standing.{stands_one}
 use Rattle.ar_meaning.specs.Systems.{System, Event, Transition, Way, Tree, Branches, Leaf, Joint}
-use Rattle.ar_meaning.specs.Expand.{EventDeclaration, Member, Ways, event, Members_give, no_member, one, synchronises, Parts_give, no_part, choice, AreKeyedEvents, IsExpanded}
+use Rattle.ar_meaning.specs.Expand.{EventDeclaration, Member, Ways, event, Members_give, no_member, one, synchronises, Parts_give, no_part, choice, IsExpanded}
+use Rattle.ar_meaning.specs.ExpandInside.{AreKeyedEvents}
 use Rattle.ar_meaning.specs.Numbered.{Body, Means_way, leaf, joint, Mean_parts, part}
 use Rattle.ar_meaning.specs.Numbered as numbered
 use Rattle.ar_meaning.specs.Steps.{Step, Refused, Next}

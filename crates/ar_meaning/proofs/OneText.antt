@@ -8,7 +8,8 @@ use Rattle.typed_expr.specs.declared.expr.Expr.{Expr, out-Expr}
 use Rattle.typed_expr.proofs.OneValue.{yields_one}
 use Rattle.ar_base.proofs.Standing.{stands_one}
 use Rattle.ar_meaning.specs.Systems.{System, Net}
-use Rattle.ar_meaning.specs.Facts.{HasValue, AreKeyed}
+use Rattle.ar_meaning.specs.Facts.{HasValue}
+use Rattle.ar_meaning.specs.FactsInside.{AreKeyed}
 use Rattle.ar_meaning.specs.Runs.{Moment}
 use Rattle.ar_meaning.specs.TraceText.{Naming, variable_line, observer_line, Changed, none, same, differs, Observed, ChangedLines, MomentText, starts, start_fails, fires, fire_fails, goes_back, no_step, shows, lists, ends, TraceText}
 use Rattle.ar_meaning.specs.TraceText as t

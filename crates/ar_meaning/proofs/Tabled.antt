@@ -6,7 +6,8 @@ use Rattle.typed_expr.specs.Yields.{Yields}
 use Rattle.typed_expr.proofs.Facts.{yields_more}
 use Rattle.typed_expr.specs.declared.expr.Expr.{out-Expr}
 use Rattle.ar_meaning.specs.Systems.{Assign, Variable, Net}
-use Rattle.ar_meaning.specs.Facts.{PassesConditions, given, Allows, HasValue, HasStateValue, FactOf, AreNumbered}
+use Rattle.ar_meaning.specs.Facts.{PassesConditions, given, Allows, HasValue, HasStateValue, FactOf}
+use Rattle.ar_meaning.specs.FactsInside.{AreNumbered}
 use Rattle.ar_meaning.specs.Flows.{HasTwo, IsOutside, Completes, Flows, Total, all_hold}
 use Rattle.ar_meaning.proofs.ByNumber.{value_at, given_from, allowed_from}
 use Rattle.ar_meaning.proofs.Least.{least, closed, passes_more}

@@ -14,12 +14,6 @@ pub data Tests {V : Type 0} (x : V) : List (Expr V × Bool) → Type 0 where
 abbrev pub Names : {V : Type 0} → Assign V → V → Type 0
 Names {V} a x = Mentions x (out-Expr V a.value) ⊎ Tests x a.conditions
 
--- the assignment of number n names the variable
-pub record IsReadBy {V : Type 0} (net : Net V) (x : V) (n : ℕ) : Type 0 where
-  pub assign : Assign V
-  pub stands : Stands net.assertions n assign
-  pub names : Names assign x
-
 -- how many of the variables are flows
 abbrev pub flow_count : {V : Type 0} → List (Variable V) → ℕ
 flow_count xs = count_by (λ x. not x.is_state) xs

@@ -47,10 +47,6 @@ mutual
         → Ways events e ts → Parts_give events ps bss
         → Parts_give events ((must, e) ∷ ps) (choices must ts bss)
 
--- no two events have one key
-pub record AreKeyedEvents {L E : Type 0} (events : List (EventDeclaration L E)) : Type 0 where
-  pub one : (m n : ℕ) (d e : EventDeclaration L E) → Stands events m d → Stands events n e → d.key ≡ e.key → m ≡ n
-
 -- a synchronisation of the first event has the second as a part
 pub record HasPart {L E : Type 0} (events : List (EventDeclaration L E)) (d e : E) : Type 0 where
   pub place : ℕ

@@ -25,11 +25,6 @@ pub record Declared_along {L M E F : Type 0} (same : L → M → Type 0) (event_
   pub hidden : d.hidden ≡ e.hidden
   pub members : Along (Member_along same event_same) d.members e.members
 
--- the same where transitions differ in their variables alone
-abbrev pub Member_renames : {V W E F : Type 0} → (V → W → Type 0) → (E → F → Type 0) → Member (Transition V) E
-    → Member (Transition W) F → Type 0
-Member_renames same = Member_along (Transition_renames same)
-
 abbrev pub Declared_renames : {V W E F : Type 0} → (V → W → Type 0) → (E → F → Type 0) → EventDeclaration (Transition V)
     E → EventDeclaration (Transition W) F → Type 0
 Declared_renames same = Declared_along (Transition_renames same)

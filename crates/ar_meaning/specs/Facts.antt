@@ -51,11 +51,3 @@ pub record HasStateValue {V : Type 0} (net : Net V) (t : List Value) (x : V) (v 
 -- the facts that follow from the state variables' values
 abbrev pub FactOf : {V : Type 0} → Net V → List Value → V → Value → Type 0
 FactOf net t = Fact net.assertions (Allows net) (HasStateValue net t)
-
--- no two variables have one key
-pub record AreKeyed {V : Type 0} (net : Net V) : Type 0 where
-  pub one : (m n : ℕ) (x y : Variable V) → Stands net.variables m x → Stands net.variables n y → x.key ≡ y.key → m ≡ n
-
--- what stands for a variable is its number
-pub record AreNumbered (net : Net ℕ) : Type 0 where
-  pub key : (n : ℕ) (x : Variable ℕ) → Stands net.variables n x → x.key ≡ n

@@ -3,7 +3,7 @@ use Rattle.std.specs.Prelude.{◌≡◌, Bool, List, [], ◌∷◌}
 use Rattle.ar_base.specs.Lists.{Along}
 use Rattle.typed_expr.specs.Renames.{Renames}
 use Rattle.typed_expr.specs.declared.expr.Expr.{Expr, out-Expr}
-use Rattle.ar_meaning.specs.Systems.{Assign, Variable, Transition, Way, Tree, Leaf, Joint, Branches, Empty, Branch, Event, Net, System}
+use Rattle.ar_meaning.specs.Systems.{Assign, Variable, Transition, Way, Tree, Leaf, Joint, Branches, Empty, Branch, Event}
 
 -- the expressions differ in their variables alone, which are related
 pub record Expr_renames {V W : Type 0} (same : V → W → Type 0) (e : Expr V) (f : Expr W) : Type 0 where
@@ -54,26 +54,8 @@ mutual
 abbrev pub Way_renames : {V W : Type 0} → (V → W → Type 0) → Way V → Way W → Type 0
 Way_renames same = Trees_along (Transition_renames same)
 
--- the same of the ways of parts
-abbrev pub Branches_rename : {V W : Type 0} → (V → W → Type 0) → Branches (Transition V) → Branches (Transition W)
-    → Type 0
-Branches_rename same = Branches_along (Transition_renames same)
-
 -- the events have one unit, one mark for hidden, and ways that differ in their variables alone
 pub record Event_renames {V W : Type 0} (same : V → W → Type 0) (e : Event V) (f : Event W) : Type 0 where
   pub unit : e.unit ≡ f.unit
   pub hidden : e.hidden ≡ f.hidden
   pub ways : Along (Way_renames same) e.ways f.ways
-
--- the lists of two nets agree item by item, and their variables are related one to one
-pub record IsNetImage {V W : Type 0} (same : V → W → Type 0) (here : Net V) (there : Net W) : Type 0 where
-  pub variables : Along (Variable_renames same) here.variables there.variables
-  pub assertions : Along (Assign_renames same) here.assertions there.assertions
-  pub one : (x : V) (y z : W) → same x y → same x z → y ≡ z
-  pub one_back : (x y : V) (z : W) → same x z → same y z → x ≡ y
-
--- the lists of two systems agree item by item, and their variables are related one to one
-pub record IsImage {V W : Type 0} (same : V → W → Type 0) (here : System V) (there : System W) : Type 0 where
-  pub net : IsNetImage same here.net there.net
-  pub events : Along (Event_renames same) here.events there.events
-  pub observers : Along (Expr_renames same) here.observers there.observers

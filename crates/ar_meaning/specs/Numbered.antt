@@ -23,22 +23,6 @@ mutual
         → Mean_parts bodies ns bs → Mean_parts bodies ((must, n) ∷ ns) (Branch must t bs)
 
 abbrev mutual
-  -- the way with other transitions in its leaves
-  pub changed : {L M : Type 0} → (L → M) → Tree L → Tree M
-  changed f (Leaf l) = Leaf (f l)
-  changed f (Joint bs) = Joint (branches_changed f bs)
-
-  -- the same of the ways of parts
-  pub branches_changed : {L M : Type 0} → (L → M) → Branches L → Branches M
-  branches_changed f Empty = Empty
-  branches_changed f (Branch must t bs) = Branch must (changed f t) (branches_changed f bs)
-
--- the body with another transition
-abbrev pub body_changed : {L M : Type 0} → (L → M) → Body L → Body M
-body_changed f (Acts l) = Acts (f l)
-body_changed f (Joins ps) = Joins ps
-
-abbrev mutual
   -- how many joints stand above one another in a way
   pub height : {L : Type 0} → Tree L → ℕ
   height (Leaf l) = 0

@@ -1,6 +1,6 @@
 -- Runs over commands, and their moments.
 use Rattle.std.specs.Prelude.{◌≡◌, ◌+◌, ℕ, true, false, List, [], ◌∷◌, ◌++◌, length}
-use Rattle.ar_base.specs.Lists.{Stands, IsOneOf}
+use Rattle.ar_base.specs.Lists.{Stands}
 use Rattle.domains.specs.declared.Value.{Value}
 use Rattle.ar_meaning.specs.Systems.{Variable, Net, System, Event, Way}
 use Rattle.ar_meaning.specs.Facts.{HasValue}
@@ -25,10 +25,6 @@ pub data Command : Type 0 where
   Back : Command
   Show : Command
   Enabled : Command
-
--- each label that one of the commands fires names a way
-pub record FiresWays {V : Type 0} (sys : System V) (cs : List Command) : Type 0 where
-  pub each : (l : Label) → IsOneOf cs (Fire l) → (w : Way V) × IsWay sys l w
 
 -- what a run has to tell, moment by moment: how it starts or fails to; a fired way, from the old valuation to the new;
 -- a way that meets a fault;

@@ -4,12 +4,14 @@ ghost use Rattle.std.specs.Prelude.{ℕ, List, ◌≡◌, length};
 ghost use Rattle.ar_base.specs.Lists.{Along};
 ghost use Rattle.domains.specs.declared.Value.{Value};
 ghost use Rattle.ar_meaning.specs.Systems.{Net, System, Event, Transition, Way, Tree};
-ghost use Rattle.ar_meaning.specs.Facts.{AreKeyed};
+ghost use Rattle.ar_meaning.specs.FactsInside.{AreKeyed};
 ghost use Rattle.ar_meaning.specs.Flows.{Flows, Outcome};
 ghost use Rattle.ar_meaning.specs.Steps.{Step, Answer};
-ghost use Rattle.ar_meaning.specs.Runs.{Runs, Command, Moment, FiresWays};
-ghost use Rattle.ar_meaning.specs.Found.{AreTold};
-ghost use Rattle.ar_meaning.specs.Expand.{EventDeclaration, AreKeyedEvents as HaveKeys, Ways, IsExpanded};
+ghost use Rattle.ar_meaning.specs.Runs.{Runs, Command, Moment};
+ghost use Rattle.ar_meaning.specs.RunsInside.{FiresWays};
+ghost use Rattle.ar_meaning.specs.FoundInside.{AreTold};
+ghost use Rattle.ar_meaning.specs.Expand.{EventDeclaration, Ways, IsExpanded};
+ghost use Rattle.ar_meaning.specs.ExpandInside.{AreKeyedEvents as HaveKeys};
 ghost use Rattle.ar_meaning.specs.TraceText.{Naming, TraceText};
 ghost use Rattle.ar_meaning.specs.Numbered.{Body, Means_way};
 

@@ -6,7 +6,8 @@ ghost use Rattle.domains.specs.declared.Value.{Value};
 ghost use Rattle.typed_expr.specs.Yields.{Yields};
 ghost use Rattle.typed_expr.specs.declared.expr.Expr.{out-Expr};
 ghost use Rattle.ar_meaning.specs.Systems.{Assign, Variable, Net};
-ghost use Rattle.ar_meaning.specs.Facts.{PassesConditions, Allows, HasValue, HasStateValue, FactOf, AreKeyed, AreNumbered};
+ghost use Rattle.ar_meaning.specs.Facts.{PassesConditions, Allows, HasValue, HasStateValue, FactOf};
+ghost use Rattle.ar_meaning.specs.FactsInside.{AreKeyed, AreNumbered};
 ghost use Rattle.ar_meaning.specs.Flows.{Flows, Outcome};
 
 /// Laws of facts, and of what flows and variables are read from.

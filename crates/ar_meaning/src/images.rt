@@ -4,17 +4,22 @@ ghost use Rattle.std.specs.Prelude.{ℕ, List, ◌≡◌, ◌↔◌, map};
 ghost use Rattle.domains.specs.declared.Value.{Value};
 ghost use Rattle.ar_base.specs.Lists.{Stands, Along, AreDifferent};
 ghost use Rattle.ar_meaning.specs.Systems.{Variable, Net, System, Event, Transition, Way, Tree};
-ghost use Rattle.ar_meaning.specs.Facts.{HasValue, FactOf, AreKeyed, AreNumbered};
+ghost use Rattle.ar_meaning.specs.Facts.{HasValue, FactOf};
+ghost use Rattle.ar_meaning.specs.FactsInside.{AreKeyed, AreNumbered};
 ghost use Rattle.ar_meaning.specs.Flows.{Flows, Outcome};
 ghost use Rattle.ar_meaning.specs.Ways.{Can, Effects};
 ghost use Rattle.ar_meaning.specs.Steps.{Step, Answer};
 ghost use Rattle.ar_meaning.specs.Runs.{Runs, Command, Moment};
 ghost use Rattle.ar_meaning.specs.TraceText.{Naming, TraceText};
-ghost use Rattle.ar_meaning.specs.Expand.{EventDeclaration, AreKeyedEvents as HaveKeys, Ways, LeadsBack, IsExpanded};
+ghost use Rattle.ar_meaning.specs.Expand.{EventDeclaration, Ways, LeadsBack, IsExpanded};
+ghost use Rattle.ar_meaning.specs.ExpandInside.{AreKeyedEvents as HaveKeys};
 ghost use Rattle.ar_meaning.specs.ExpandImage.{Declared_along, Declared_renames};
-ghost use Rattle.ar_meaning.specs.Image.{Way_renames, Event_renames, IsImage};
-ghost use Rattle.ar_meaning.specs.FlatOf.{IsNumber, IsFlatOf, AreFlatOf, NameAlike};
-ghost use Rattle.ar_meaning.specs.Numbered.{Body, Means_way, body_changed, changed};
+ghost use Rattle.ar_meaning.specs.Image.{Way_renames, Event_renames};
+ghost use Rattle.ar_meaning.specs.ImageInside.{IsImage};
+ghost use Rattle.ar_meaning.specs.FlatOf.{IsNumber, IsFlatOf};
+ghost use Rattle.ar_meaning.specs.FlatOfInside.{AreFlatOf, NameAlike};
+ghost use Rattle.ar_meaning.specs.Numbered.{Body, Means_way};
+ghost use Rattle.ar_meaning.specs.NumberedInside.{body_changed, changed};
 
 /// Laws of a flat system and the system that it is of.
 ///

@@ -11,7 +11,8 @@ use Rattle.expression_grammar.specs.declared.lexeme.Refusal.TheVariants as refus
 use Rattle.expression_grammar.specs.Words.{Tokens, ReadsSome, place_at}
 use Rattle.ar_grammar.specs.Texts.{IsSyntaxAt, IsDepthAt}
 use Rattle.ar_parser.specs.Names.{told}
-use Rattle.ar_parser.specs.Models.{AreLexemes, HasFaultAt, ReadsWithin, EndsWithin, IsRefusedAt, SyntaxStandsAt, DepthStandsAt}
+use Rattle.ar_parser.specs.Models.{AreLexemes, HasFaultAt, ReadsWithin, IsRefusedAt, SyntaxStandsAt, DepthStandsAt}
+use Rattle.ar_parser.specs.ModelsInside.{EndsWithin}
 use Rattle.ar_grammar.specs.Items.{ReadsItems}
 use Rattle.expression_grammar.specs.Results.{Plain}
 use Rattle.ar_grammar.specs.Results.{Gets, AreUnsigned, IsRefusedAs}

@@ -1,2 +1,3 @@
 pub mod Models
+pub mod ModelsInside
 pub mod Names

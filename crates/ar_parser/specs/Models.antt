@@ -1,5 +1,5 @@
 -- What it is to read a text, and where a text that has no reading is refused.
-use Rattle.std.specs.Prelude.{◌≡◌, ◌≢◌, ℕ, ◌<◌, Result, Ok, Err, ◌-◌, List, [], ◌∷◌, ◌++◌, map, take, drop}
+use Rattle.std.specs.Prelude.{◌≡◌, ◌≢◌, ℕ, ◌-◌, List, [], ◌∷◌, ◌++◌, map, take, drop}
 use Rattle.ar_base.specs.declared.places.Place.{Place}
 use Rattle.ar_base.specs.Counts.{limit_of}
 use Rattle.ar_base.specs.declared.counts.Count.TheVariants.{Nesting}
@@ -15,7 +15,6 @@ use Rattle.expression_grammar.specs.declared.lexeme.Lexeme.{Lexeme}
 use Rattle.expression_grammar.specs.Words.{Tokens, place_at}
 use Rattle.ar_grammar.specs.Items.{ReadsItems}
 use Rattle.ar_grammar.specs.Texts.{IsSyntaxAt, IsDepthAt}
-use Rattle.ar_parser.specs.declared.fault.ParseFault.{ParseFault}
 use Rattle.ar_parser.specs.declared.fault.ParseFault.TheVariants as fault
 
 -- a token without the number of its name
@@ -68,15 +67,6 @@ pub record ReadsWithin (n : ℕ) (bytes : List ℕ) (model : Model) : Type 0 whe
 -- A text is read as this tree.
 abbrev pub Reads : List ℕ → Model → Type 0
 Reads bytes model = ReadsWithin (limit_of Nesting) bytes model
-
--- How a call with room for `left` open productions may end where the text has a tree of nesting n: well, or by want of
--- room or of memory.
-abbrev pub EndsWithin : {A : Type 0} → ℕ → ℕ → Result A ParseFault → Type 0
-EndsWithin left n (Ok x) = Unit {0}
-EndsWithin left n (Err (fault.Lex at)) = ⊥
-EndsWithin left n (Err (fault.Syntax at)) = ⊥
-EndsWithin left n (Err (fault.Depth at)) = left < n
-EndsWithin left n (Err fault.Memory) = Unit {0}
 
 -- A text is refused at the token that stands here: P tells how, of the tokens before it and of those from it on.
 pub record IsRefusedAt (P : Tokens → Tokens → Type 0) (bytes : List ℕ) (at : Place) : Type 0 where

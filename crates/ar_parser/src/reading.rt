@@ -4,7 +4,8 @@ ghost use Rattle.std.specs.Prelude.{◌≡◌, ◌≢◌, ◌≤◌, ℕ, length
 ghost use Rattle.ar_base.specs.Counts.{limit_of};
 ghost use Rattle.ar_base.specs.declared.counts.Count.TheVariants.{ModelBytes, Nesting};
 ghost use Rattle.ar_parser.specs.declared.fault.ParseFault.TheVariants.{Lex, Syntax, Depth, Memory};
-ghost use Rattle.ar_parser.specs.Models.{HasFaultAt, ReadsWithin, Reads, EndsWithin, SyntaxStandsAt, DepthStandsAt};
+ghost use Rattle.ar_parser.specs.Models.{HasFaultAt, ReadsWithin, Reads, SyntaxStandsAt, DepthStandsAt};
+ghost use Rattle.ar_parser.specs.ModelsInside.{EndsWithin};
 
 use crate::fault::{ParseFault, refused_at};
 use crate::numbering::lexemes;

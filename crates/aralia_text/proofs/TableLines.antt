@@ -5,7 +5,7 @@ use Rattle.ar_base.specs.Lists.{Stands, IsOneOf}
 use Rattle.ar_base.proofs.Standing.{stands_split, stands_next, stands_none, one_first}
 use Rattle.eq_core.specs.Gates.{Operand, Always, Gate, Table}
 use Rattle.eq_core.specs.Ordered.{IsInPlace, AreOrdered}
-use Rattle.eq_core.specs.Values.{IsBelow}
+use Rattle.eq_core.specs.ValuesInside.{IsBelow}
 use Rattle.aralia_text.specs.Texts.{gate_line, gate_lines, last_lines, equations_text}
 use Rattle.aralia_text.specs.Readings.{AreNamed}
 use Rattle.aralia_text.specs.Fronts.{IsAny, IsEnd, BeginAlike, begins_with, IsRead, AreBegun, part, IsStuck, HasOperand, IsGateAt, Last, last_of, AreLast, last_text, IsWritten, GoesOn, AreRead, HasNoGate, IsOnlyTable, IsNoTable}

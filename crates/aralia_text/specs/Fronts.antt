@@ -4,7 +4,7 @@ use Rattle.ar_base.specs.Texts.{text_at}
 use Rattle.ar_base.specs.Lists.{Stands, IsOneOf, AreDifferent}
 use Rattle.eq_core.specs.Gates.{Operand, Gate, Table}
 use Rattle.eq_core.specs.Ordered.{IsEarlier, AreOrdered}
-use Rattle.eq_core.specs.Values.{IsBelow}
+use Rattle.eq_core.specs.ValuesInside.{IsBelow}
 use Rattle.aralia_text.specs.Texts.{operand_text, joint_text, gate_name, operands_text, gate_lines, last_lines, equations_text}
 use Rattle.aralia_text.specs.Readings as r
 

@@ -3,7 +3,8 @@ use Rattle.std.proofs.Common.{◌≡◌, ◌⊎◌, inl, inr, ◌+◌, ◌<◌, 
 use Rattle.ar_base.specs.Lists.{Stands}
 use Rattle.ar_base.proofs.Standing.{stands_one, stands_none, stands_left, stands_right, stands_split}
 use Rattle.class_table.specs.Members.{NamedMember}
-use Rattle.hierarchy.specs.Models.{RootedModel, KeepsTextRules}
+use Rattle.hierarchy.specs.Models.{RootedModel}
+use Rattle.hierarchy.specs.ModelsInside.{KeepsTextRules}
 use Rattle.hierarchy.specs.Units.{UnitLevel, UnitPath}
 use Rattle.hierarchy.specs.Listing.{ListsUnits, Insides, unit, none, makes, passes, AreUnits}
 use Rattle.hierarchy.proofs.Apart.{units_different}

@@ -11,20 +11,21 @@ use Rattle.ar_base.proofs.Standing.{one_first, along_back}
 use Rattle.ar_syntax.specs.declared.instructions.Instr.{Instr}
 use Rattle.ar_syntax.specs.declared.members.Member.{out-Member}
 use Rattle.ar_syntax.specs.declared.members.Member.TheOpen as member
+use Rattle.ar_meaning.specs.FlatOf.{IsNumber}
 use Rattle.ar_meaning.specs.Systems.{Assign}
 use Rattle.ar_meaning.specs.Image.{Assign_renames}
 use Rattle.gts_core.specs.Bound.{assigns_of_act, places_of_act}
 use Rattle.gts_core.specs.declared.bound.Act.{Act, out-Act}
 use Rattle.class_table.specs.Declaring.{Declared, MemberForm}
 use Rattle.class_table.specs.Members.{Site, owned_at}
-use Rattle.class_table.specs.Tables.{site_of}
+use Rattle.class_table.specs.TablesInside.{site_of}
 use Rattle.class_table.specs.declared.tables.Owned.{Owned}
 use Rattle.class_table.specs.declared.tables.Owned.TheVariants.{Plain, Nested}
 use Rattle.class_table.proofs.Laid.{along_append}
 use Rattle.class_table.proofs.Taken.{take_next, map_next, map_join}
 use Rattle.hierarchy.specs.Models.{RootedModel}
 use Rattle.hierarchy.specs.Units.{UnitPath, Thing, members_at}
-use Rattle.hierarchy.specs.Listing.{In, all_in, asserted, assertions, form_of, forms_at}
+use Rattle.hierarchy.specs.Listing.{variables, In, all_in, asserted, assertions, form_of, forms_at}
 use Rattle.hierarchy.specs.declared.tree.Tree.{Tree}
 use Rattle.source_meaning.specs.Acts.{Placed, assigns_of, places_of}
 use Rattle.source_meaning.specs.Systems.{AreAsserted}
@@ -33,7 +34,7 @@ use Rattle.unit_rules.specs.Searched.{forms_of}
 use Rattle.unit_rules.proofs.Sited.{one_flat}
 use Rattle.bind_values.specs.Typed.{IsSoundIn}
 use Rattle.bind_names.specs.Adding.{asserted_form, asserted_in, IsBoundAssertion, AddsAssertions}
-use Rattle.bind_names.specs.ListBound.{IsNumber, AreBoundAssertions}
+use Rattle.bind_names.specs.ListBound.{AreBoundAssertions}
 
 -- Members that are assertions
 
@@ -132,7 +133,7 @@ module _ (m : RootedModel) (units : List UnitPath) (tree : Tree) where
   record AreMeant (is : List (In Instr)) (acts : List Act) : Type 0 where
     pub placed : List Placed
     pub are : AreAsserted m is placed
-    pub numbers : Along (Assign_renames (IsNumber m units)) (assigns_of placed) (flat_map assigns_of_act acts)
+    pub numbers : Along (Assign_renames (IsNumber (variables m units))) (assigns_of placed) (flat_map assigns_of_act acts)
     pub places : flat_map places_of_act acts ≡ places_of placed
 
   meant : (is : List (In Instr)) (acts : List Act) → Along (IsBoundAssertion m units tree) is acts → AreMeant is acts
@@ -145,7 +146,7 @@ module _ (m : RootedModel) (units : List UnitPath) (tree : Tree) where
       record {
         placed = ps ++ k.placed;
         are = s.one_and h.bound.sets k.are;
-        numbers = subst (λ (xs : List (Assign Thing)). Along (Assign_renames (IsNumber m units)) xs
+        numbers = subst (λ (xs : List (Assign Thing)). Along (Assign_renames (IsNumber (variables m units))) xs
             (assigns_of_act a ++ flat_map assigns_of_act more)) (sym (map_join (λ (p : Placed). p.assign) ps k.placed))
             (along_append (assigns_of ps) (assigns_of_act a) (assigns_of k.placed) (flat_map assigns_of_act more)
             h.bound.numbers k.numbers);

@@ -23,8 +23,10 @@ use Rattle.class_table.specs.Declaring.{TextBody, NamedType, DomainType, ClassTy
 use Rattle.class_table.specs.Declaring.Lays_items.{none, domain, class, block}
 use Rattle.class_table.specs.Members.{type_in, type_named, domain_body, domain_named}
 use Rattle.class_table.specs.Rules.{IsNoDomain, twice, many, wide, no_domain, l1}
-use Rattle.class_table.specs.Tables.{IsDomainOf, symbols, range, HoldsDeclared}
-use Rattle.hierarchy.specs.Models.{RootedModel, KeepsTextRules}
+use Rattle.class_table.specs.Tables.{IsDomainOf, symbols, range}
+use Rattle.class_table.specs.TablesInside.{HoldsDeclared}
+use Rattle.hierarchy.specs.Models.{RootedModel}
+use Rattle.hierarchy.specs.ModelsInside.{KeepsTextRules}
 use Rattle.hierarchy.specs.TypeDomains.{HasDomain, boolean, named}
 use Rattle.hierarchy.specs.declared.tree.Tree.{Tree}
 use Rattle.bind_values.specs.Typed.{IsSymbolIn}

@@ -2,12 +2,14 @@
 use Rattle.std.proofs.Common.{◌≡◌, ℕ, zero, suc, ◌+◌, ◌<◌, ◌≤◌, List, [], ◌∷◌, ◌++◌, append_assoc, codes, map, take, length, get_or, Option, Some, unwrap_or, refl, sym, ap, ◌∙◌, subst, arith}
 use Rattle.std.proofs.lemmas.List.{take_all, length-map}
 use Rattle.ar_base.specs.Lists.{Stands, Along}
-use Rattle.ar_base.specs.Numbers.{UnitId, NameId}
+use Rattle.ar_base.specs.Numbers.{NameId}
+use Rattle.ar_base.specs.NumbersInside.{UnitId}
 use Rattle.ar_base.specs.Texts.{text_at}
 use Rattle.ar_base.proofs.Standing.{along_back, along_length, stands_map, stands_none}
 use Rattle.class_table.proofs.Taken.{item_stands, map_next}
 use Rattle.hierarchy.specs.Listing.{AreUnits}
-use Rattle.hierarchy.specs.Models.{RootedModel, KeepsTextRules}
+use Rattle.hierarchy.specs.Models.{RootedModel}
+use Rattle.hierarchy.specs.ModelsInside.{KeepsTextRules}
 use Rattle.hierarchy.specs.Paths.{prefix, thing_path}
 use Rattle.hierarchy.specs.Tie.{IsOwner, of_unit, IsNameOfUnit}
 use Rattle.hierarchy.specs.Units.{UnitPath}

@@ -16,10 +16,11 @@ use Rattle.gts_core.proofs.Numbering.{source_numbered}
 use Rattle.class_table.specs.Declaring.{MemberForm}
 use Rattle.class_table.specs.Members.{Site, Observer, owned_at, own_at, domain_named}
 use Rattle.class_table.specs.Rules.{IsNoDomainName, named, Misnames, observer, l2}
-use Rattle.class_table.specs.Tables.{site_of}
+use Rattle.class_table.specs.TablesInside.{site_of}
 use Rattle.class_table.specs.declared.tables.Owned.{Owned}
 use Rattle.class_table.specs.declared.tables.Owned.TheVariants.{Plain, Nested}
-use Rattle.hierarchy.specs.Models.{RootedModel, KeepsTextRules}
+use Rattle.hierarchy.specs.Models.{RootedModel}
+use Rattle.hierarchy.specs.ModelsInside.{KeepsTextRules}
 use Rattle.hierarchy.specs.Units.{UnitPath, Thing, kind_at}
 use Rattle.hierarchy.specs.Walks.{PassesTest, is_observer}
 use Rattle.hierarchy.specs.Listing.{observers, variables}

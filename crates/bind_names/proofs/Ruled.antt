@@ -8,7 +8,7 @@ use Rattle.ar_base.specs.declared.faults.RuleFault.TheVariants.{Rule}
 use Rattle.ar_base.specs.declared.places.Place.{Place}
 use Rattle.ar_base.proofs.Standing.{one_first, one_rest}
 use Rattle.class_table.specs.Earliest.{IsEarliest, nowhere, there}
-use Rattle.ar_base.specs.Stages.{kept_rule}
+use Rattle.ar_base.specs.StagesInside.{kept_rule}
 use Rattle.class_table.proofs.Answering.{kept_ok, kept_err}
 use Rattle.class_table.proofs.FirstPlaces.{earliest_same}
 use Rattle.hierarchy.specs.Models.{RootedModel}

@@ -7,7 +7,7 @@ use Rattle.ar_base.specs.Lists.{Stands}
 use Rattle.ar_base.specs.Numbers.{BodyId}
 use Rattle.class_table.specs.Declaring.{Declared, MemberForm}
 use Rattle.class_table.specs.Members.{Site, owned_at}
-use Rattle.class_table.specs.Tables.{site_of}
+use Rattle.class_table.specs.TablesInside.{site_of}
 use Rattle.class_table.proofs.Taken.{map_next}
 use Rattle.hierarchy.specs.Listing.{form_of}
 

@@ -3,12 +3,12 @@ use Rattle.std.proofs.Common.{◌≡◌, ℕ, ◌+◌, ◌<◌, ◌≤◌, false
 use Rattle.ar_base.specs.Lists.{Stands, Along}
 use Rattle.ar_base.specs.Lists as l
 use Rattle.ar_base.proofs.Standing.{along_on, along_length, stands_one, stands_within}
-use Rattle.ar_base.specs.Numbers.{UnitId}
+use Rattle.ar_base.specs.NumbersInside.{UnitId}
 use Rattle.domains.specs.Domains.{Holds, values_of}
 use Rattle.domains.specs.declared.Value.{Value}
 use Rattle.domains.specs.declared.Value.TheVariants.{Truth}
 use Rattle.gts_core.specs.Readings.{value_at}
-use Rattle.domains.specs.Same.{IsSameDomain}
+use Rattle.domains.specs.SameInside.{IsSameDomain}
 use Rattle.gts_core.specs.declared.system.Variable.{Variable}
 use Rattle.gts_core.proofs.SameDomains.{domain_there, value_there, value_back, same_values}
 use Rattle.class_table.specs.Members.{NamedMember, MemberKind}

@@ -3,7 +3,8 @@ use Rattle.std.proofs.Common.{◌≡◌, ℕ, ◌+◌, ◌≤◌, Bool, true, Li
 use Rattle.std.specs.Global.{Global}
 use Rattle.ar_base.specs.Lists.{Stands, IsOneOf, Along}
 use Rattle.ar_base.specs.Lists as l
-use Rattle.ar_base.specs.Numbers.{NameId, VarId, EventId}
+use Rattle.ar_base.specs.Numbers.{NameId, VarId}
+use Rattle.ar_base.specs.NumbersInside.{EventId}
 use Rattle.ar_base.specs.declared.places.Place.{Place}
 use Rattle.ar_base.proofs.Standing.{stands_within, along_back, along_length, one_here}
 use Rattle.ar_syntax.specs.declared.expressions.RawExpr.{RawExpr}

@@ -5,7 +5,7 @@ use Rattle.ar_base.specs.Lists as l
 use Rattle.ar_base.proofs.Standing.{stands_within, along_back, along_length}
 use Rattle.ar_meaning.specs.Systems.{Transition}
 use Rattle.ar_meaning.specs.Expand.{Member}
-use Rattle.ar_meaning.specs.ExpandImage.{Member_renames}
+use Rattle.ar_meaning.specs.ExpandImageInside.{Member_renames}
 use Rattle.ar_meaning.specs.Found.{IsAnswer}
 use Rattle.gts_core.specs.Bound.{member_of}
 use Rattle.gts_core.specs.declared.bound.DeclaredEvent.{DeclaredEvent}

@@ -2,13 +2,14 @@
 use Rattle.std.specs.Prelude.{◌≡◌, ◌<◌, ◌^◌, Bool, true, List, map, length, Vec}
 use Rattle.std.specs.Global.{Global}
 use Rattle.ar_base.specs.Lists.{Stands, IsOneOf, Along}
-use Rattle.ar_base.specs.Numbers.{VarId, EventId}
+use Rattle.ar_base.specs.Numbers.{VarId}
+use Rattle.ar_base.specs.NumbersInside.{EventId}
 use Rattle.ar_base.specs.declared.places.Place.{Place}
 use Rattle.typed_expr.specs.declared.expr.Expr.{Expr}
 use Rattle.typed_expr.specs.declared.expr.ValueKind.TheVariants.{Truth}
 use Rattle.ar_meaning.specs.Systems.{Transition}
 use Rattle.ar_meaning.specs.Expand.{EventDeclaration}
-use Rattle.ar_meaning.specs.ExpandImage.{Member_renames}
+use Rattle.ar_meaning.specs.ExpandImageInside.{Member_renames}
 use Rattle.gts_core.specs.Bound.{member_of}
 use Rattle.gts_core.specs.declared.bound.Act.{Act, out-Act}
 use Rattle.gts_core.specs.declared.bound.DeclaredEvent.{DeclaredEvent}

@@ -1,14 +1,15 @@
 -- What it is that variables, assertions and observers by numbers are those of a tree.
 use Rattle.std.specs.Prelude.{◌≡◌, ◌<◌, ℕ, false, List, length}
 use Rattle.std.specs.List.{flat_map}
-use Rattle.ar_base.specs.Lists.{Stands, IsOneOf, Along}
+use Rattle.ar_base.specs.Lists.{IsOneOf, Along}
 use Rattle.domains.specs.Domains.{IsDomain, Holds, values_of}
 use Rattle.domains.specs.declared.Value.{Value}
 use Rattle.typed_expr.specs.declared.expr.Expr.{Expr}
 use Rattle.ar_meaning.specs.Systems as s
+use Rattle.ar_meaning.specs.FlatOf.{IsNumber}
 use Rattle.ar_meaning.specs.Image.{Expr_renames, Assign_renames}
 use Rattle.gts_core.specs.Bound.{assigns_of_act, places_of_act}
-use Rattle.domains.specs.Same.{IsSameDomain}
+use Rattle.domains.specs.SameInside.{IsSameDomain}
 use Rattle.gts_core.specs.View.{numbered}
 use Rattle.gts_core.specs.declared.bound.Act.{Act, out-Act}
 use Rattle.gts_core.specs.declared.system.Observer.{Observer}
@@ -24,10 +25,6 @@ use Rattle.source_meaning.specs.Acts.{Placed, assigns_of, places_of}
 use Rattle.source_meaning.specs.Numbering.{HasObserverKind}
 use Rattle.source_meaning.specs.Systems.{IsVariable, AreAsserted, IsObserver}
 use Rattle.bind_values.specs.Typed.{IsTypedIn, IsSoundIn, IsSymbolIn}
-
--- number n stands for the variable at place n of the tree's list
-abbrev pub IsNumber : RootedModel → List UnitPath → Thing → ℕ → Type 0
-IsNumber m units t n = Stands (variables m units) n t
 
 -- the variable by numbers is that of the tree
 pub record IsBoundVariable (m : RootedModel) (units : List UnitPath) (t : Thing) (x : Variable) : Type 0 where
@@ -58,7 +55,7 @@ pub record AreBoundVariables (m : RootedModel) (units : List UnitPath) (tree : T
 pub record AreBoundAssertions (m : RootedModel) (units : List UnitPath) (tree : Tree) (acts : List Act) : Type 0 where
   pub placed : List Placed
   pub asserted : AreAsserted m (all.assertions m units) placed
-  pub numbers : Along (Assign_renames (IsNumber m units)) (assigns_of placed) (flat_map assigns_of_act acts)
+  pub numbers : Along (Assign_renames (IsNumber (variables m units))) (assigns_of placed) (flat_map assigns_of_act acts)
   pub places : flat_map places_of_act acts ≡ places_of placed
   pub sound : (a : Act) → IsOneOf acts a → IsSoundIn tree false (out-Act a)
 
@@ -67,7 +64,7 @@ pub record IsBoundObserver (m : RootedModel) (units : List UnitPath) (tree : Tre
     0 where
   pub meaning : Expr Thing
   pub is : IsObserver m t meaning
-  pub numbers : Expr_renames (IsNumber m units) meaning (numbered o.value)
+  pub numbers : Expr_renames (IsNumber (variables m units)) meaning (numbered o.value)
   pub kind : HasObserverKind m t o
   pub path : o.path ≡ thing_path m t
   pub typed : IsTypedIn tree o.value o.kind

@@ -1,12 +1,12 @@
 -- What it is that transitions and synchronisations by numbers are members of a unit.
 use Rattle.std.specs.Prelude.{◌≡◌, ◌<◌, Bool, true, List, [], ◌∷◌, ◌++◌, length}
 use Rattle.ar_base.specs.Lists.{Stands, IsOneOf}
-use Rattle.ar_base.specs.Numbers.{EventId}
+use Rattle.ar_base.specs.NumbersInside.{EventId}
 use Rattle.ar_syntax.specs.declared.members.Part.{Part}
 use Rattle.typed_expr.specs.declared.expr.ValueKind.TheVariants.{Truth}
 use Rattle.ar_meaning.specs.Systems.{Transition}
 use Rattle.ar_meaning.specs.Expand.{Member}
-use Rattle.ar_meaning.specs.ExpandImage.{Member_renames}
+use Rattle.ar_meaning.specs.ExpandImageInside.{Member_renames}
 use Rattle.gts_core.specs.Bound.{member_of}
 use Rattle.gts_core.specs.declared.bound.Act.{out-Act}
 use Rattle.gts_core.specs.declared.bound.DeclaredWay.{DeclaredWay}

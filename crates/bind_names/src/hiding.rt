@@ -6,7 +6,7 @@ ghost use Rattle.std.specs.List.{flat_map};
 ghost use Rattle.ar_base.specs.Lists.{Stands};
 ghost use Rattle.class_table.specs.declared.tables.Owned.TheVariants.{Plain};
 ghost use Rattle.class_table.specs.Members.{owned_at as declared_at};
-ghost use Rattle.class_table.specs.Tables.{site_of};
+ghost use Rattle.class_table.specs.TablesInside.{site_of};
 ghost use Rattle.hierarchy.specs.Models.{RootedModel};
 ghost use Rattle.hierarchy.specs.Units.{UnitPath};
 ghost use Rattle.hierarchy.specs.Walks.{Finds, is_event};

@@ -11,11 +11,11 @@ use Rattle.ar_syntax.specs.declared.members.Member.{Member, out-Member}
 use Rattle.ar_syntax.specs.declared.members.Member.TheOpen as member
 use Rattle.ar_syntax.specs.declared.members.Member.TheVariants.{Local, Assert}
 use Rattle.typed_expr.specs.declared.expr.ValueKind.TheVariants.{Truth}
-use Rattle.written_forms.specs.Parts.{BreaksInside}
+use Rattle.written_forms.specs.PartsInside.{BreaksInside}
 use Rattle.class_table.specs.Declaring.{MemberForm}
 use Rattle.class_table.specs.Earliest.{IsEarliest, nowhere, IsEarlierOf}
 use Rattle.class_table.specs.Members.{Site, owned_at}
-use Rattle.class_table.specs.Tables.{site_of}
+use Rattle.class_table.specs.TablesInside.{site_of}
 use Rattle.class_table.proofs.FirstPlaces.{earliest_same, earliest_both}
 use Rattle.class_table.proofs.Looping.{AtItem}
 use Rattle.hierarchy.specs.Models.{RootedModel}

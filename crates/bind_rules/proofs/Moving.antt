@@ -6,10 +6,13 @@ use Rattle.ar_syntax.specs.declared.paths.Path.{Path}
 use Rattle.typed_expr.specs.declared.expr.ValueKind.{ValueKind}
 use Rattle.written_forms.specs.Operands.{RawLevel, level_of, Demand, OfKind}
 use Rattle.written_forms.specs.Forms.{HasForm, own, path, choice}
-use Rattle.written_forms.specs.Wrong.{IsMisnamed, IsMistyped, itself, real, empty, inside, IsWantedKind, this, that_of, NamesKind, IsNamedPath}
+use Rattle.written_forms.specs.Wrong.{IsMisnamed, IsMistyped, itself, real, empty, inside, IsWantedKind, this, that_of}
+use Rattle.written_forms.specs.WrongInside.{NamesKind, IsNamedPath}
 use Rattle.written_forms.proofs.MisnamedForms.{misnamed_move}
-use Rattle.written_forms.specs.Parts.{InstrForm, BreaksInside}
-use Rattle.written_forms.specs.Breaches.{MisnamesItself, MistypesItself, MisplacedInAction, MisplacedInAssertion, IsSort, IsTarget}
+use Rattle.written_forms.specs.Parts.{InstrForm}
+use Rattle.written_forms.specs.PartsInside.{BreaksInside}
+use Rattle.written_forms.specs.Breaches.{MisnamesItself, MistypesItself, MisplacedInAction, MisplacedInAssertion}
+use Rattle.written_forms.specs.BreachesInside.{IsSort, IsTarget}
 use Rattle.written_forms.specs.Breaches as b
 use Rattle.class_table.specs.Earliest.{IsEarliest}
 use Rattle.class_table.proofs.FirstPlaces.{earliest_same}

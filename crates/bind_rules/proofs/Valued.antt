@@ -19,11 +19,12 @@ use Rattle.class_table.specs.declared.tables.Owned.{Owned}
 use Rattle.class_table.specs.declared.tables.Owned.TheVariants.{Plain, Nested}
 use Rattle.class_table.proofs.FirstPlaces.{earliest_same}
 use Rattle.class_table.proofs.Looping.{AtItem}
-use Rattle.hierarchy.specs.Models.{RootedModel, KeepsTextRules}
+use Rattle.hierarchy.specs.Models.{RootedModel}
+use Rattle.hierarchy.specs.ModelsInside.{KeepsTextRules}
 use Rattle.hierarchy.specs.Tie.{IsSource, IsPlainNode}
 use Rattle.hierarchy.specs.declared.tree.Source.{Source}
 use Rattle.hierarchy.specs.declared.tree.MemNode.{MemNode}
-use Rattle.class_table.specs.Tables.{site_of}
+use Rattle.class_table.specs.TablesInside.{site_of}
 use Rattle.hierarchy.specs.Units.{UnitPath, Thing, name_at, kind_at}
 use Rattle.hierarchy.specs.Walks.{PassesTest, thing, is_observer}
 use Rattle.hierarchy.specs.Listing.{parameters, observers, things_in}

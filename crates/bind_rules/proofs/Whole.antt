@@ -8,7 +8,8 @@ use Rattle.ar_syntax.specs.declared.instructions.Instr.{Instr, out-Instr}
 use Rattle.ar_syntax.specs.declared.members.Member.TheOpen as member
 use Rattle.typed_expr.specs.declared.expr.ValueKind.{ValueKind}
 use Rattle.typed_expr.specs.declared.expr.ValueKind.TheVariants.{Truth}
-use Rattle.written_forms.specs.Parts.{InstrForm, BreaksInside}
+use Rattle.written_forms.specs.Parts.{InstrForm}
+use Rattle.written_forms.specs.PartsInside.{BreaksInside}
 use Rattle.class_table.specs.Declaring.{MemberForm}
 use Rattle.class_table.specs.Earliest.{IsEarliest, IsEarlierOf}
 use Rattle.class_table.proofs.FirstPlaces.{earliest_same, earliest_both}

@@ -14,7 +14,8 @@ use Rattle.typed_expr.specs.declared.expr.ValueKind.{ValueKind}
 use Rattle.typed_expr.specs.declared.expr.ValueKind.TheVariants.{Truth}
 use Rattle.written_forms.specs.Operands.{level_of, OfKind}
 use Rattle.written_forms.specs.Wrong.{IsMisnamed, IsMistyped}
-use Rattle.written_forms.specs.Parts.{InstrForm, BreaksInside}
+use Rattle.written_forms.specs.Parts.{InstrForm}
+use Rattle.written_forms.specs.PartsInside.{BreaksInside}
 use Rattle.written_forms.specs.Breaches.{MisnamesItself, MistypesItself, MisplacedInAction, MisplacedInAssertion}
 use Rattle.class_table.specs.Declaring.{MemberForm}
 use Rattle.class_table.specs.Members.{Observer}

@@ -3,9 +3,10 @@
 ghost use Rattle.std.specs.Prelude.{◌<◌, List, length};
 ghost use Rattle.ar_base.specs.Lists.{Stands};
 ghost use Rattle.ar_syntax.specs.declared.instructions.Instr.{out-Instr};
-ghost use Rattle.written_forms.specs.Wrong.{IsNamedPath, NamesKind};
-ghost use Rattle.written_forms.specs.Breaches.{IsTarget, MisnamesItself, MistypesItself};
-ghost use Rattle.written_forms.specs.Parts.{BreaksInside};
+ghost use Rattle.written_forms.specs.WrongInside.{IsNamedPath, NamesKind};
+ghost use Rattle.written_forms.specs.Breaches.{MisnamesItself, MistypesItself};
+ghost use Rattle.written_forms.specs.BreachesInside.{IsTarget};
+ghost use Rattle.written_forms.specs.PartsInside.{BreaksInside};
 ghost use Rattle.class_table.specs.Earliest.{IsEarliest};
 ghost use Rattle.hierarchy.specs.Models.{RootedModel};
 ghost use Rattle.hierarchy.specs.Units.{UnitPath};

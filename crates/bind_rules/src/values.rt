@@ -5,7 +5,7 @@ ghost use Rattle.std.specs.Prelude.{◌≡◌, IfSome, List, option_map};
 ghost use Rattle.ar_base.specs.Lists.{Along, Stands};
 ghost use Rattle.class_table.specs.Declaring.{Declared};
 ghost use Rattle.class_table.specs.Members.{owned_at as declared_at};
-ghost use Rattle.class_table.specs.Tables.{IsBodyOf, site_of};
+ghost use Rattle.class_table.specs.TablesInside.{IsBodyOf, site_of};
 ghost use Rattle.class_table.specs.Earliest.{IsEarliest};
 ghost use Rattle.hierarchy.specs.Models.{RootedModel};
 ghost use Rattle.hierarchy.specs.Units.{UnitPath, Thing};

@@ -11,12 +11,12 @@ use Rattle.typed_expr.specs.declared.expr.ValueKind.TheVariants as kind
 use Rattle.gts_core.specs.Sound.{kind_of_domain}
 use Rattle.class_table.specs.Members.{NamedMember, MemberKind, Variable, Parameter, Kept, Event, Observer, Inner, Clone, Alias}
 use Rattle.class_table.specs.Tables.{IsDomainOf, symbols, range}
-use Rattle.class_table.specs.Tables.{domain as domain_type, class as class_type}
+use Rattle.class_table.specs.TablesInside.{domain as domain_type, class as class_type}
 use Rattle.class_table.specs.Declaring.{NamedType}
 use Rattle.class_table.specs.Members.{domain_body}
 use Rattle.class_table.specs.declared.tables.TypeBody.{TypeBody}
 use Rattle.class_table.specs.declared.tables.TypeBody.TheVariants as types
-use Rattle.unit_rules.specs.Typing.{IsFound, none, some}
+use Rattle.unit_rules.specs.TypingInside.{IsFound, none, some}
 use Rattle.hierarchy.specs.Models.{RootedModel}
 use Rattle.hierarchy.specs.Units.{UnitPath, Thing, kind_at, numbers}
 use Rattle.hierarchy.specs.Walks.{Finds, PassesTest, is_variable}
@@ -33,8 +33,8 @@ use Rattle.source_meaning.specs.Kinds.{kind_of_body, kind_of_type, kind_of_membe
 use Rattle.source_meaning.specs.Rules.{IsNot, Is}
 use Rattle.source_meaning.specs.Tested as s
 use Rattle.source_meaning.proofs.OneMeaning.{leads_same}
-use Rattle.written_forms.specs.Wrong.{NamesKind, IsNamedPath}
-use Rattle.written_forms.specs.Breaches.{IsSort, IsTarget}
+use Rattle.written_forms.specs.WrongInside.{NamesKind, IsNamedPath}
+use Rattle.written_forms.specs.BreachesInside.{IsSort, IsTarget}
 use Rattle.bind_scopes.specs.Searching.{variable_in}
 use Rattle.bind_scopes.specs.Sites.{declares_flows}
 use Rattle.bind_scopes.specs.Scopes.{AreScopes, IsNamedIn, variable, parameter, symbol, IsScope, scoped_in}

@@ -16,9 +16,10 @@ use Rattle.class_table.specs.Declaring.{Declared, NamedType}
 use Rattle.class_table.specs.Members.{Site, NamedMember, MemberKind, declared_kind, all_named, names_of, named_at, owned_at, member_kind_of, type_named}
 use Rattle.class_table.specs.Shown.{IsDeclaredBy}
 use Rattle.hierarchy.specs.Models.{RootedModel}
-use Rattle.hierarchy.specs.Units.{UnitPath, body_of, names_at, names_in}
+use Rattle.hierarchy.specs.Units.{UnitPath, body_of, names_at}
+use Rattle.hierarchy.specs.UnitsInside.{names_in}
 use Rattle.hierarchy.specs.Tie.{IsTreeOf}
-use Rattle.unit_rules.specs.Typing.{KnowsPlaces}
+use Rattle.unit_rules.specs.TypingInside.{KnowsPlaces}
 use Rattle.bind_scopes.specs.Scopes.{AreScopes}
 use Rattle.bind_scopes.specs.declared.scopes.Scopes.{Scopes}
 use Rattle.bind_scopes.specs.Indexed.{same_pair, IsIndexOf}

@@ -11,7 +11,8 @@ use Rattle.ar_syntax.specs.declared.paths.PathStart.{PathStart}
 use Rattle.ar_syntax.specs.declared.paths.PathStart.TheVariants.{Here, Owner, Main}
 use Rattle.class_table.specs.Members.{NamedMember, MemberKind, Variable, Parameter, Kept, Event, Observer, Inner, Clone, Alias, member_named}
 use Rattle.hierarchy.specs.Models.{RootedModel}
-use Rattle.hierarchy.specs.Units.{UnitPath, Thing, names_at, name_at, kind_at, numbers, body_of, start_of, names_in}
+use Rattle.hierarchy.specs.Units.{UnitPath, Thing, names_at, name_at, kind_at, numbers, body_of, start_of}
+use Rattle.hierarchy.specs.UnitsInside.{names_in}
 use Rattle.hierarchy.specs.Walks.{Finds, PassesTest, LeadsTo, thing, is_variable, is_parameter, arrives, NamesLead, Reaches}
 use Rattle.hierarchy.specs.Listing.{variables, parameters, things_in}
 use Rattle.hierarchy.specs.Tie.{IsTreeOf, IsVariableNode, IsParameterNode, AnswersThing}

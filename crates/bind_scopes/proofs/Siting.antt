@@ -11,13 +11,14 @@ use Rattle.ar_syntax.specs.declared.members.Setting.{Setting}
 use Rattle.ar_syntax.specs.declared.members.TypeForm.{TypeForm}
 use Rattle.class_table.specs.Declaring.{MemberForm, Declared}
 use Rattle.class_table.specs.Members.{Site, NamedMember, MemberKind, Variable, Parameter, Kept, Inner, Clone, Alias, Event, Observer, owned_at, names_of, names_of_form}
-use Rattle.class_table.specs.Tables.{IsBodyOf}
+use Rattle.class_table.specs.TablesInside.{IsBodyOf}
 use Rattle.class_table.specs.declared.tables.Body.{Body}
 use Rattle.class_table.specs.declared.tables.Classes.{Classes}
 use Rattle.class_table.specs.declared.tables.Owned.{Owned}
 use Rattle.class_table.specs.declared.tables.Owned.TheVariants.{Plain, Nested}
 use Rattle.class_table.proofs.MemberNames.{site_there, site_past}
-use Rattle.hierarchy.specs.Models.{RootedModel, IsRootedTable}
+use Rattle.hierarchy.specs.Models.{RootedModel}
+use Rattle.hierarchy.specs.ModelsInside.{IsRootedTable}
 use Rattle.hierarchy.specs.Units.{UnitPath, Thing, name_at}
 use Rattle.hierarchy.specs.Walks.{is_variable, is_parameter}
 use Rattle.hierarchy.specs.Settings.{Attribute, TargetWord, Named, settings_of, settings_at, setting_for, set_by, outermost, target_in, target_of, declared_in, in_force, in_force_by, in_force_given, same_target}

@@ -7,7 +7,8 @@ use Rattle.ar_base.proofs.Standing.{stands_none, stands_within, different_more}
 use Rattle.class_table.specs.Declaring.{FirstUses}
 use Rattle.class_table.specs.Declaring.FirstUses.{none, known, first}
 use Rattle.class_table.proofs.Taken.{stands_take, below_next}
-use Rattle.hierarchy.specs.Models.{RootedModel, KeepsTextRules}
+use Rattle.hierarchy.specs.Models.{RootedModel}
+use Rattle.hierarchy.specs.ModelsInside.{KeepsTextRules}
 
 -- no symbol is listed twice
 uses_different : (old xs new : List ℕ) → FirstUses old xs new → AreDifferent old → AreDifferent new

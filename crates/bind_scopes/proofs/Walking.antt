@@ -9,7 +9,8 @@ use Rattle.ar_syntax.specs.declared.paths.PathStart.TheVariants.{Here, Owner, Ma
 use Rattle.class_table.specs.Members.{NamedMember, MemberKind}
 use Rattle.hierarchy.specs.Models.{RootedModel}
 use Rattle.hierarchy.specs.Units.{UnitPath, Thing, kind_at, name_at, start_of}
-use Rattle.hierarchy.specs.Walks.{Reaches, NamesLead, LeadsFrom, IsUnitAt, on, arrives}
+use Rattle.hierarchy.specs.Walks.{Reaches, NamesLead, IsUnitAt, on, arrives}
+use Rattle.hierarchy.specs.WalksInside.{LeadsFrom}
 use Rattle.hierarchy.specs.Listing.{things_in, is_inner}
 use Rattle.hierarchy.specs.Tie.{IsUnitNode, IsTreeOf, IsNode, AnswersThing, entry_in, is_alias}
 use Rattle.hierarchy.specs.Finding.{StartsAt, FindsNode, HasOwner, unit_number}

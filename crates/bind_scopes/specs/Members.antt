@@ -4,7 +4,8 @@ use Rattle.std.specs.HashSet.{HashSet, contains}
 use Rattle.ar_base.specs.Lists.{IsOneOf, Stands}
 use Rattle.class_table.specs.Members.{NamedMember}
 use Rattle.hierarchy.specs.Models.{RootedModel}
-use Rattle.hierarchy.specs.Units.{UnitPath, body_of, names_at, names_in}
+use Rattle.hierarchy.specs.Units.{UnitPath, body_of, names_at}
+use Rattle.hierarchy.specs.UnitsInside.{names_in}
 use Rattle.bind_scopes.specs.Indexed.{same_pair}
 
 -- the name is in the set, for this body

@@ -8,7 +8,8 @@ use Rattle.ar_syntax.specs.declared.paths.Path.{Path}
 use Rattle.ar_syntax.specs.declared.paths.PathStart.{PathStart}
 use Rattle.ar_syntax.specs.declared.paths.PathStart.TheVariants.{Here}
 use Rattle.hierarchy.specs.Models.{RootedModel}
-use Rattle.hierarchy.specs.Units.{UnitPath, Thing, body_of, names_at, names_in, numbers}
+use Rattle.hierarchy.specs.Units.{UnitPath, Thing, body_of, names_at, numbers}
+use Rattle.hierarchy.specs.UnitsInside.{names_in}
 use Rattle.hierarchy.specs.Walks.{Finds, thing, is_variable}
 use Rattle.hierarchy.specs.Listing.{variables, parameters}
 use Rattle.hierarchy.specs.Tie.{IsTreeOf}
@@ -17,7 +18,7 @@ use Rattle.hierarchy.specs.declared.tree.UnitNode.{UnitNode}
 use Rattle.hierarchy.specs.declared.tree.Tree.{Tree}
 use Rattle.source_meaning.specs.Means.{is_valued, IsSymbol}
 use Rattle.source_meaning.specs.Tested as s
-use Rattle.unit_rules.specs.Typing.{KnowsPlaces}
+use Rattle.unit_rules.specs.TypingInside.{KnowsPlaces}
 use Rattle.bind_scopes.specs.Indexed.{same_pair, IsIndexOf}
 use Rattle.bind_scopes.specs.Members.{HasName, NamesSo}
 use Rattle.bind_scopes.specs.Searching.{variable_in, parameter_in}

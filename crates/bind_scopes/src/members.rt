@@ -5,11 +5,11 @@ ghost use Rattle.ar_base.specs.Lists.{Along};
 ghost use Rattle.class_table.specs.Declaring.{Declared};
 ghost use Rattle.class_table.specs.Members.{Site, MemberKind, NamedMember, names_of, named_at, all_named};
 ghost use Rattle.class_table.specs.Shown.{IsDeclaredBy};
-ghost use Rattle.class_table.specs.Tables.{HoldsDeclared, IsNamedType, site_of};
+ghost use Rattle.class_table.specs.TablesInside.{HoldsDeclared, IsNamedType, site_of};
 ghost use Rattle.hierarchy.specs.Models.{RootedModel};
 ghost use Rattle.hierarchy.specs.Tie.{IsTreeOf};
 ghost use Rattle.hierarchy.specs.Units.{UnitPath};
-ghost use Rattle.unit_rules.specs.Typing.{KnowsPlaces};
+ghost use Rattle.unit_rules.specs.TypingInside.{KnowsPlaces};
 ghost use Rattle.bind_scopes.specs.Members.{AddsNames, HasFirst};
 
 use crate::sites::members_of;

@@ -3,7 +3,7 @@
 ghost use Rattle.std.specs.Prelude.{◌≡◌, ◌↔◌, IsTrue, ◌<◌, ℕ, nat_eq, if◌then◌else◌, List, map, length, slice_get, option_map, Some, None, IfOk, IfSome, IfNone};
 ghost use Rattle.std.specs.HashMap.{get};
 ghost use Rattle.ar_base.specs.Lists.{AreDifferent, Stands};
-ghost use Rattle.ar_base.specs.Numbers.{EventId as EventNumber};
+ghost use Rattle.ar_base.specs.NumbersInside.{EventId as EventNumber};
 ghost use Rattle.hierarchy.specs.Finding.{IsSomeTree};
 ghost use Rattle.hierarchy.specs.Models.{RootedModel};
 ghost use Rattle.hierarchy.specs.Units.{UnitPath, Thing, numbers};

@@ -1,8 +1,9 @@
 //! What stands where the nodes of a tree say.
 
 ghost use Rattle.std.specs.Prelude.{◌≡◌, List, [], map, Some, option_copied, slice_get, unwrap_or};
-ghost use Rattle.class_table.specs.Tables.{site_of};
-ghost use Rattle.hierarchy.specs.Models.{RootedModel, IsRootedTable};
+ghost use Rattle.class_table.specs.TablesInside.{site_of};
+ghost use Rattle.hierarchy.specs.Models.{RootedModel};
+ghost use Rattle.hierarchy.specs.ModelsInside.{IsRootedTable};
 ghost use Rattle.hierarchy.specs.Units.{UnitPath, Thing};
 ghost use Rattle.hierarchy.specs.Settings.{Attribute as Value, in_force};
 ghost use Rattle.hierarchy.specs.Tie.{HasAttribute, IsAttribute};

@@ -19,7 +19,8 @@ use Rattle.gts_core.specs.Readings.{value_at}
 use Rattle.gts_core.proofs.Reading.{read_value}
 use Rattle.class_table.specs.Members.{MemberKind}
 use Rattle.class_table.specs.Tables.{symbols, range}
-use Rattle.hierarchy.specs.Models.{RootedModel, IsKeptTable}
+use Rattle.hierarchy.specs.Models.{RootedModel}
+use Rattle.hierarchy.specs.ModelsInside.{IsKeptTable}
 use Rattle.hierarchy.specs.Units.{UnitPath, Thing}
 use Rattle.hierarchy.specs.Walks.{Finds, PassesTest, is_variable}
 use Rattle.hierarchy.specs.Listing.{variables, parameters}

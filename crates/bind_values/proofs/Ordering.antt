@@ -8,7 +8,8 @@ use Rattle.ar_base.proofs.Comparing.{side}
 use Rattle.ar_syntax.specs.declared.members.Setting.{Setting}
 use Rattle.ar_syntax.specs.declared.paths.Path.{Path}
 use Rattle.class_table.specs.Members.{Site, NamedMember, MemberKind, Variable, Parameter, Kept, Inner, Clone, Alias, Event, Observer}
-use Rattle.hierarchy.specs.Models.{RootedModel, KeepsTextRules}
+use Rattle.hierarchy.specs.Models.{RootedModel}
+use Rattle.hierarchy.specs.ModelsInside.{KeepsTextRules}
 use Rattle.hierarchy.specs.Units.{UnitLevel, UnitPath, Thing, name_at, kind_at}
 use Rattle.hierarchy.specs.Walks.{Finds, PassesTest, thing, is_parameter}
 use Rattle.hierarchy.specs.Listing.{AreUnits, ListsUnits, Insides, unit, none, makes, passes, parameters, things_in}

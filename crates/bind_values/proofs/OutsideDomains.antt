@@ -22,7 +22,8 @@ use Rattle.class_table.specs.Members.{NamedMember, MemberKind}
 use Rattle.class_table.specs.Tables.{IsDomainOf, symbols, range}
 use Rattle.class_table.proofs.FirstPlaces.{earliest_same}
 use Rattle.class_table.proofs.Looping.{AtItem}
-use Rattle.hierarchy.specs.Models.{RootedModel, KeepsTextRules}
+use Rattle.hierarchy.specs.Models.{RootedModel}
+use Rattle.hierarchy.specs.ModelsInside.{KeepsTextRules}
 use Rattle.hierarchy.specs.Units.{UnitPath, Thing, name_at, kind_at}
 use Rattle.hierarchy.specs.Settings.{Attribute, in_force}
 use Rattle.hierarchy.specs.Tie.{HasParameterDomain, domain, integer, kept, IsVariableNode, IsParameterNode}

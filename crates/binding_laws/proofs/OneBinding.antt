@@ -12,7 +12,8 @@ use Rattle.parser_laws.specs.Expressions.{SameExpr, SameInstr}
 use Rattle.parser_laws.specs.Members.{SameMember}
 use Rattle.parser_laws.specs.Opened.{SameForm, SameStep, SameKind}
 use Rattle.hierarchy.specs.Listing.{Unfolded, AreUnits}
-use Rattle.hierarchy.specs.Models.{RootedModel, KeepsTextRules}
+use Rattle.hierarchy.specs.Models.{RootedModel}
+use Rattle.hierarchy.specs.ModelsInside.{KeepsTextRules}
 use Rattle.hierarchy.specs.Units.{UnitPath}
 use Rattle.source_meaning.specs.Rules.{BreaksNameRule, name_rules}
 use Rattle.source_meaning.specs.Systems.{Declarations, AreOf, name_breaks, Declares, declares, Binds}

@@ -5,13 +5,15 @@ use Rattle.ar_base.specs.Lists.{Along, AreDifferent}
 use Rattle.ar_base.specs.Lists as along
 use Rattle.ar_base.specs.declared.places.Place.{Place}
 use Rattle.ar_base.proofs.Standing.{stands_none, different_more}
-use Rattle.ar_meaning.specs.Image.{Assign_renames, IsNetImage}
+use Rattle.ar_meaning.specs.Image.{Assign_renames}
+use Rattle.ar_meaning.specs.ImageInside.{IsNetImage}
 use Rattle.ar_meaning.specs.Systems.{Assign}
 use Rattle.ar_meaning.proofs.ImageWays.{along_map}
 use Rattle.class_table.specs.Declaring.{FirstUses}
 use Rattle.class_table.specs.Declaring.FirstUses.{none, known, first}
 use Rattle.hierarchy.specs.Listing.{AreUnits}
-use Rattle.hierarchy.specs.Models.{RootedModel, KeepsTextRules}
+use Rattle.hierarchy.specs.Models.{RootedModel}
+use Rattle.hierarchy.specs.ModelsInside.{KeepsTextRules}
 use Rattle.hierarchy.specs.Units.{UnitPath, Thing}
 use Rattle.hierarchy.proofs.Apart.{units_different}
 use Rattle.source_meaning.specs.Acts.{Placed, assigns_of, places_of}

@@ -11,7 +11,8 @@ use Rattle.parser_laws.specs.Expressions.{SameExpr, SameInstr}
 use Rattle.parser_laws.specs.Members.{SameMember}
 use Rattle.parser_laws.specs.Opened.{SameForm, SameStep, SameKind}
 use Rattle.hierarchy.specs.Listing.{Unfolded, AreUnits}
-use Rattle.hierarchy.specs.Models.{RootedModel, KeepsTextRules}
+use Rattle.hierarchy.specs.Models.{RootedModel}
+use Rattle.hierarchy.specs.ModelsInside.{KeepsTextRules}
 use Rattle.unit_walks.specs.Unfolding.{whole}
 use Rattle.instantiate.specs.Unfolding.{Instantiates}
 use Rattle.source_meaning.specs.Systems.{Declarations, Binds}

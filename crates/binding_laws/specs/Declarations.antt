@@ -1,7 +1,8 @@
 -- What it is that the declarations of two models are alike.
 use Rattle.std.specs.Prelude.{◌≡◌}
 use Rattle.ar_base.specs.Lists.{Along}
-use Rattle.ar_meaning.specs.Image.{Expr_renames, IsNetImage}
+use Rattle.ar_meaning.specs.Image.{Expr_renames}
+use Rattle.ar_meaning.specs.ImageInside.{IsNetImage}
 use Rattle.ar_meaning.specs.ExpandImage.{Declared_renames}
 use Rattle.hierarchy.specs.Units.{Thing}
 use Rattle.source_meaning.specs.Systems.{Declarations}

@@ -1,9 +1,9 @@
 -- The lines and labels of the sets of a flat system are those of its source.
 use Rattle.std.proofs.Common.{◌≡◌, ℕ, List, [], ◌∷◌, map, refl, sym, ◌∙◌, ap, subst}
 use Rattle.ar_base.specs.Texts.{text_at}
-use Rattle.typed_expr.specs.Pairs.{turned}
+use Rattle.typed_expr.specs.PairsInside.{turned}
 use Rattle.ar_meaning.specs.Systems.{System}
-use Rattle.ar_meaning.specs.Facts.{AreKeyed}
+use Rattle.ar_meaning.specs.FactsInside.{AreKeyed}
 use Rattle.ar_meaning.specs.TraceText.{Naming, label_text, way_text}
 use Rattle.ar_meaning.specs.FlatOf.{IsNumber, IsFlatOf}
 use Rattle.ar_meaning.proofs.FlatSystems.{flat_back}

@@ -9,15 +9,17 @@ use Rattle.typed_expr.specs.declared.expr.Expr.{Expr}
 use Rattle.ar_meaning.specs.Systems.{System}
 use Rattle.ar_meaning.specs.Runs.{Label}
 use Rattle.ar_meaning.specs.TraceText.{Naming}
-use Rattle.ar_firing.specs.Cuts.{UpTo}
+use Rattle.ar_firing.specs.CutsInside.{UpTo}
 use Rattle.firable_families.specs.Firable.{AndUpTo}
 use Rattle.firable_families.proofs.Few.{and_up_to}
 use Rattle.job_inputs.specs.CutLists.{CutLine}
-use Rattle.cut_check.specs.Verdicts.{Said, IsGood, Fails, Holds, events_of, IsSaid, IsMissing, IsRight, AreTheCuts}
+use Rattle.cut_check.specs.Verdicts.{Said, IsGood, Fails, Holds, events_of, IsSaid, IsMissing}
+use Rattle.cut_check.specs.VerdictsInside.{IsRight, AreTheCuts}
 use Rattle.cut_check.proofs.LawLemmas.{said_once, right_cuts, cuts_right}
 use Rattle.cut_text.specs.Texts.{order_end}
 use Rattle.cut_text.proofs.UpToOrder.{has_it, is_small}
-use Rattle.check_text.specs.Texts.{IsCheckText, EndsYes, is_above, kept_line, within_order, lines_in, all_good, is_good, is_none, last_line, said_lines, missing_lines}
+use Rattle.check_text.specs.Texts.{IsCheckText, is_above, kept_line, within_order, lines_in, all_good, is_good, is_none, last_line, said_lines, missing_lines}
+use Rattle.check_text.specs.TextsInside.{EndsYes}
 
 -- a text does not end with both
 not_both : (order : Option ℕ) (a b : List ℕ) → a ++ last_line order false ≡ b ++ last_line order true → ⊥

@@ -116,8 +116,3 @@ pub record IsCheckText {V : Type 0} (order : Option ℕ) (names : Naming) (sys :
   pub are_lines : Along (IsLine sys dropped) missing lines
   pub is_text : text ≡ said_lines order (within_order order cuts) cuts
       said ++ (missing_lines names sys lines ++ last_line order (all_good said && is_none missing))
-
--- the text's last line is `yes`
-pub record EndsYes (order : Option ℕ) (text : List ℕ) : Type 0 where
-  pub front : List ℕ
-  pub is : text ≡ front ++ last_line order true

@@ -21,11 +21,12 @@ ghost use Rattle.min_cuts.specs.Lines.{AreInFiringOrder};
 ghost use Rattle.job_inputs.specs.Chains.{cut_of};
 ghost use Rattle.job_inputs.specs.CutLists.{CutLine};
 ghost use Rattle.cut_check.specs.Flat.{AreVerdicts};
-ghost use Rattle.cut_check.specs.Verdicts.{AreTheCuts};
+ghost use Rattle.cut_check.specs.VerdictsInside.{AreTheCuts};
 ghost use Rattle.cut_check.specs.declared.checking.Verdict.{Verdict as TheVerdict};
 ghost use Rattle.cut_text.specs.Printed.{edges_of, things_of, IsForestOf};
 ghost use Rattle.check_text.specs.Printed.{check_text, chains_within, parts_of};
-ghost use Rattle.check_text.specs.Texts.{IsCheckText, EndsYes, lines_in, within_order};
+ghost use Rattle.check_text.specs.Texts.{IsCheckText, lines_in, within_order};
+ghost use Rattle.check_text.specs.TextsInside.{EndsYes};
 
 use gts_core::laws::one_system;
 

@@ -1,7 +1,7 @@
 //! The lines of verdicts and of missing cuts.
 
 ghost use Rattle.std.specs.Prelude.{◌≡◌, ◌&&◌, if◌then◌else◌, codes, List, OnOk};
-ghost use Rattle.ar_io.specs.Writing.{Writes};
+ghost use Rattle.ar_io.specs.WritingInside.{Writes};
 ghost use Rattle.ar_meaning.specs.Runs.{Label};
 ghost use Rattle.mode_trees.specs.Ways.{OwnTheirWays};
 ghost use Rattle.min_cuts.specs.Kept.{numbers};

@@ -3,7 +3,8 @@ use Rattle.std.proofs.Common.{◌≡◌, ℕ, ◌<◌, List, [], ◌∷◌, ◌+
 use Rattle.ar_base.specs.Breach.{IsBroken, AreKept}
 use Rattle.ar_base.specs.Lists.{IsOneOf, Along}
 use Rattle.ar_base.specs.Numbers.{NameId, BodyId}
-use Rattle.ar_base.specs.Stages.{Keeps, kept, broken, Meets, kept_rule, IsRefusal, rule_told}
+use Rattle.ar_base.specs.Stages.{Keeps, kept, broken}
+use Rattle.ar_base.specs.StagesInside.{Meets, kept_rule, IsRefusal, rule_told}
 use Rattle.ar_base.specs.declared.faults.RuleFault.{RuleFault}
 use Rattle.ar_base.specs.declared.faults.RuleFault.TheVariants.{Rule, Limit, Memory}
 use Rattle.ar_base.specs.declared.places.Place.{Place}
@@ -12,7 +13,8 @@ use Rattle.ar_base.proofs.Comparing.{not_before}
 use Rattle.ar_syntax.specs.declared.items.Item.{Item}
 use Rattle.ar_syntax.specs.declared.items.Model.{Model}
 use Rattle.class_table.specs.Declaring.{Declared, IsDeclared}
-use Rattle.class_table.specs.Tables.{IsBodyOf, IsNamedType, IsTableOfModel, IsMain}
+use Rattle.class_table.specs.Tables.{IsMain}
+use Rattle.class_table.specs.TablesInside.{IsBodyOf, IsNamedType, IsTableOfModel}
 use Rattle.class_table.specs.Tabling.{Tabulates, table, breach}
 use Rattle.class_table.specs.Rules.{BreaksItems, BreaksTypes, BreaksContainment, BreaksNames, BreaksTextRule, l1, l2, l3, l4, l5, text_rules}
 use Rattle.class_table.specs.Earliest.{IsEarliest, nowhere, there}

@@ -11,7 +11,7 @@ use Rattle.ar_syntax.specs.declared.members.TypeForm.{TypeForm}
 use Rattle.ar_syntax.specs.declared.members.TypeForm.TheVariants as form
 use Rattle.class_table.specs.Declaring.{MemberForm, Declared}
 use Rattle.class_table.specs.Members.{class_named, own_at}
-use Rattle.class_table.specs.Tables.{IsBodyOf}
+use Rattle.class_table.specs.TablesInside.{IsBodyOf}
 use Rattle.class_table.specs.Rules.{NamesClass, extends, instances, HasInside, class, block, IsWithin, itself, further, BreaksContainment}
 use Rattle.class_table.specs.Shown.{inside, inside_form, inside_type, IsAgain, NamesAgain}
 use Rattle.class_table.specs.declared.tables.Body.{Body}

@@ -13,7 +13,7 @@ use Rattle.ar_base.proofs.Standing.{one_none, one_first, one_rest, one_split, on
 use Rattle.ar_base.proofs.Comparing.{lt_or_same, not_before}
 use Rattle.class_table.specs.Declaring.{Declared}
 use Rattle.class_table.specs.Members.{Site, Members, own_at, sites_from, names_of, owned_at}
-use Rattle.class_table.specs.Tables.{site_of, IsBodyOf}
+use Rattle.class_table.specs.TablesInside.{site_of, IsBodyOf}
 use Rattle.class_table.specs.Earliest.{IsEarliest, nowhere, there, IsEarlierOf}
 use Rattle.class_table.specs.Repeating.{IsNamed}
 use Rattle.class_table.specs.Retested.{names_of_site, names_at, IsTaken, same_given, GivesAt, MayGive, giver_of, IsKnownAt, AddsGivenName, AddsGiven, KnowsGiven}

@@ -6,7 +6,7 @@ use Rattle.ar_base.specs.declared.places.Place.{Place}
 use Rattle.ar_base.proofs.Standing.{stands_one, stands_map, stands_map_back, along_on, along_back}
 use Rattle.class_table.specs.Declaring.{TextBody, Declared}
 use Rattle.class_table.specs.Members.{Site, extended, class_named, sites_from, Members, members, Inherits, nothing, from, passes, named_at}
-use Rattle.class_table.specs.Tables.{IsBodyOf, site_of}
+use Rattle.class_table.specs.TablesInside.{IsBodyOf, site_of}
 use Rattle.class_table.specs.Rules.{BreaksNames}
 use Rattle.class_table.specs.Repeating.{IsRepeated}
 use Rattle.class_table.specs.Shown.{IsListed, member_place}

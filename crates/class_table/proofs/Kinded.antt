@@ -6,8 +6,8 @@ use Rattle.ar_base.specs.Lists.Along.{none as along_none, one_and as along_and}
 use Rattle.ar_base.specs.Numbers.{NameId}
 use Rattle.class_table.specs.Declaring.{NamedType, Declared}
 use Rattle.class_table.specs.Members.{type_in}
-use Rattle.class_table.specs.Tables.{IsNamedType, IsTypeOf}
-use Rattle.class_table.specs.Tables.IsTypeOf.{domain as domain_type, class as class_type}
+use Rattle.class_table.specs.TablesInside.{IsNamedType, IsTypeOf}
+use Rattle.class_table.specs.TablesInside.IsTypeOf.{domain as domain_type, class as class_type}
 use Rattle.class_table.specs.Kinds.{IsKindOf, none, domain, class, KnowsTypes, kind_at}
 use Rattle.class_table.specs.Kinding.{kind_of_type, kind_in}
 use Rattle.class_table.specs.declared.tables.TypeBody.{TypeBody}

@@ -12,7 +12,7 @@ use Rattle.ar_syntax.specs.declared.members.Member.TheViews as view
 use Rattle.ar_syntax.specs.declared.members.Unit.{Unit as UnitTree}
 use Rattle.class_table.proofs.Taken.{set_between, get_between}
 use Rattle.class_table.specs.Declaring.{MemberForm, TextBody, is_block, Lays, Lays_one, none, one_and, plain, block}
-use Rattle.class_table.specs.Tables.{IsBodyOf}
+use Rattle.class_table.specs.TablesInside.{IsBodyOf}
 use Rattle.class_table.specs.Laying.{LaysUnit, LaysMember, AddsMember, KeepsOwn}
 use Rattle.class_table.specs.declared.tables.Body.{Body}
 use Rattle.class_table.specs.declared.tables.Owned.{Owned}

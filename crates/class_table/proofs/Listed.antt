@@ -15,7 +15,7 @@ use Rattle.class_table.specs.Rules.{NamesClass, HasInside, class as inside_class
 use Rattle.class_table.specs.Rules.NamesClass.{extends}
 use Rattle.class_table.specs.Rules.Misnames.{extends as misnames_extends}
 use Rattle.class_table.specs.Shown.{IsListed}
-use Rattle.class_table.specs.Tables.{IsBodyOf, site_of}
+use Rattle.class_table.specs.TablesInside.{IsBodyOf, site_of}
 use Rattle.class_table.specs.Listing.{AreListed, IsDone, AreDone, CanList}
 use Rattle.class_table.specs.declared.tables.Body.{Body}
 use Rattle.class_table.specs.declared.tables.Owned.{Owned}

@@ -5,7 +5,8 @@ use Rattle.ar_base.specs.Numbers.{NameId, BodyId}
 use Rattle.std.proofs.Common.{◌<◌, ◌+◌, zero, suc, arith}
 use Rattle.ar_base.proofs.Standing.{stands_some, stands_within, stands_map, stands_map_back, one_here, along_on, along_back}
 use Rattle.class_table.specs.Declaring.{Declared}
-use Rattle.class_table.specs.Tables.{IsBodyOf, IsMain, named, last}
+use Rattle.class_table.specs.Tables.{IsMain, named, last}
+use Rattle.class_table.specs.TablesInside.{IsBodyOf}
 use Rattle.class_table.specs.Main.{IsNamedBlock}
 use Rattle.class_table.specs.declared.tables.Body.{Body}
 use Rattle.class_table.proofs.Taken.{map_join}

@@ -13,7 +13,7 @@ use Rattle.ar_syntax.specs.declared.members.TypeForm.{TypeForm}
 use Rattle.ar_syntax.specs.declared.members.TypeForm.TheVariants as form
 use Rattle.class_table.specs.Declaring.{TextBody, NamedType, Declared}
 use Rattle.class_table.specs.Members.{Site, own_of, own_at, owned_at, type_named, member_kind_of, declared_kind, all_named, names_of, named_at, NamedMember, MemberKind}
-use Rattle.class_table.specs.Tables.{IsBodyOf}
+use Rattle.class_table.specs.TablesInside.{IsBodyOf}
 use Rattle.class_table.specs.Names.{name_and_place}
 use Rattle.class_table.specs.Shown.{IsDeclaredBy, member_place}
 use Rattle.class_table.specs.declared.tables.Body.{Body}

@@ -11,7 +11,8 @@ use Rattle.ar_base.proofs.Few.{few_below}
 use Rattle.ar_syntax.specs.declared.items.DomainBody.{DomainBody}
 use Rattle.ar_syntax.specs.declared.items.DomainBody.TheVariants as body
 use Rattle.class_table.specs.Declaring.{FirstUses, none, known, first, NamedType, DomainType}
-use Rattle.class_table.specs.Tables.{IsDomainOf, symbols, range, IsTypeOf, domain, class, IsNamedType}
+use Rattle.class_table.specs.Tables.{IsDomainOf, symbols, range}
+use Rattle.class_table.specs.TablesInside.{IsTypeOf, domain, class, IsNamedType}
 use Rattle.class_table.specs.Symbols.{AreNumbered, UsesMore, list_of}
 use Rattle.class_table.specs.declared.symbols.Symbols.{Symbols}
 use Rattle.class_table.specs.declared.tables.TypeBody.{TypeBody}

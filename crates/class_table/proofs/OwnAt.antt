@@ -4,7 +4,7 @@ use Rattle.ar_base.specs.Lists.{Stands, IsOneOf, Along}
 use Rattle.ar_base.proofs.Standing.{along_on, along_back, one_none}
 use Rattle.class_table.specs.Declaring.{TextBody, Declared}
 use Rattle.class_table.specs.Members.{own_of, own_at}
-use Rattle.class_table.specs.Tables.{IsBodyOf}
+use Rattle.class_table.specs.TablesInside.{IsBodyOf}
 use Rattle.class_table.specs.declared.tables.Body.{Body}
 use Rattle.class_table.specs.declared.tables.Owned.{Owned}
 

@@ -10,8 +10,8 @@ use Rattle.ar_syntax.specs.declared.items.DomainDecl.{DomainDecl}
 use Rattle.ar_syntax.specs.declared.members.Unit.{Unit as UnitTree}
 use Rattle.class_table.specs.Declaring.{TextBody, NamedType, DomainType, ClassType, FirstUses, none as uses_none, Lays_items, symbols_of, symbols_in}
 use Rattle.class_table.specs.Declaring.Lays_items.{none, domain, class, block}
-use Rattle.class_table.specs.Tables.{IsBodyOf, IsTypeOf, IsNamedType}
-use Rattle.class_table.specs.Tables.IsTypeOf.{class as class_type}
+use Rattle.class_table.specs.TablesInside.{IsBodyOf, IsTypeOf, IsNamedType}
+use Rattle.class_table.specs.TablesInside.IsTypeOf.{class as class_type}
 use Rattle.class_table.specs.Symbols.{AreNumbered, UsesMore, list_of}
 use Rattle.class_table.specs.Laying.{LaysUnit, AreParts}
 use Rattle.class_table.specs.declared.symbols.Symbols.{Symbols}

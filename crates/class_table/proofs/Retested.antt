@@ -11,7 +11,7 @@ use Rattle.ar_base.proofs.Standing.{stands_split, stands_left, stands_right, sta
 use Rattle.ar_base.proofs.Comparing.{earlier_then, earlier_not}
 use Rattle.class_table.specs.Declaring.{Declared}
 use Rattle.class_table.specs.Members.{Site, Members, members, Inherits, nothing, from, passes, extended, own_of, own_at, sites_from, names_of, owned_at, named_at}
-use Rattle.class_table.specs.Tables.{site_of}
+use Rattle.class_table.specs.TablesInside.{site_of}
 use Rattle.class_table.specs.Earliest.{IsEarliest, nowhere, there, IsEarlierOf, no_first, no_second, first, second}
 use Rattle.class_table.specs.Repeating.{IsRepeated}
 use Rattle.class_table.specs.Retested.{names_of_site, names_at, IsTaken, IsMetAgain, among, taken, extending, one_if, IsApart, IsMetBehind, IsTested}

@@ -6,7 +6,7 @@ use Rattle.ar_base.specs.declared.places.Place.{Place}
 use Rattle.ar_base.proofs.Standing.{stands_none, stands_one, stands_some, stands_split, stands_within, along_length, one_left, one_right, one_split, one_first, one_none, only_item}
 use Rattle.class_table.specs.Declaring.{Declared}
 use Rattle.class_table.specs.Shown.{inside}
-use Rattle.class_table.specs.Tables.{IsBodyOf}
+use Rattle.class_table.specs.TablesInside.{IsBodyOf}
 use Rattle.class_table.specs.Rows.{AreInside, IsRowOf, AddsInside}
 use Rattle.class_table.specs.Rows.AddsInside.{nothing, body as adds_body}
 use Rattle.class_table.specs.declared.tables.Body.{Body}

@@ -7,7 +7,7 @@ use Rattle.ar_base.specs.declared.places.Place.{Place}
 use Rattle.ar_base.proofs.Standing.{stands_none, stands_split, stands_within, one_here, one_left, one_right, one_split, one_first, one_none, one_cases}
 use Rattle.ar_base.proofs.Comparing.{lt_or_same}
 use Rattle.class_table.specs.Declaring.{Declared}
-use Rattle.class_table.specs.Tables.{IsBodyOf}
+use Rattle.class_table.specs.TablesInside.{IsBodyOf}
 use Rattle.class_table.specs.Rules.{HasInside, IsWithin, itself, further}
 use Rattle.class_table.specs.Shown.{inside}
 use Rattle.class_table.specs.Searching.{marked, IsSeen, OpensOne, Opens, OpensInside}

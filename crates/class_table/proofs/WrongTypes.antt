@@ -11,7 +11,7 @@ use Rattle.ar_base.proofs.Standing.{one_here}
 use Rattle.ar_base.proofs.Comparing.{not_before}
 use Rattle.class_table.specs.Declaring.{MemberForm, Declared}
 use Rattle.class_table.specs.Members.{type_named, class_named, domain_named}
-use Rattle.class_table.specs.Tables.{IsBodyOf}
+use Rattle.class_table.specs.TablesInside.{IsBodyOf}
 use Rattle.class_table.specs.Rules.{BreaksTypes, IsNoType, IsNoDomainName, Misnames, extends, declares, parameter, observer}
 use Rattle.class_table.specs.Rules.IsNoType.{named as no_type}
 use Rattle.class_table.specs.Rules.IsNoDomainName.{named as no_domain}

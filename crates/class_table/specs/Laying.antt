@@ -9,7 +9,7 @@ use Rattle.ar_syntax.specs.declared.items.Item.{Item}
 use Rattle.ar_syntax.specs.declared.members.Member.{Member, out-Member}
 use Rattle.ar_syntax.specs.declared.members.Unit.{Unit as UnitTree}
 use Rattle.class_table.specs.Declaring.{TextBody, NamedType, Lays, Lays_one, Lays_items, symbols_of, FirstUses}
-use Rattle.class_table.specs.Tables.{IsBodyOf, IsNamedType}
+use Rattle.class_table.specs.TablesInside.{IsBodyOf, IsNamedType}
 use Rattle.class_table.specs.declared.declaring.Declared.{Declared as Parts}
 use Rattle.class_table.specs.declared.tables.Body.{Body}
 use Rattle.class_table.specs.declared.tables.Owned.{Owned}

@@ -1,6 +1,7 @@
 pub mod Declaring
 pub mod Members
 pub mod Tables
+pub mod TablesInside
 pub mod Rules
 pub mod Tabling
 pub mod Earliest

@@ -5,7 +5,7 @@ use Rattle.class_table.specs.Declaring.{Declared}
 use Rattle.class_table.specs.Kinds.{KnowsTypes}
 use Rattle.class_table.specs.Members.{Site, own_at, extended, class_named, Members, Inherits}
 use Rattle.class_table.specs.Ordering.{IsComplete}
-use Rattle.class_table.specs.Tables.{IsBodyOf, site_of}
+use Rattle.class_table.specs.TablesInside.{IsBodyOf, site_of}
 use Rattle.class_table.specs.declared.tables.Body.{Body}
 use Rattle.class_table.specs.declared.tables.Owned.{Owned}
 use Rattle.class_table.specs.declared.types.TypeKinds.{TypeKinds}

@@ -8,7 +8,7 @@ use Rattle.ar_syntax.specs.declared.members.TypeForm.{TypeForm}
 use Rattle.ar_syntax.specs.declared.members.TypeForm.TheVariants as form
 use Rattle.class_table.specs.Declaring.{MemberForm, Declared}
 use Rattle.class_table.specs.Members.{type_named, class_named, Members, NamedMember}
-use Rattle.class_table.specs.Tables.{IsBodyOf, site_of}
+use Rattle.class_table.specs.TablesInside.{IsBodyOf, site_of}
 use Rattle.class_table.specs.Rules.{Misnames, IsWithin}
 use Rattle.class_table.specs.Kinds.{KnowsTypes}
 use Rattle.class_table.specs.declared.tables.Body.{Body}

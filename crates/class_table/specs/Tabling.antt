@@ -6,7 +6,7 @@ use Rattle.ar_base.specs.declared.faults.RuleFault.TheVariants.{Rule}
 use Rattle.ar_base.specs.declared.places.Place.{Place}
 use Rattle.ar_syntax.specs.declared.items.Model.{Model}
 use Rattle.class_table.specs.Declaring.{Declared, IsDeclared}
-use Rattle.class_table.specs.Tables.{IsTableOfModel}
+use Rattle.class_table.specs.TablesInside.{IsTableOfModel}
 use Rattle.class_table.specs.Rules.{BreaksTextRule, text_rules}
 use Rattle.class_table.specs.declared.tables.Classes.{Classes}
 

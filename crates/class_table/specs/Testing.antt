@@ -11,7 +11,7 @@ use Rattle.class_table.specs.Declaring.{Declared, IsDeclared}
 use Rattle.class_table.specs.Earliest.{IsEarliest}
 use Rattle.class_table.specs.Laying.{AreParts}
 use Rattle.class_table.specs.Rules.{BreaksItems}
-use Rattle.class_table.specs.Tables.{IsBodyOf, IsNamedType}
+use Rattle.class_table.specs.TablesInside.{IsBodyOf, IsNamedType}
 use Rattle.class_table.specs.declared.declaring.Declared.{Declared as Parts}
 use Rattle.class_table.specs.declared.tables.Body.{Body}
 use Rattle.class_table.specs.declared.tables.TypeBody.{TypeBody}

@@ -2,7 +2,7 @@
 
 ghost use Rattle.std.specs.Prelude.{◌≡◌, ◌∷◌, [], ◌↔◌, true, map, OnOk, IfOk};
 ghost use Rattle.class_table.specs.Declaring.{Declared};
-ghost use Rattle.class_table.specs.Tables.{site_of};
+ghost use Rattle.class_table.specs.TablesInside.{site_of};
 ghost use Rattle.class_table.specs.Earliest.{IsEarliest};
 ghost use Rattle.class_table.specs.Names.{name_and_place};
 ghost use Rattle.class_table.specs.Repeating.{IsNamed};

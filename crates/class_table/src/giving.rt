@@ -5,7 +5,7 @@ ghost use Rattle.class_table.specs.Declaring.{Declared};
 ghost use Rattle.class_table.specs.Members.{Site, names_of};
 ghost use Rattle.class_table.specs.Names.{name_and_place};
 ghost use Rattle.class_table.specs.Retested.{names_at, names_of_site};
-ghost use Rattle.class_table.specs.Tables.{site_of};
+ghost use Rattle.class_table.specs.TablesInside.{site_of};
 ghost use Rattle.class_table.specs.Kinds.{KnowsTypes};
 ghost use Rattle.class_table.specs.Shown.{Shows, IsDeclaredBy, member_place};
 

@@ -3,7 +3,8 @@
 ghost use Rattle.std.specs.Prelude.{◌≡◌, ℕ, Option, Some, map, option_map, IfSome, IfNone, IsTrue, ◌↔◌};
 ghost use Rattle.ar_base.specs.Lists.{Along, HasNo, IsOneOf};
 ghost use Rattle.class_table.specs.Declaring.{Declared};
-ghost use Rattle.class_table.specs.Tables.{IsBodyOf, IsMain};
+ghost use Rattle.class_table.specs.Tables.{IsMain};
+ghost use Rattle.class_table.specs.TablesInside.{IsBodyOf};
 ghost use Rattle.class_table.specs.Main.{IsNamedBlock};
 
 use crate::tables::Body;

@@ -3,7 +3,7 @@
 ghost use Rattle.std.specs.Prelude.{◌≡◌, ◌++◌, ◌<◌, ◌≤◌, ℕ, List, length, map, OnOk, IfOk, option_map};
 ghost use Rattle.class_table.specs.Declaring.{Declared};
 ghost use Rattle.class_table.specs.Members.{Members, Inherits, own_at, sites_from, extended as declared_extended};
-ghost use Rattle.class_table.specs.Tables.{site_of};
+ghost use Rattle.class_table.specs.TablesInside.{site_of};
 ghost use Rattle.class_table.specs.Shown.{Shows, IsListed};
 ghost use Rattle.class_table.specs.Listing.{ListsDone, IsDone, AreDone, CanList, IsOfClass};
 

@@ -4,7 +4,7 @@ ghost use Rattle.std.specs.Prelude.{◌≡◌, option_copied};
 ghost use Rattle.ar_base.specs.Lists.{Along};
 ghost use Rattle.class_table.specs.Declaring.{Declared};
 ghost use Rattle.class_table.specs.Members.{owned_at as declared_at};
-ghost use Rattle.class_table.specs.Tables.{IsBodyOf, site_of};
+ghost use Rattle.class_table.specs.TablesInside.{IsBodyOf, site_of};
 
 use crate::tables::{Body, Owned};
 use ar_base::BodyId;

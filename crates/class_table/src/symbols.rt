@@ -5,7 +5,7 @@ ghost use Rattle.std.specs.HashMap.{get};
 ghost use Rattle.ar_base.specs.Lists.{Along, Stands};
 ghost use Rattle.ar_base.specs.declared.places.Place.{Place};
 ghost use Rattle.class_table.specs.Declaring.{symbols_in, DomainType};
-ghost use Rattle.class_table.specs.Tables.{IsTypeOf};
+ghost use Rattle.class_table.specs.TablesInside.{IsTypeOf};
 ghost use Rattle.class_table.specs.Symbols.{AreNumbered, UsesMore, list_of};
 
 use crate::tables::TypeBody;

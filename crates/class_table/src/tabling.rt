@@ -3,7 +3,8 @@
 ghost use Rattle.std.specs.Prelude.{◌≡◌, ◌≤◌, ℕ, Vec, List, [], ◌∷◌, Option, length, option_map};
 ghost use Rattle.std.specs.Global.{Global};
 ghost use Rattle.ar_base.specs.Breach.{AreKept};
-ghost use Rattle.ar_base.specs.Stages.{Keeps, Meets};
+ghost use Rattle.ar_base.specs.Stages.{Keeps};
+ghost use Rattle.ar_base.specs.StagesInside.{Meets};
 ghost use Rattle.class_table.specs.Tabling.{Tabulates};
 ghost use Rattle.std.specs.Prelude.{IfOk};
 ghost use Rattle.class_table.specs.Declaring.{Declared as Declaration};

@@ -4,7 +4,7 @@ ghost use Rattle.std.specs.Prelude.{◌≡◌, IfOk, option_map};
 ghost use Rattle.ar_base.specs.Lists.{Along};
 ghost use Rattle.class_table.specs.Declaring.{Declared};
 ghost use Rattle.class_table.specs.Members.{class_named};
-ghost use Rattle.class_table.specs.Tables.{IsNamedType};
+ghost use Rattle.class_table.specs.TablesInside.{IsNamedType};
 ghost use Rattle.class_table.specs.Kinds.{KnowsTypes, kind_at};
 ghost use Rattle.class_table.specs.Kinding.{kind_of_type};
 

@@ -7,20 +7,23 @@ use Rattle.ar_base.specs.Lists.{Stands, IsOneOf}
 use Rattle.ar_base.specs.Sets.{Within}
 use Rattle.ar_base.proofs.Standing.{stands_one, stands_within, stands_get, one_here, one_none, one_cases, one_first, one_rest}
 use Rattle.domains.specs.declared.Value.{Value}
-use Rattle.typed_expr.specs.Pairs.{turned}
+use Rattle.typed_expr.specs.PairsInside.{turned}
 use Rattle.typed_expr.specs.declared.expr.Expr.{Expr}
 use Rattle.typed_expr.proofs.Renaming.{carries, renames_turned}
 use Rattle.ar_meaning.specs.Systems.{System}
 use Rattle.ar_meaning.specs.Facts.{HasValue}
 use Rattle.ar_meaning.specs.Runs.{Label}
-use Rattle.ar_meaning.specs.Image.{Expr_renames, IsImage}
+use Rattle.ar_meaning.specs.Image.{Expr_renames}
+use Rattle.ar_meaning.specs.ImageInside.{IsImage}
 use Rattle.ar_meaning.proofs.ImageFlows.{value_there}
 use Rattle.ar_meaning.proofs.ImageTurned.{image_turned}
-use Rattle.ar_firing.specs.Cuts.{AreEvents, Makes, IsLeast, Cut, UpTo}
+use Rattle.ar_firing.specs.Cuts.{AreEvents, Makes, IsLeast, Cut}
+use Rattle.ar_firing.specs.CutsInside.{UpTo}
 use Rattle.ar_firing.proofs.ImageCuts.{reaches_there, cut_there, cut_back}
 use Rattle.ar_firing.proofs.LeastSets.{decided, Left, least_refuted, within_then}
 use Rattle.ar_firing.proofs.SmallSets.{part_up_to}
-use Rattle.cut_check.specs.Verdicts.{events_of, IsTrueLine, ContainsLine, HoldsLine, Said, IsGood, Fails, Holds, IsSaid, fails, holds, good, IsListed, IsMissing, IsRight, AreTheCuts}
+use Rattle.cut_check.specs.Verdicts.{events_of, IsTrueLine, ContainsLine, HoldsLine, Said, IsGood, Fails, Holds, IsSaid, fails, holds, good, IsListed, IsMissing}
+use Rattle.cut_check.specs.VerdictsInside.{IsRight, AreTheCuts}
 
 -- Images
 

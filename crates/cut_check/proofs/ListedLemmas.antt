@@ -2,7 +2,8 @@
 use Rattle.std.proofs.Common.{◌≡◌, ℕ, ◌+◌, ◌<◌, List, [], ◌∷◌, ◌++◌, take, length, get_or, sym, ap, ◌∙◌, subst, inl, inr}
 use Rattle.std.proofs.lemmas.List.{map-append, take_more}
 use Rattle.ar_base.specs.Lists.{Stands, IsOneOf}
-use Rattle.ar_base.specs.Numbers.{EventId, WayId}
+use Rattle.ar_base.specs.Numbers.{WayId}
+use Rattle.ar_base.specs.NumbersInside.{EventId}
 use Rattle.ar_base.specs.Sets.{Within}
 use Rattle.ar_base.proofs.Standing.{one_here, stands_map, one_none, one_split, one_cases, one_right, one_first}
 use Rattle.ar_meaning.specs.Runs.{Label}

@@ -1,7 +1,7 @@
 -- Sets that are looked up in rows.
 use Rattle.std.proofs.Common.{◌≡◌, ◌↔◌, ◌⊎◌, ℕ, ◌+◌, ◌<◌, ◌≤◌, ◌/◌, inl, inr, List, [], ◌∷◌, take, length, get_or, sym, ◌∙◌, subst, arith}
 use Rattle.ar_base.specs.Lists.{Stands, IsOneOf}
-use Rattle.ar_base.specs.Numbers.{EventId}
+use Rattle.ar_base.specs.NumbersInside.{EventId}
 use Rattle.ar_base.specs.Sets.{Within}
 use Rattle.ar_base.proofs.Standing.{one_here, one_none, one_split, one_cases, one_left, one_right, one_first, stands_within}
 use Rattle.ar_meaning.specs.Runs.{Label}

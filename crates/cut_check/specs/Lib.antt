@@ -1,4 +1,5 @@
 pub mod Verdicts
+pub mod VerdictsInside
 pub mod Flat
 pub mod Rows
 pub mod Truths

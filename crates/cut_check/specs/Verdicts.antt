@@ -1,5 +1,5 @@
 -- What a check says of lists of labels: which are true, which hold another one, and which cuts are missing.
-use Rattle.std.specs.Prelude.{◌≡◌, ◌<◌, ℕ, List, Option, map, reverse}
+use Rattle.std.specs.Prelude.{◌<◌, ℕ, List, map, reverse}
 use Rattle.ar_base.specs.Lists.{Stands, IsOneOf}
 use Rattle.ar_base.specs.Sets.{Within}
 use Rattle.domains.specs.declared.Value.{Value}
@@ -8,7 +8,7 @@ use Rattle.typed_expr.specs.declared.expr.Expr.{Expr, out-Expr}
 use Rattle.ar_meaning.specs.Systems.{System}
 use Rattle.ar_meaning.specs.Facts.{HasValue}
 use Rattle.ar_meaning.specs.Runs.{Label}
-use Rattle.ar_firing.specs.Cuts.{Reaches, AreEvents, Cut, UpTo}
+use Rattle.ar_firing.specs.Cuts.{Reaches, AreEvents, Cut}
 
 -- the events of these labels
 abbrev pub events_of : List Label → List ℕ
@@ -67,21 +67,3 @@ pub record IsMissing {V : Type 0} (sys : System V) (dropped : List ℕ) (observe
     (lines : List (List Label)) (set : List ℕ) : Type 0 where
   pub is_cut : Cut sys dropped observer wanted set
   pub unlisted : IsListed lines set → ⊥
-
--- each line is good, and no cut is missing of those that have at most as many events as are asked for; where no number
--- is given, none at all
-pub record IsRight {V : Type 0} (order : Option ℕ) (sys : System V) (dropped : List ℕ) (observer : Expr V)
-    (wanted : Value) (lines : List (List Label)) : Type 0 where
-  pub good : (n : ℕ) (ls : List Label) → Stands lines n ls → IsSaid sys dropped observer wanted lines n IsGood
-  pub whole : (set : List ℕ) → UpTo order set → IsMissing sys dropped observer wanted lines set → ⊥
-
--- the sets of the lines are cuts, each once, and each line is an order of its events that ends with the wanted value;
--- each cut that has at most as many events as are asked for is there; where no number is given, each cut is
-pub record AreTheCuts {V : Type 0} (order : Option ℕ) (sys : System V) (dropped : List ℕ) (observer : Expr V)
-    (wanted : Value) (lines : List (List Label)) : Type 0 where
-  pub true_lines : (n : ℕ) (ls : List Label) → Stands lines n ls → IsTrueLine sys dropped observer wanted ls
-  pub sound : (n : ℕ) (ls : List Label) → Stands lines n ls → Cut sys dropped observer wanted (events_of ls)
-  pub whole : (set : List ℕ) → UpTo order set → Cut sys dropped observer wanted set → IsListed lines set
-  pub once : (j k : ℕ) (ls ms : List Label) → Stands lines j ls → Stands lines k ms
-      → Within (events_of ls) (events_of ms)
-      → Within (events_of ms) (events_of ls) → j ≡ k

@@ -10,7 +10,7 @@ ghost use Rattle.gts_core.specs.View.{Views, numbered};
 ghost use Rattle.gts_core.specs.declared.system.Observer.{Observer};
 ghost use Rattle.job_inputs.specs.Chains.{HaveKnownWays};
 ghost use Rattle.typed_expr.specs.declared.expr.Expr.{Expr as TheExpr};
-ghost use Rattle.job_inputs.specs.Naming.{AreEventsOf};
+ghost use Rattle.job_inputs.specs.NamingInside.{AreEventsOf};
 ghost use Rattle.cut_check.specs.Flat.{chain_lines, numbers_of, AreVerdicts, IsVerdict};
 ghost use Rattle.cut_check.specs.Rows.{HaveBits, AreWide};
 ghost use Rattle.cut_check.specs.Truths.{AreTruths};

@@ -8,8 +8,9 @@ ghost use Rattle.ar_meaning.specs.Systems.{System};
 ghost use Rattle.ar_meaning.specs.Runs.{Label};
 ghost use Rattle.ar_meaning.specs.Image.{Expr_renames};
 ghost use Rattle.ar_meaning.specs.FlatOf.{IsNumber, IsFlatOf};
-ghost use Rattle.ar_firing.specs.Cuts.{UpTo};
-ghost use Rattle.cut_check.specs.Verdicts.{events_of, IsTrueLine, Said, IsSaid, IsMissing, IsRight, AreTheCuts};
+ghost use Rattle.ar_firing.specs.CutsInside.{UpTo};
+ghost use Rattle.cut_check.specs.Verdicts.{events_of, IsTrueLine, Said, IsSaid, IsMissing};
+ghost use Rattle.cut_check.specs.VerdictsInside.{IsRight, AreTheCuts};
 
 /// Laws of the verdicts on a list of cuts.
 ///

@@ -6,7 +6,7 @@ ghost use Rattle.lane_rows.specs.Rows.{IsSet, words_for};
 ghost use Rattle.gts_core.specs.Sound.{IsSound};
 ghost use Rattle.job_inputs.specs.Chains.{labels_of, HaveKnownWays};
 ghost use Rattle.job_inputs.specs.CutReads.{AreKnownWays};
-ghost use Rattle.job_inputs.specs.Naming.{AreEventsOf};
+ghost use Rattle.job_inputs.specs.NamingInside.{AreEventsOf};
 ghost use Rattle.cut_check.specs.Flat.{numbers_of};
 ghost use Rattle.cut_check.specs.Rows.{AreOpenEvents, AreVisible, IsFreshEvent, IsRow, AreRows};
 

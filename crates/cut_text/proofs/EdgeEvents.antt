@@ -5,7 +5,7 @@ use Rattle.ar_base.specs.Lists.{Stands, IsOneOf, AreDifferent}
 use Rattle.ar_base.proofs.Standing.{stands_map, stands_map_back, stands_none, one_here, one_left, one_right, one_split, one_none}
 use Rattle.ar_base.proofs.Items.{different_both}
 use Rattle.ar_meaning.specs.Systems.{System}
-use Rattle.ar_meaning.specs.Facts.{AreKeyed}
+use Rattle.ar_meaning.specs.FactsInside.{AreKeyed}
 use Rattle.ar_meaning.specs.Runs.{Label}
 use Rattle.ar_firing.specs.Fragment.{Edge, IsLive, IsModeOf, named, first}
 use Rattle.ar_firing.specs.Static.{IsStatic}

@@ -5,7 +5,7 @@ use Rattle.ar_base.specs.Lists.{Stands, IsOneOf}
 use Rattle.ar_base.proofs.Standing.{stands_one, stands_none, one_first, one_rest}
 use Rattle.domains.specs.declared.Value.{Value}
 use Rattle.ar_meaning.specs.Systems.{Variable, System}
-use Rattle.ar_meaning.specs.Facts.{AreKeyed}
+use Rattle.ar_meaning.specs.FactsInside.{AreKeyed}
 use Rattle.ar_meaning.specs.Runs.{Label}
 use Rattle.ar_firing.specs.Fragment as sys_
 use Rattle.ar_firing.specs.Fragment.{Path, Edge, IsModeOf}
@@ -21,7 +21,7 @@ use Rattle.mode_trees.specs.Views.{row_of, tree_of, number_in, number_of_found}
 use Rattle.mode_trees.specs.Ways.{HasOwnWay, OwnTheirWays}
 use Rattle.mode_trees.specs.declared.forests.Edge as edges
 use Rattle.mode_trees.specs.declared.forests.ModeTree as code
-use Rattle.firable_families.specs.Firable.{IsFirableOf}
+use Rattle.firable_families.specs.FirableInside.{IsFirableOf}
 use Rattle.min_cuts.specs.Lines.{line_from, IsInFiringOrder}
 use Rattle.text_pieces.specs.WayLabels.{label_found, label_of}
 use Rattle.cut_text.specs.Printed.{edges_of, way_in, labels_in}

@@ -4,7 +4,7 @@ use Rattle.std.proofs.lemmas.Bool.{cases_order}
 use Rattle.ar_base.specs.Lists.{Stands, IsOneOf}
 use Rattle.domains.specs.declared.Value.{Value}
 use Rattle.ar_meaning.specs.Systems.{Variable, System}
-use Rattle.ar_meaning.specs.Facts.{AreKeyed}
+use Rattle.ar_meaning.specs.FactsInside.{AreKeyed}
 use Rattle.ar_meaning.specs.Runs.{Label}
 use Rattle.ar_firing.specs.Fragment as sys_
 use Rattle.ar_firing.specs.Fragment.{Path}
@@ -12,7 +12,7 @@ use Rattle.ar_firing.specs.Static.{IsStatic}
 use Rattle.ar_firing.specs.Cuts.{IsFirable}
 use Rattle.ar_firing.specs.Forest.{ModeTree, IsModeTree, IsForest}
 use Rattle.ar_firing.proofs.TreeEdges.{row_is_live}
-use Rattle.firable_families.specs.Firable.{LeadsToMode, root, edge, IsFirableOf}
+use Rattle.firable_families.specs.FirableInside.{LeadsToMode, root, edge, IsFirableOf}
 use Rattle.firable_families.proofs.InForests.{path_for, Found, at, nowhere, found, build}
 
 module _ {V : Type 0} (sys : System V) (dropped : List ℕ) (keyed : AreKeyed sys.net) (static : IsStatic sys dropped)

@@ -11,8 +11,8 @@ use Rattle.ar_firing.specs.Trees.{IsTree, AreTrees}
 use Rattle.mode_trees.specs.Views.{row_of, tree_of}
 use Rattle.mode_trees.specs.declared.forests.Edge.{Edge}
 use Rattle.mode_trees.specs.declared.forests.ModeTree.{ModeTree}
-use Rattle.firable_families.specs.Firable.{LeadsToMode, IsFirableOf}
-use Rattle.firable_families.specs.Firable.LeadsToMode.{root, edge}
+use Rattle.firable_families.specs.FirableInside.{LeadsToMode, IsFirableOf}
+use Rattle.firable_families.specs.FirableInside.LeadsToMode.{root, edge}
 use Rattle.min_cuts.specs.Lines.{line_from, IsInFiringOrder, AreInFiringOrder}
 use Rattle.cut_text.specs.Printed.{edges_of, HaveOneWay, AreOfEdges}
 use Rattle.cut_text.proofs.TableLemmas.{edge_in, tree_of_edge}

@@ -1,6 +1,6 @@
 -- Sets of at most as many events as are asked for, of which something holds.
 use Rattle.std.proofs.Common.{ℕ, List, Option, Some, None}
-use Rattle.ar_firing.specs.Cuts.{UpTo}
+use Rattle.ar_firing.specs.CutsInside.{UpTo}
 use Rattle.firable_families.specs.Firable.{AndUpTo}
 
 pub has_it : (order : Option ℕ) (P : List ℕ → Type 0) (set : List ℕ) → AndUpTo order P set → P set

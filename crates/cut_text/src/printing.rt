@@ -2,7 +2,7 @@
 
 ghost use Rattle.std.specs.Prelude.{◌≡◌, ℕ, List, ◌∷◌, Some, true, false, codes, reverse};
 ghost use Rattle.ar_base.specs.Texts.{separated};
-ghost use Rattle.ar_io.specs.Writing.{Writes};
+ghost use Rattle.ar_io.specs.WritingInside.{Writes};
 ghost use Rattle.ar_meaning.specs.Flows.{FlowFault as MetFault};
 ghost use Rattle.ar_meaning.specs.Systems.{System};
 ghost use Rattle.ar_meaning.specs.TraceText.{flow_fault_text};

@@ -1,11 +1,15 @@
 -- Sets of a family with one more event.
-use Rattle.std.specs.Prelude.{◌≡◌, ℕ, true, cond, eqb, nat_lt, List, [], ◌∷◌}
+use Rattle.std.specs.Prelude.{◌≡◌, ℕ, true, cond, eqb, nat_lt, List, [], ◌∷◌, length}
 use Rattle.zdd_families.specs.Families.{Family, has}
 use Rattle.zdd_nodes.specs.Nodes.{Stored, Grows}
 
 -- families were added, whichever they are, and nothing else changed
 abbrev pub Extends : Stored → Stored → Type 0
 Extends old new = Grows (λ h. Unit {0}) old new
+
+-- the store has its limit of nodes
+abbrev pub IsAtLimit : Stored → Type 0
+IsAtLimit s = length s.families ≡ s.limit
 
 -- the ascending set with the event put in its place
 abbrev pub put_in : ℕ → List ℕ → List ℕ

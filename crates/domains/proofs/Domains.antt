@@ -4,7 +4,8 @@ use Rattle.std.specs.List.{range_with_len}
 use Rattle.std.proofs.lemmas.Bool.Decides.{nat_tests}
 use Rattle.std.proofs.lemmas.Int.{ints}
 use Rattle.domains.specs.Values.{is_before}
-use Rattle.domains.specs.Domains.{IsDomain, Holds, IsAt, values_of}
+use Rattle.domains.specs.Domains.{IsDomain, Holds, values_of}
+use Rattle.domains.specs.DomainsInside.{IsAt}
 use Rattle.domains.specs.declared.Value.{Value}
 use Rattle.domains.specs.declared.Value.TheVariants.{Truth, Whole, Symbol}
 use Rattle.domains.specs.declared.Domain.{Domain}

@@ -3,7 +3,8 @@ use Rattle.std.proofs.Common.{◌≡◌, ◌≢◌, inl, inr, ℕ, ◌+◌, ◌-
 use Rattle.std.proofs.lemmas.Bool.Decides.{nat_tests}
 use Rattle.std.proofs.lemmas.List.Sums.{sum_by-cons, count_by-le-length}
 use Rattle.std.proofs.lemmas.Bool.{cases_order}
-use Rattle.domains.specs.Domains.{IsDomain, HasMore}
+use Rattle.domains.specs.Domains.{IsDomain}
+use Rattle.domains.specs.DomainsInside.{HasMore}
 use Rattle.domains.proofs.Members.{contains-head, contains-cons, contains-cases, pairs-tail, pairs-head}
 use Rattle.domains.specs.declared.Value.{Value}
 use Rattle.domains.specs.declared.Domain.{Domain}

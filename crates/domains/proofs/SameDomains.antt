@@ -5,7 +5,7 @@ use Rattle.domains.specs.declared.Domain.{Domain}
 use Rattle.domains.specs.declared.Domain.TheVariants.{Range}
 use Rattle.domains.specs.declared.Value.{Value}
 use Rattle.domains.specs.declared.Value.TheVariants as value
-use Rattle.domains.specs.Same.{IsSameDomain, boolean, symbols, range}
+use Rattle.domains.specs.SameInside.{IsSameDomain, boolean, symbols, range}
 
 pub ranges : (d : Domain) (low high least most : ℤ) → d ≡ Range low high → least ≡ low → most ≡ high
     → IsSameDomain d (Range least most)

@@ -3,8 +3,9 @@
 
 ghost use Rattle.std.specs.Prelude.{true, false, ◌≡◌, ◌<◌, ◌≤◌, ◌↔◌, ◌≢◌, ◌==◌, ℕ, IsTrue, IsSome, IfOk, IfSome, IfNone, Contains, count_by, nat_lt, length, ◌+ℤ◌, ◌-ℤ◌, ◌*ℤ◌};
 ghost use Rattle.std.specs.Int.{saturate_signed, w64};
-ghost use Rattle.domains.specs.Domains.{IsDomain, Holds, IsAt, HasMore, values_of};
-ghost use Rattle.domains.specs.Same.{IsSameDomain};
+ghost use Rattle.domains.specs.Domains.{IsDomain, Holds, values_of};
+ghost use Rattle.domains.specs.DomainsInside.{IsAt, HasMore};
+ghost use Rattle.domains.specs.SameInside.{IsSameDomain};
 ghost use Rattle.domains.specs.Values.{is_before, truth_of, whole_of};
 ghost use Rattle.domains.specs.declared.Value.{Value};
 ghost use Rattle.domains.specs.declared.Value.TheVariants.{Truth};

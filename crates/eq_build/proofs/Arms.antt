@@ -11,7 +11,8 @@ use Rattle.eq_core.specs.Gates.{Gate}
 use Rattle.eq_core.specs.declared.joints.Gate as flat
 use Rattle.eq_core.proofs.Telling.{grows_on}
 use Rattle.eq_build.specs.Entries.{Entry, Built, only, opposite_terms, joint_terms, pairs_of, with_step, with_signs}
-use Rattle.eq_build.specs.Builds.{Builds, Builds_each, Builds_cases, NeedsMore, most_gates}
+use Rattle.eq_build.specs.Builds.{Builds, Builds_each, Builds_cases}
+use Rattle.eq_build.specs.BuildsInside.{NeedsMore, most_gates}
 use Rattle.eq_build.specs.Builds as b
 use Rattle.eq_build.specs.Views.{entries_in, lists_in, row_of, Stops, MakesEntries}
 use Rattle.eq_build.specs.Answers.{Entries, EachNeedsMore, PartsNeedMore, CasesNeedMore, AnswersEntries}

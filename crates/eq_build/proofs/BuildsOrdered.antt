@@ -9,7 +9,7 @@ use Rattle.typed_expr.specs.Yields.{Level}
 use Rattle.typed_expr.specs.declared.expr.Expr.{Expr}
 use Rattle.eq_core.specs.Gates.{Operand, Always, Gate, all_of}
 use Rattle.eq_core.specs.Ordered.{AreBelow, AreOrdered}
-use Rattle.eq_core.specs.Values.{Grows, IsBelow}
+use Rattle.eq_core.specs.ValuesInside.{Grows, IsBelow}
 use Rattle.eq_core.proofs.Ordering.{joined_ordered, none_earlier}
 use Rattle.eq_core.proofs.Telling.{grows_on, below_kept, all_more}
 use Rattle.eq_build.specs.Entries.{Entry, Term, Group, OperandRow, Built, operand_for, all_of_each, one_of_alls, with_terms, entries_of, entries_for, only, pairs_of, combined, folded, with_step, with_signs, led, opposite_term, opposite_terms, each_for, joint_terms, case_terms, chosen}

@@ -15,7 +15,7 @@ use Rattle.typed_expr.specs.declared.expr.ValueKind.TheVariants.{Truth, Whole}
 use Rattle.typed_expr.specs.declared.expr.Expr.{Expr, out-Expr}
 use Rattle.typed_expr.specs.declared.expr.Expr.TheOpen.{Constant, Variable, Compare, Sum, Product, Least, Greatest, Count, Choose}
 use Rattle.eq_core.specs.Gates.{Gate}
-use Rattle.eq_core.specs.Values.{Grows}
+use Rattle.eq_core.specs.ValuesInside.{Grows}
 use Rattle.eq_core.proofs.Telling.{grows_self, grows_on}
 use Rattle.eq_build.specs.Entries.{Entry, Built, led}
 use Rattle.eq_build.specs.Builds.{Builds, Builds_each, Builds_parts, Builds_cases}

@@ -8,9 +8,11 @@ use Rattle.domains.proofs.Order.{not_before}
 use Rattle.domains.proofs.Same.{same_is, same_self}
 use Rattle.eq_core.specs.Gates.{Operand, Always, Never, EventIs, GateIs, Gate, all_of}
 use Rattle.eq_core.specs.Ordered.{AreBelow}
-use Rattle.eq_core.specs.Values.{IsTrueWhere, Grows, EachTrue, value_at}
+use Rattle.eq_core.specs.Values.{value_at}
+use Rattle.eq_core.specs.ValuesInside.{IsTrueWhere, Grows, EachTrue}
 use Rattle.eq_core.proofs.Telling.{grows_self, grows_on, value_kept, below_kept, tells_kept, tells_as, tells_never, all_tells, all_grows, any_tells, any_grows}
-use Rattle.eq_build.specs.Entries.{Entry, operand_for, Term, Group, OperandRow, all_of_each, one_of_alls, is_never, with_entry, with_terms, Rises, entries_of, entries_for}
+use Rattle.eq_build.specs.Entries.{Entry, operand_for, Term, Group, OperandRow, all_of_each, one_of_alls, is_never, with_entry, with_terms, entries_of, entries_for}
+use Rattle.eq_build.specs.EntriesInside.{Rises}
 use Rattle.eq_build.specs.Tells.{AreEntries, IsBuilt}
 use Rattle.eq_build.proofs.GroupsRise.{InGroups, InTerms, terms_there, terms_were, terms_rise}
 

@@ -12,7 +12,8 @@ use Rattle.typed_expr.specs.declared.expr.Expr.{Expr, out-Expr}
 use Rattle.typed_expr.specs.declared.expr.Expr.TheOpen.{Not, All, Any}
 use Rattle.eq_core.specs.Gates.{Operand, Always, Gate}
 use Rattle.eq_core.specs.Ordered.{AreBelow}
-use Rattle.eq_core.specs.Values.{IsBelow, IsTrueWhere, Grows, EachTrue, value_at}
+use Rattle.eq_core.specs.Values.{value_at}
+use Rattle.eq_core.specs.ValuesInside.{IsBelow, IsTrueWhere, Grows, EachTrue}
 use Rattle.eq_core.proofs.Telling.{grows_self, grows_on, tells_always}
 use Rattle.eq_build.specs.Entries.{Entry, Term, operand_for, entries_for, pair_term, pairs_of, result_of, combined, folded, with_step, with_signs, only, opposite_term, opposite_terms, each_for, joint_terms, case_terms, chosen}
 use Rattle.eq_build.specs.Tells.{AreEntries, IsBuilt}

@@ -8,7 +8,8 @@ use Rattle.domains.specs.declared.Value.{Value}
 use Rattle.domains.proofs.Order.{is_before-trans, same-from_neither}
 use Rattle.domains.proofs.Same.{same_is, same_self}
 use Rattle.eq_core.specs.Gates.{Operand}
-use Rattle.eq_build.specs.Entries.{Term, Group, with_term, with_terms, Rises}
+use Rattle.eq_build.specs.Entries.{Term, Group, with_term, with_terms}
+use Rattle.eq_build.specs.EntriesInside.{Rises}
 
 -- a group of the value has the term's operands
 pub record InGroups (ps : List Group) (d : Value) (os : List Operand) : Type 0 where

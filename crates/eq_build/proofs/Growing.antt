@@ -4,7 +4,7 @@ use Rattle.domains.specs.declared.Value.TheVariants.{Whole}
 use Rattle.typed_expr.specs.Yields.{Level}
 use Rattle.typed_expr.specs.declared.expr.Expr.{Expr}
 use Rattle.eq_core.specs.Gates.{Operand, Gate, all_of}
-use Rattle.eq_core.specs.Values.{Grows}
+use Rattle.eq_core.specs.ValuesInside.{Grows}
 use Rattle.eq_core.proofs.Telling.{grows_self, grows_on, all_more, any_more}
 use Rattle.eq_build.specs.Entries.{Entry, Group, Term, Built, with_terms, all_of_each, one_of_alls, entries_of, entries_for, pairs_of, combined, folded, led, with_step, with_signs, only, opposite_terms, joint_terms, case_terms, chosen}
 use Rattle.eq_build.specs.Builds.{Builds, Builds_each, Builds_parts, Builds_cases}

@@ -6,10 +6,11 @@ use Rattle.ar_base.specs.Numbers.{VarId}
 use Rattle.ar_base.proofs.Items.{none_left}
 use Rattle.typed_expr.specs.declared.expr.Expr.{Expr, out-Expr}
 use Rattle.eq_core.specs.Gates.{Gate}
-use Rattle.eq_core.specs.Values.{Grows}
+use Rattle.eq_core.specs.ValuesInside.{Grows}
 use Rattle.eq_core.specs.declared.joints.Gate as flat
 use Rattle.eq_build.specs.Entries.{Entry, Built}
-use Rattle.eq_build.specs.Builds.{Builds, Builds_each, Builds_parts, Builds_cases, NeedsMore, most_gates}
+use Rattle.eq_build.specs.Builds.{Builds, Builds_each, Builds_parts, Builds_cases}
+use Rattle.eq_build.specs.BuildsInside.{NeedsMore, most_gates}
 use Rattle.eq_build.specs.Builds as b
 use Rattle.eq_build.specs.Views.{entries_in, lists_in, parts_in, cases_in, row_of, Stops}
 use Rattle.eq_build.specs.Answers.{Entries, EachNeedsMore, PartsNeedMore, CasesNeedMore, AnswersEach, AnswersParts, AnswersCases}

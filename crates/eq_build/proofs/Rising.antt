@@ -6,7 +6,7 @@ use Rattle.ar_base.proofs.Standing.{stands_get, stands_map, one_here}
 use Rattle.domains.specs.Values.{is_before}
 use Rattle.domains.specs.declared.Value.{Value}
 use Rattle.domains.proofs.Order.{is_before-trans}
-use Rattle.eq_build.specs.Entries.{Rises}
+use Rattle.eq_build.specs.EntriesInside.{Rises}
 use Rattle.eq_build.specs.Views.{group_of}
 use Rattle.eq_build.specs.declared.groups.Group as flat
 

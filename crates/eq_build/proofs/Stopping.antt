@@ -10,7 +10,7 @@ use Rattle.eq_core.proofs.Telling.{any_more}
 use Rattle.eq_build.specs.Entries.{OperandRow, Group, Built, all_of_each, one_of_alls, entries_of, entries_for, combined, folded, case_terms, chosen}
 use Rattle.eq_build.specs.Entries.{Entry as View}
 use Rattle.eq_build.specs.declared.steps.Step.{Step}
-use Rattle.eq_build.specs.Builds.{most_gates}
+use Rattle.eq_build.specs.BuildsInside.{most_gates}
 use Rattle.eq_build.specs.Views.{entries_in, cases_in, Stops, Makes, MakesOperand, MakesEntries}
 use Rattle.eq_build.specs.declared.entries.Entry.{Entry}
 use Rattle.eq_build.specs.declared.entries.BuildFault.{BuildFault}

@@ -2,7 +2,7 @@
 -- operand and what is built for it.
 use Rattle.std.proofs.Common.{◌≡◌, ℕ, suc, ◌<◌, List, [], ◌∷◌, ◌++◌, length, drop, sym, subst, append_assoc, append-nil}
 use Rattle.eq_core.specs.Gates.{Gate}
-use Rattle.eq_core.specs.Values.{Grows}
+use Rattle.eq_core.specs.ValuesInside.{Grows}
 use Rattle.eq_build.proofs.Growing.{longer_on}
 
 -- so many operands are built: what is built for the others goes behind it, and what is built for all comes by here

@@ -7,7 +7,8 @@ use Rattle.typed_expr.specs.declared.expr.Expr.{Expr}
 use Rattle.eq_core.specs.Gates.{Gate}
 use Rattle.eq_core.specs.declared.joints.Gate as flat
 use Rattle.eq_build.specs.Entries as e
-use Rattle.eq_build.specs.Builds.{Builds, Builds_each, Builds_parts, Builds_cases, NeedsMore, most_gates}
+use Rattle.eq_build.specs.Builds.{Builds, Builds_each, Builds_parts, Builds_cases}
+use Rattle.eq_build.specs.BuildsInside.{NeedsMore, most_gates}
 use Rattle.eq_build.specs.Views.{entries_in, lists_in, parts_in, cases_in, row_of, Makes}
 use Rattle.eq_build.specs.declared.entries.Entry.{Entry}
 use Rattle.eq_build.specs.declared.entries.BuildFault.{BuildFault}

@@ -1,5 +1,5 @@
 -- The entries of an expression, and the gates that are made for them. A reading is a list of entries for each variable.
-use Rattle.std.specs.Prelude.{ℕ, ◌<◌, Bool, true, false, List, [], ◌∷◌, length, pos, Box, Vec}
+use Rattle.std.specs.Prelude.{Bool, true, false, List, [], ◌∷◌, pos, Box, Vec}
 use Rattle.std.specs.Global.{Global}
 use Rattle.domains.specs.declared.Value.{Value}
 use Rattle.domains.specs.declared.Value.TheVariants.{Whole}
@@ -65,11 +65,3 @@ mutual
         {ess : List (List Entry × List Entry)} → Builds read g (out-Expr V test) x
         → Builds read x.gates (out-Expr V value) y → Builds_cases read y.gates cs ess h
         → Builds_cases read g ((test, value) ∷ cs) ((x.entries, y.entries) ∷ ess) h
-
--- the most gates that a table may have
-abbrev pub most_gates : ℕ
-most_gates = 2000000
-
--- from these gates the expression's entries need more gates than a table may have
-abbrev pub NeedsMore : {V : Type 0} → (V → List Entry) → List Gate → Level V → Type 0
-NeedsMore read g e = (b : Built) → Builds read g e b → most_gates < length b.gates

@@ -1,7 +1,6 @@
 -- Values with operands, and the gates that are made for them.
-use Rattle.std.specs.Prelude.{◌≡◌, Bool, true, false, not, if◌then◌else◌, List, [], ◌∷◌, ◌++◌, map}
+use Rattle.std.specs.Prelude.{Bool, true, false, not, if◌then◌else◌, List, [], ◌∷◌, ◌++◌, map}
 use Rattle.std.specs.List.{fold}
-use Rattle.ar_base.specs.Lists.{IsOneOf}
 use Rattle.domains.specs.Same.{is_same}
 use Rattle.domains.specs.Values.{is_before, truth_of, whole_of}
 use Rattle.domains.specs.declared.Value.{Value}
@@ -43,11 +42,6 @@ with_term t (p ∷ ps) =
     if is_same p.value t.value then record { value = p.value; terms = p.terms ++ t.operands ∷ [] } ∷ ps
     else (if is_before p.value t.value then p ∷ with_term t ps
     else record { value = t.value; terms = t.operands ∷ [] } ∷ p ∷ ps)
-
--- each group's value comes before those of all later groups
-abbrev pub Rises : List Group → Type 0
-Rises [] = Unit {0}
-Rises (p ∷ ps) = ((q : Group) → IsOneOf ps q → is_before p.value q.value ≡ true) × Rises ps
 
 -- the groups with these terms, one after the other
 abbrev pub with_terms : List Term → List Group → List Group

@@ -8,7 +8,7 @@ use Rattle.typed_expr.specs.Yields.{Level, Yields}
 use Rattle.typed_expr.specs.declared.expr.ValueKind.{ValueKind}
 use Rattle.eq_core.specs.Gates.{Operand, Always, Never, EventIs, GateIs, Gate}
 use Rattle.eq_core.specs.Ordered.{AreOrdered}
-use Rattle.eq_core.specs.Values.{Grows, IsBelow}
+use Rattle.eq_core.specs.ValuesInside.{Grows, IsBelow}
 use Rattle.eq_build.specs.Entries.{Entry, Built, one_of_alls}
 use Rattle.eq_build.specs.Builds.{Builds}
 use Rattle.eq_build.specs.Tells.{AreEntries, IsBuilt}

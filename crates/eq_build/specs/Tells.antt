@@ -3,7 +3,7 @@ use Rattle.std.specs.Prelude.{◌≡◌, ℕ, List}
 use Rattle.ar_base.specs.Lists.{IsOneOf}
 use Rattle.domains.specs.declared.Value.{Value}
 use Rattle.eq_core.specs.Gates.{Gate}
-use Rattle.eq_core.specs.Values.{IsTrueWhere, Grows}
+use Rattle.eq_core.specs.ValuesInside.{IsTrueWhere, Grows}
 use Rattle.eq_build.specs.Entries.{Entry, Built}
 
 -- each entry's operand is true at the set exactly where P holds of its value, and each value with P has an entry

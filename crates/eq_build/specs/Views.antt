@@ -7,7 +7,7 @@ use Rattle.eq_core.specs.Views.{operand_of, gate_of}
 use Rattle.eq_core.specs.declared.joints.Gate as flat
 use Rattle.eq_core.specs.declared.joints.Operand as sign
 use Rattle.eq_build.specs.Entries as e
-use Rattle.eq_build.specs.Builds.{most_gates}
+use Rattle.eq_build.specs.BuildsInside.{most_gates}
 use Rattle.eq_build.specs.declared.entries.Entry.{Entry}
 use Rattle.eq_build.specs.declared.entries.BuildFault.{BuildFault}
 use Rattle.eq_build.specs.declared.entries.BuildFault.TheVariants.{Gates, Memory}

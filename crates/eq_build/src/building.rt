@@ -3,7 +3,8 @@
 ghost use Rattle.std.specs.Prelude.{◌≡◌, ◌≤◌, IfOk, IfErr, OnOk, length};
 ghost use Rattle.typed_expr.specs.declared.expr.Expr.{out-Expr};
 ghost use Rattle.ar_base.specs.Numbers.{VarId as VarNumber};
-ghost use Rattle.eq_build.specs.Builds.{Builds, NeedsMore, most_gates};
+ghost use Rattle.eq_build.specs.Builds.{Builds};
+ghost use Rattle.eq_build.specs.BuildsInside.{NeedsMore, most_gates};
 ghost use Rattle.eq_build.specs.Views.{row_of, entry_of, entries_in, gates_in, built_of, Stops};
 ghost use Rattle.eq_core.specs.Gates.{Always as AlwaysTaken};
 ghost use Rattle.eq_build.specs.Answers.{AnswersEntries, AnswersEach, AnswersParts, AnswersCases};

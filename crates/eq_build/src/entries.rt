@@ -4,7 +4,7 @@ ghost use Rattle.std.specs.Prelude.{◌≡◌, ◌≤◌, ◌<◌, length, []};
 ghost use Rattle.eq_core.specs.Gates.{joined};
 ghost use Rattle.eq_core.specs.Views.{all_needed, operand_of};
 ghost use Rattle.eq_build.specs.Entries.{one_of_alls, operand_for};
-ghost use Rattle.eq_build.specs.Builds.{most_gates};
+ghost use Rattle.eq_build.specs.BuildsInside.{most_gates};
 ghost use Rattle.eq_build.specs.Views.{operands_in, gates_in, terms_in, entries_in, MakesOperand};
 ghost use Rattle.eq_build.specs.declared.entries.BuildFault.TheVariants as fault;
 

@@ -3,7 +3,7 @@
 ghost use Rattle.std.specs.Prelude.{◌≡◌, ◌≤◌, OnOk, IfOk, length, map};
 ghost use Rattle.eq_core.specs.Views.{operand_of};
 ghost use Rattle.eq_build.specs.Entries.{with_terms, pair_term, combined, folded, led, with_step, with_signs, entries_for, opposite_terms, apart, each_for, joint_terms, behind, case_terms, chosen};
-ghost use Rattle.eq_build.specs.Builds.{most_gates};
+ghost use Rattle.eq_build.specs.BuildsInside.{most_gates};
 ghost use Rattle.eq_build.specs.Views.{entry_of, entries_in, operands_in, gates_in, lists_in, parts_in, cases_in, MakesEntries};
 
 use crate::entries::{BuildFault, Entry, operand_for};

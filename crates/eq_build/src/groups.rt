@@ -3,8 +3,9 @@
 ghost use Rattle.std.specs.Prelude.{◌≡◌, ◌≤◌, ◌<◌, OnOk, length, [], map, slice_index_or, true, false};
 ghost use Rattle.std.specs.List.{AllWithin};
 ghost use Rattle.domains.specs.Values.{is_before};
-ghost use Rattle.eq_build.specs.Entries.{with_term, Rises, entries_of};
-ghost use Rattle.eq_build.specs.Builds.{most_gates};
+ghost use Rattle.eq_build.specs.Entries.{with_term, entries_of};
+ghost use Rattle.eq_build.specs.EntriesInside.{Rises};
+ghost use Rattle.eq_build.specs.BuildsInside.{most_gates};
 ghost use Rattle.eq_build.specs.declared.groups.Group.{Group as GroupOfTerms};
 ghost use Rattle.eq_build.specs.Views.{operands_in, gates_in, group_of, MakesEntries};
 
@@ -31,7 +32,8 @@ pub struct Groups {
 
 impl Model for Groups {
     ghost use Rattle.std.specs.Prelude.{List, map};
-    ghost use Rattle.eq_build.specs.Entries.{Group, Rises};
+    ghost use Rattle.eq_build.specs.Entries.{Group};
+    ghost use Rattle.eq_build.specs.EntriesInside.{Rises};
     ghost use Rattle.eq_build.specs.Views.{group_of};
 
     ghost Value = { List Group };

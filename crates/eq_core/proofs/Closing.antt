@@ -2,7 +2,7 @@
 use Rattle.std.proofs.Common.{◌≡◌, ℕ, List, [], ◌∷◌, ◌++◌, Bool, true, false, nat_eq, map, length, get_or, sym, ap, ◌∙◌, arith}
 use Rattle.std.proofs.lemmas.Bool.Decides.{nat_tests}
 use Rattle.std.proofs.lemmas.List.{length-map, map-append}
-use Rattle.ar_base.specs.Numbers.{GateId}
+use Rattle.ar_base.specs.NumbersInside.{GateId}
 use Rattle.eq_core.specs.Gates.{closed_as, neutral}
 use Rattle.eq_core.specs.Views.{all_needed, operand_of, gate_of, made_of}
 use Rattle.eq_core.specs.declared.joints.Joint.{Joint}

@@ -1,7 +1,7 @@
 -- What one operand does to a joint of the operands before it, which are kept, and those behind it.
 use Rattle.std.proofs.Common.{◌≡◌, ℕ, ◌+◌, ◌<◌, Bool, true, false, List, [], ◌∷◌, ◌++◌, map, drop, length, get_or, refl, sym, ap, ◌∙◌}
 use Rattle.std.proofs.lemmas.List.{drop_more, map-append}
-use Rattle.ar_base.specs.Numbers.{EventId, GateId}
+use Rattle.ar_base.specs.NumbersInside.{EventId, GateId}
 use denote.Enum.Bare.{sameb}
 use Rattle.eq_core.specs.contracts.joints.Joint.{the_type}
 use Rattle.eq_core.specs.declared.joints.Joint.{Joint}

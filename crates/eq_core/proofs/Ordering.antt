@@ -3,7 +3,7 @@ use Rattle.std.proofs.Common.{◌≡◌, ℕ, zero, suc, ◌+◌, inl, inr, Bool
 use Rattle.ar_base.specs.Lists.{Stands, IsOneOf}
 use Rattle.ar_base.proofs.Standing.{one_cases, one_first, one_none, one_split, stands_split, stands_none}
 use Rattle.eq_core.specs.Gates.{Operand, Always, Never, EventIs, GateIs, Gate, Made, neutral, closed_as, joined}
-use Rattle.eq_core.specs.Values.{IsBelow}
+use Rattle.eq_core.specs.ValuesInside.{IsBelow}
 use Rattle.eq_core.specs.Ordered.{IsEarlier, AreBelow, IsInPlace, AreOrdered}
 use Rattle.eq_core.proofs.Telling.{below_head, below_tail, earlier_below}
 

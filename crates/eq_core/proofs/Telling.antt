@@ -7,7 +7,8 @@ use Rattle.ar_base.proofs.Standing.{stands_none}
 use Rattle.ar_base.proofs.Truths.{not_true, true_not}
 use Rattle.eq_core.specs.Gates.{Operand, Always, Never, EventIs, GateIs, Gate, Made, opposite, neutral, closed_as, joined, all_of, any_of}
 use Rattle.eq_core.specs.Ordered.{IsEarlier, AreBelow, IsInPlace}
-use Rattle.eq_core.specs.Values.{has_event, value_of_gate, signed, operand_at, joint_at, values_from, values_at, value_at, IsBelow, IsTrueWhere, Grows, EachTrue, OneTrue}
+use Rattle.eq_core.specs.Values.{has_event, value_of_gate, signed, operand_at, joint_at, values_from, values_at, value_at}
+use Rattle.eq_core.specs.ValuesInside.{IsBelow, IsTrueWhere, Grows, EachTrue, OneTrue}
 
 -- more gates
 pub grows_self : (gates : List Gate) → Grows gates gates

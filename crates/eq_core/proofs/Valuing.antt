@@ -1,7 +1,7 @@
 -- The steps of reading values.
 use Rattle.std.proofs.Common.{◌≡◌, ℕ, zero, suc, Bool, true, false, List, [], ◌∷◌, ◌||◌, get_or, nat_eq, refl, ap}
 use mathlib.Core.Bool.{beq}
-use Rattle.ar_base.specs.Numbers.{EventId, numbers_of}
+use Rattle.ar_base.specs.NumbersInside.{EventId, numbers_of}
 use Rattle.std.specs.List.{list_any}
 use Rattle.eq_core.specs.Values.{has_event, value_of_gate, signed}
 

@@ -1,4 +1,5 @@
 pub mod Gates
 pub mod Values
+pub mod ValuesInside
 pub mod Ordered
 pub mod Views

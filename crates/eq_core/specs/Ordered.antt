@@ -2,7 +2,7 @@
 use Rattle.std.specs.Prelude.{◌<◌, ◌≤◌, ℕ, Bool, List, [], length}
 use Rattle.ar_base.specs.Lists.{Stands, IsOneOf}
 use Rattle.eq_core.specs.Gates.{Operand, Always, Never, EventIs, GateIs, Gate, Table, joined}
-use Rattle.eq_core.specs.Values.{IsBelow}
+use Rattle.eq_core.specs.ValuesInside.{IsBelow}
 
 -- the operand is an event, or one of the first so many gates
 abbrev pub IsEarlier : ℕ → Operand → Type 0

@@ -4,8 +4,9 @@ ghost use Rattle.std.specs.Prelude.{◌≡◌, ◌<◌, ◌^◌, IfOk, nat_eq, m
 ghost use Rattle.std.specs.List.{list_any};
 ghost use Rattle.eq_core.specs.Gates.{joined, closed_as};
 ghost use Rattle.eq_core.specs.Ordered.{AreBelow, AreOrdered, KeepsOrder};
-ghost use Rattle.eq_core.specs.Values.{operand_at, joint_at, values_at, IsBelow};
-ghost use Rattle.ar_base.specs.Numbers.{numbers_of};
+ghost use Rattle.eq_core.specs.Values.{operand_at, joint_at, values_at};
+ghost use Rattle.eq_core.specs.ValuesInside.{IsBelow};
+ghost use Rattle.ar_base.specs.NumbersInside.{numbers_of};
 ghost use Rattle.eq_core.specs.Views.{all_needed, operand_of, gate_of, gates_of, made_of};
 
 use ar_base::{EventId, GateId, Memory};

@@ -1,7 +1,8 @@
 -- Numbers whose families have no event below a bound.
 use Rattle.std.proofs.Common.{◌<◌, ◌≤◌, ℕ, zero, suc, List, [], ◌∷◌, sym, subst, arith}
 use Rattle.std.specs.List.{AllByRecursion}
-use Rattle.zdd_families.specs.Families.{Family, node, IsAbove}
+use Rattle.zdd_families.specs.Families.{Family}
+use Rattle.zdd_families.specs.FamiliesInside.{node, IsAbove}
 use Rattle.zdd_families.proofs.Laws.{IsAbove_set, each_of}
 use Rattle.zdd_nodes.specs.Nodes.{Stored, family, IsNode}
 use Rattle.event_bounds.specs.Bounds.{AtLeast, EndsBelow}

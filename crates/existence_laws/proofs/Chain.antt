@@ -7,7 +7,8 @@ use Rattle.ar_base.specs.declared.faults.RuleFault.{RuleFault}
 use Rattle.ar_base.specs.declared.faults.RuleFault.TheVariants.{Rule, Limit, Memory}
 use Rattle.ar_base.specs.declared.places.Place.{Place}
 use Rattle.ar_syntax.specs.declared.items.Model.{Model}
-use Rattle.hierarchy.specs.Models.{RootedModel, KeepsTextRules}
+use Rattle.hierarchy.specs.Models.{RootedModel}
+use Rattle.hierarchy.specs.ModelsInside.{KeepsTextRules}
 use Rattle.hierarchy.specs.Listing.{Unfolded}
 use Rattle.unit_walks.specs.Unfolding.{Unfolds}
 use Rattle.unit_rules.specs.Limits.{FitsLimits, variables_counted, events_counted, unfolded_nodes}
@@ -20,6 +21,8 @@ use Rattle.job_stages.specs.Elaborates.{Parses, Tables, rooted, Systems, Ruled, 
 use Rattle.job_stages.specs.declared.refusals.Refusal.TheVariants as refusal
 use Rattle.existence_laws.specs.Answered.{HasAnswer}
 use Rattle.existence_laws.proofs.Stages.{then_answered, keeps_answered, fits_answered}
+use Rattle.existence_laws.proofs.System.{system_of}
+use Rattle.existence_laws.proofs.Units.{unfolds_some}
 
 -- No stage answers want of memory
 
@@ -100,13 +103,11 @@ keeps_text main model m (rooted r k) = record { model = model; main = main; root
 
 module _ (main : Option (List ℕ)) (text : List ℕ) (parsed : HasAnswer (Parses text))
     (tabled : (model : Model) → Parses text (Ok model) → HasAnswer (Tables main model))
-    (unfolded : (m : RootedModel) → KeepsTextRules m → HasAnswer (Unfolds m))
     (declared : (m : RootedModel) (t u : Unfolded) → KeepsTextRules m → Instantiates m (Ok t)
-    → Keeps name_rules name_breaks t (Ok u) → HasAnswer (Declares u))
-    (found : (m : RootedModel) (t : Unfolded) (d e : Declarations) → KeepsTextRules m → Instantiates m (Ok t)
-    → Binds t (Ok d) → Keeps way_rules BreaksWayRule d (Ok e) → HasAnswer (HasSystem e)) where
+    → Keeps name_rules name_breaks t (Ok u) → HasAnswer (Declares u)) where
   instantiated : (m : RootedModel) → KeepsTextRules m → HasAnswer (Instantiates m)
-  instantiated m k = then_answered Unfolds (Then FitsLimits (Keeps unit_rules unit_breaks)) m (unfolded m k)
+  instantiated m k = then_answered Unfolds (Then FitsLimits (Keeps unit_rules unit_breaks)) m
+      (λ no. let u = unfolds_some m k in no u.0 u.1)
       (λ t h. then_answered FitsLimits (Keeps unit_rules unit_breaks) t (limits_answered t)
       (λ u g. keeps_answered unit_rules unit_breaks u))
 
@@ -118,7 +119,8 @@ module _ (main : Option (List ℕ)) (text : List ℕ) (parsed : HasAnswer (Parse
       → Binds t (Ok d) → HasAnswer (Flattens d)
   flattened m t d k i b = then_answered (Keeps way_rules BreaksWayRule) (Then HasSystem Counted) d
       (keeps_answered way_rules BreaksWayRule d)
-      (λ e h. then_answered HasSystem Counted e (found m t d e k i b h) (λ x g. counted_answered x))
+      (λ e h. then_answered HasSystem Counted e (λ no. let s = system_of m t d e i b h in no (Ok s.0) s.1)
+      (λ x g. counted_answered x))
 
   systems : (model : Model) → Parses text (Ok model) → HasAnswer (Systems main model)
   systems model p = then_answered (Tables main) (Then Instantiates (Then Binds Flattens)) model (tabled model p)

@@ -1,7 +1,7 @@
 -- Whether two things are one can be told.
 use Rattle.std.proofs.Common.{◌≡◌, inl, inr, ⊎_elim, ℕ, List, [], ◌∷◌, Option, Some, None, refl, ap}
 use Rattle.std.proofs.lemmas.Bool.{cases_eq}
-use Rattle.ar_meaning.specs.Found.{AreTold}
+use Rattle.ar_meaning.specs.FoundInside.{AreTold}
 use Rattle.class_table.specs.Members.{Site}
 use Rattle.hierarchy.specs.Units.{UnitLevel, Thing}
 

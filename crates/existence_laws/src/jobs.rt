@@ -1,6 +1,6 @@
 //! From a source to what stands ready for a command.
 
-ghost use Rattle.ar_firing.specs.Rules.{HasTargets};
+ghost use Rattle.ar_firing.specs.RulesInside.{HasTargets};
 ghost use Rattle.job_stages.specs.Stages.{Ready, Static};
 ghost use Rattle.existence_laws.specs.Answered.{HasAnswer};
 

@@ -1,7 +1,7 @@
 -- Marks of which facts are known, and how they are set.
 use Rattle.std.specs.Prelude.{◌≡◌, ◌≤◌, ◌⊎◌, ℕ, Bool, true, false, List, length, Option, Some, None}
 use Rattle.ar_base.specs.Lists.{Stands, IsOneOf}
-use Rattle.ar_base.specs.Numbers.{AssignId}
+use Rattle.ar_base.specs.NumbersInside.{AssignId}
 use Rattle.gts_core.specs.declared.system.Assign.{Assign}
 use Rattle.gts_core.specs.declared.system.GtsParts.{GtsParts}
 use Rattle.fact_marks.specs.declared.Mark.{Mark}

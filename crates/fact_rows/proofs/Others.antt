@@ -3,7 +3,7 @@ use Rattle.std.proofs.Common.{◌≡◌, Bool, true, false, List, Contains, sym,
 use Rattle.domains.specs.declared.Value.{Value}
 use Rattle.ar_meaning.specs.Found.{IsAnswer}
 use Rattle.ar_meaning.proofs.OneAnswer.{same_value}
-use Rattle.ar_base.specs.Lists.{HasOther}
+use Rattle.ar_base.specs.ListsInside.{HasOther}
 use Rattle.fact_rows.specs.Rows.{AreTwo, IsTwo}
 
 -- a row with a value that is not its first

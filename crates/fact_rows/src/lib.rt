@@ -2,7 +2,7 @@
 #![tactic(auto)]
 
 ghost use Rattle.std.specs.Prelude.{true, false, [], ◌∷◌, if◌then◌else◌, ◌≡◌, length, IfOk};
-ghost use Rattle.ar_base.specs.Lists.{HasOther};
+ghost use Rattle.ar_base.specs.ListsInside.{HasOther};
 ghost use Rattle.ar_meaning.specs.Found.{IsAnswer};
 ghost use Rattle.fact_rows.specs.Rows.{Starts, IsTwo};
 

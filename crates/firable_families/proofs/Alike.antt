@@ -11,7 +11,7 @@ use Rattle.mode_trees.specs.declared.forests.Edge.{Edge}
 use Rattle.mode_trees.specs.declared.forests.ModeTree as flat
 use Rattle.mode_trees.specs.declared.forests.Forest.{Forest}
 use Rattle.mode_trees.specs.Views.{row_of, tree_of, trees_of}
-use Rattle.firable_families.specs.Firable.{LeadsToMode, root, edge, IsFirableOf}
+use Rattle.firable_families.specs.FirableInside.{LeadsToMode, root, edge, IsFirableOf}
 use Rattle.firable_families.proofs.Trees.{fore}
 
 -- edges between the same modes, of one event

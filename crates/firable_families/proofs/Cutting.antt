@@ -1,13 +1,13 @@
 -- The least firable sets at which a test is true, in the system.
 use Rattle.std.proofs.Common.{◌↔◌, ℕ, Bool, List}
 use Rattle.ar_meaning.specs.Systems.{System}
-use Rattle.ar_meaning.specs.Facts.{AreKeyed}
+use Rattle.ar_meaning.specs.FactsInside.{AreKeyed}
 use Rattle.ar_firing.specs.Static.{IsStatic}
 use Rattle.ar_firing.specs.Cuts.{IsLeast}
 use Rattle.ar_firing.specs.Operands.{IsFirableWith}
 use Rattle.ar_firing.specs.Listed.{AreListed}
 use Rattle.ar_firing.specs.Forest.{ModeTree, IsForest}
-use Rattle.firable_families.specs.Firable.{ListsLeast}
+use Rattle.firable_families.specs.FirableInside.{ListsLeast}
 use Rattle.firable_families.proofs.Listing.{lists_as, lists_listed, listed_lists}
 use Rattle.firable_families.proofs.InForests.{true_in_system}
 

@@ -6,14 +6,17 @@ use Rattle.ar_base.specs.Lists.{Stands, IsOneOf, AreDifferent}
 use Rattle.ar_base.specs.Sets.{Ascends}
 use Rattle.ar_base.proofs.Few.{AllDiffer, all_differ, take_out}
 use Rattle.ar_base.proofs.Standing.{one_none, one_cases, one_first}
-use Rattle.ar_firing.specs.Cuts.{HasAtMost, UpTo}
+use Rattle.ar_firing.specs.Cuts.{HasAtMost}
+use Rattle.ar_firing.specs.CutsInside.{UpTo}
 use Rattle.ar_firing.specs.Forest.{ModeTree}
 use Rattle.ar_firing.specs.Listed.{AreListed}
-use Rattle.zdd_families.specs.Families.{Family, node, IsAbove}
+use Rattle.zdd_families.specs.Families.{Family}
+use Rattle.zdd_families.specs.FamiliesInside.{node, IsAbove}
 use Rattle.zdd_families.proofs.Filters.{IsFamily-filter}
 use Rattle.zdd_families.proofs.Laws.{filter-node, filter_alike, filter-none, every, has-filter-yes, IsAbove-filter}
 use Rattle.zdd_families.proofs.Minimal.{member_of}
-use Rattle.firable_families.specs.Firable.{AndUpTo, IsFirableOf, IsFirableUpTo}
+use Rattle.firable_families.specs.Firable.{AndUpTo}
+use Rattle.firable_families.specs.FirableInside.{IsFirableOf, IsFirableUpTo}
 use Rattle.firable_families.specs.Walk.{few_of, one_fewer}
 use Rattle.firable_families.proofs.Listing.{Lists, lists_listed, listed_lists, filter_part}
 

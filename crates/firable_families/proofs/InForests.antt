@@ -6,7 +6,7 @@ use Rattle.ar_base.specs.Lists.{Stands, IsOneOf}
 use Rattle.ar_base.proofs.Standing.{stands_one, stands_map}
 use Rattle.domains.specs.declared.Value.{Value}
 use Rattle.ar_meaning.specs.Systems.{Variable, System}
-use Rattle.ar_meaning.specs.Facts.{AreKeyed}
+use Rattle.ar_meaning.specs.FactsInside.{AreKeyed}
 use Rattle.ar_meaning.specs.Runs.{Label}
 use Rattle.ar_firing.specs.Fragment as sys_
 use Rattle.ar_firing.specs.Fragment.{Path, Edge, IsModeOf}
@@ -16,7 +16,7 @@ use Rattle.ar_firing.specs.Operands.{IsFirableWith}
 use Rattle.ar_firing.specs.Forest.{ModeTree, IsModeVariable, IsModeTree, IsForest}
 use Rattle.ar_firing.proofs.Ends.{live}
 use Rattle.ar_firing.proofs.TreeEdges.{row_is_live, live_is_row}
-use Rattle.firable_families.specs.Firable.{LeadsToMode, root, edge, IsFirableOf, IsTrueAt}
+use Rattle.firable_families.specs.FirableInside.{LeadsToMode, root, edge, IsFirableOf, IsTrueAt}
 
 -- the path of the tree of this variable, where there is one
 abbrev pub path_for : List ModeTree → (ℕ → List Label) → ℕ → List Label

@@ -16,7 +16,7 @@ use Rattle.zdd_families.proofs.Ascending.{IsAscending}
 use Rattle.zdd_families.proofs.Laws.{holds_here, holds_more}
 use Rattle.zdd_families.proofs.Members.{holds_law}
 use Rattle.zdd_families.proofs.Minimal.{witness}
-use Rattle.firable_families.specs.Firable.{LeadsToMode, root, edge, HaveEvents, IsPathSet, IsFirableOf}
+use Rattle.firable_families.specs.FirableInside.{LeadsToMode, root, edge, HaveEvents, IsPathSet, IsFirableOf}
 use Rattle.firable_families.specs.Walk.{left, occurs, AreTreeFamilies, AreEventsBelow}
 use Rattle.firable_families.proofs.Listing.{lists_listed, stands_has, has_stands}
 use Rattle.firable_families.proofs.Merging.{IsMerged, AreParted, occurs_from, left_sound, map_stands}

@@ -2,7 +2,8 @@
 use Rattle.std.proofs.Common.{◌≡◌, ℕ, zero, suc, ◌+◌, ◌<◌, ◌≤◌, Bool, true, false, cond, ◌&&◌, eqb, List, [], ◌∷◌, refl, sym, ap, ap₂, ◌∙◌, subst, arith, eqb-true, lt_trans}
 use Rattle.std.specs.List.{AllByRecursion, list_all}
 use Rattle.std.proofs.lemmas.Bool.Decides.{nat_tests}
-use Rattle.zdd_families.specs.Families.{Family, has, node, IsAbove}
+use Rattle.zdd_families.specs.Families.{Family, has}
+use Rattle.zdd_families.specs.FamiliesInside.{node, IsAbove}
 use Rattle.zdd_families.specs.Sections.{section}
 use Rattle.zdd_families.proofs.Ascending.{IsAscending}
 use Rattle.zdd_families.proofs.Laws.{IsAbove_set, IsAbove-node}

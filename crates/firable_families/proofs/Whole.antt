@@ -6,7 +6,8 @@ use Rattle.std.proofs.lemmas.Bool.Decides.{nat_tests}
 use Rattle.std.proofs.lemmas.Bool.{false_from_ne_true}
 use Rattle.ar_base.specs.Lists.{Stands}
 use Rattle.ar_base.proofs.Standing.{stands_map}
-use Rattle.zdd_families.specs.Families.{Family, same, holds, has, node, IsFamily}
+use Rattle.zdd_families.specs.Families.{Family, same, holds, has}
+use Rattle.zdd_families.specs.FamiliesInside.{node, IsFamily}
 use Rattle.zdd_families.specs.Sections.{upper, lower, IsCounted}
 use Rattle.zdd_families.proofs.Ascending.{IsAscending, ascends_from}
 use Rattle.zdd_families.proofs.Laws.{has-filter-yes, IsAbove_set, holds_here, holds-above, holds_more}

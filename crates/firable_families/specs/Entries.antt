@@ -6,7 +6,7 @@ use Rattle.domains.specs.declared.Value.{Value}
 use Rattle.ar_meaning.specs.Runs.{Label}
 use Rattle.ar_firing.specs.Forest.{Row, ModeTree}
 use Rattle.zdd_families.specs.Families.{Family, has}
-use Rattle.firable_families.specs.Firable.{LeadsToMode, HaveEvents}
+use Rattle.firable_families.specs.FirableInside.{LeadsToMode, HaveEvents}
 
 -- a mode of the tree with the events of a path that leads to it
 pub record IsEntry (tree : ModeTree) (mode : Value) (set : List ℕ) : Type 0 where

@@ -1,3 +1,4 @@
 pub mod Firable
+pub mod FirableInside
 pub mod Entries
 pub mod Walk

@@ -16,9 +16,10 @@ ghost use Rattle.ar_firing.specs.Forest.{ModeTree, IsForest};
 ghost use Rattle.ar_firing.specs.Trees.{IsTree, AreApart, AreTrees};
 ghost use Rattle.mode_trees.specs.declared.forests.Forest.{Forest};
 ghost use Rattle.mode_trees.specs.Views.{trees_of};
-ghost use Rattle.zdd_families.specs.Families.{Family, IsFamily, minimal};
+ghost use Rattle.zdd_families.specs.Families.{Family, minimal};
+ghost use Rattle.zdd_families.specs.FamiliesInside.{IsFamily};
 ghost use Rattle.zdd_families.specs.Sections.{section};
-ghost use Rattle.firable_families.specs.Firable.{IsPathSet, IsFirableOf, IsFirableUpTo, IsOfMembers, ListsLeast, ListsLeastUpTo};
+ghost use Rattle.firable_families.specs.FirableInside.{IsPathSet, IsFirableOf, IsFirableUpTo, IsOfMembers, ListsLeast, ListsLeastUpTo};
 ghost use Rattle.firable_families.specs.Entries.{AreEntries, HasEntries};
 ghost use Rattle.firable_families.specs.Walk.{left, after, could, few_of, AreTreeFamilies, AreEventsBelow};
 

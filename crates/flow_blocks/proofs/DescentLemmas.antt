@@ -4,7 +4,8 @@ use Rattle.std.specs.Int.{bit_at}
 use Rattle.std.proofs.lemmas.Bool.{cases_eq}
 use Rattle.ar_base.specs.Lists.{Stands, IsOneOf}
 use Rattle.ar_base.proofs.Standing.{stands_none, stands_within, stands_some, stands_one}
-use Rattle.flow_blocks.specs.Blocks.{IsGiven, Depends, directly, Together, same, each_other, AreBelow}
+use Rattle.flow_blocks.specs.Blocks.{IsGiven, Depends, directly, Together, same, each_other}
+use Rattle.flow_blocks.specs.BlocksInside.{AreBelow}
 use Rattle.flow_blocks.specs.Bits.{HasBit, row_of, AreAllDependences}
 use Rattle.flow_blocks.specs.Table.{IsClassTable}
 use Rattle.flow_blocks.specs.Waits.{Crosses, IsReady, WasGiven, IsWaiting, AreGivenTogether, left_to_give}

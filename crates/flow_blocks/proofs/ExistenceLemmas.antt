@@ -3,7 +3,8 @@ use Rattle.std.proofs.Common.{◌≡◌, ℕ, zero, suc, ◌<◌, ◌≤◌, ◌
 use Rattle.std.proofs.lemmas.Bool.{cases_eq, cases_lt}
 use Rattle.ar_base.specs.Lists.{Stands, IsOneOf}
 use Rattle.ar_base.proofs.Standing.{stands_none, stands_one, stands_left, stands_next, stands_split}
-use Rattle.flow_blocks.specs.Blocks.{Depends, directly, through, Together, same, each_other, IsGiven, MayBeGiven, IsNext, Follow, all_given, next, AreBelow}
+use Rattle.flow_blocks.specs.Blocks.{Depends, directly, through, Together, same, each_other, IsGiven, MayBeGiven, IsNext, Follow, all_given, next}
+use Rattle.flow_blocks.specs.BlocksInside.{AreBelow}
 use Rattle.flow_blocks.proofs.ClassLemmas.{depends_on, together_back, together_on}
 use Rattle.flow_blocks.proofs.TableLemmas.{the_one}
 use Rattle.flow_blocks.proofs.DescentLemmas.{count_upto, less}

@@ -4,7 +4,8 @@ use Rattle.std.specs.BTreeSet.{BTreeSet}
 use Rattle.std.proofs.lemmas.Bool.{cases_eq}
 use Rattle.ar_base.specs.Lists.{Stands, IsOneOf}
 use Rattle.ar_base.proofs.Standing.{stands_none, stands_one, stands_left, stands_next, stands_split, stands_within, stands_some, one_first}
-use Rattle.flow_blocks.specs.Blocks.{Depends, directly, through, Together, same, each_other, IsGiven, MayBeGiven, IsNext, AreBelow}
+use Rattle.flow_blocks.specs.Blocks.{Depends, directly, through, Together, same, each_other, IsGiven, MayBeGiven, IsNext}
+use Rattle.flow_blocks.specs.BlocksInside.{AreBelow}
 use Rattle.flow_blocks.specs.Table.{IsClassTable}
 use Rattle.flow_blocks.specs.Waits.{Crosses, IsReady, WasGiven, IsWaiting, IsTaken, AreGivenTogether}
 use Rattle.flow_blocks.specs.declared.giving.Waiting.{Waiting}

@@ -44,7 +44,3 @@ pub data Follow (count : ℕ) (uses : List (ℕ × ℕ)) : List (List ℕ) → L
   all_given : {given : List (List ℕ)} → ((n : ℕ) → n < count → IsGiven given n) → Follow count uses given []
   next : {given rest : List (List ℕ)} {members : List ℕ} → IsNext count uses given members
       → Follow count uses (given ++ members ∷ []) rest → Follow count uses given (members ∷ rest)
-
--- all numbers of the uses are below count
-abbrev pub AreBelow : ℕ → List (ℕ × ℕ) → Type 0
-AreBelow count uses = (a b : ℕ) → IsOneOf uses (a, b) → (a < count) × (b < count)

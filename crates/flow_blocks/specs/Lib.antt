@@ -1,4 +1,5 @@
 pub mod Blocks
+pub mod BlocksInside
 pub mod Bits
 pub mod Table
 pub mod Waits

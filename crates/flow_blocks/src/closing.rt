@@ -2,7 +2,7 @@
 
 ghost use Rattle.std.specs.Prelude.{◌≡◌, ℕ, ◌≤◌, ◌<◌, ◌⊎◌, ◌↔◌, IsTrue, false, IfOk};
 ghost use Rattle.ar_base.specs.Lists.{IsOneOf};
-ghost use Rattle.flow_blocks.specs.Blocks.{AreBelow};
+ghost use Rattle.flow_blocks.specs.BlocksInside.{AreBelow};
 ghost use Rattle.flow_blocks.specs.Bits.{HasBit, AreRows, AreDependences, AreClosed, room_left};
 
 use crate::rows::{add, empty_rows};

@@ -4,7 +4,8 @@ ghost use Rattle.std.specs.Prelude.{◌≡◌, ◌≢◌, ℕ, ◌+◌, ◌<◌,
 ghost use Rattle.std.specs.Prelude.{Vec};
 ghost use Rattle.std.specs.Global.{Global};
 ghost use Rattle.ar_base.specs.Lists.{Stands, IsOneOf};
-ghost use Rattle.flow_blocks.specs.Blocks.{AreBelow, Follow};
+ghost use Rattle.flow_blocks.specs.Blocks.{Follow};
+ghost use Rattle.flow_blocks.specs.BlocksInside.{AreBelow};
 ghost use Rattle.flow_blocks.specs.Bits.{row_of, AreAllDependences};
 ghost use Rattle.flow_blocks.specs.Table.{members_of, IsClassTable};
 ghost use Rattle.flow_blocks.specs.Waits.{Crosses, IsReady, WasGiven, IsWaiting, Waits, IsTaken, left_to_give};

@@ -1,7 +1,8 @@
 //! The classes of a graph, in order.
 
 ghost use Rattle.std.specs.Prelude.{◌≡◌, [], map, IfOk, IsTrue};
-ghost use Rattle.flow_blocks.specs.Blocks.{AreBelow, Follow};
+ghost use Rattle.flow_blocks.specs.Blocks.{Follow};
+ghost use Rattle.flow_blocks.specs.BlocksInside.{AreBelow};
 
 use crate::classing::classes;
 use crate::closing::{close, direct_rows};

@@ -2,7 +2,8 @@
 
 ghost use Rattle.std.specs.Prelude.{◌≡◌, ℕ, ◌<◌, ◌⊎◌, List, [], take};
 ghost use Rattle.ar_base.specs.Lists.{Stands, IsOneOf};
-ghost use Rattle.flow_blocks.specs.Blocks.{Depends, IsGiven, Follow, AreBelow};
+ghost use Rattle.flow_blocks.specs.Blocks.{Depends, IsGiven, Follow};
+ghost use Rattle.flow_blocks.specs.BlocksInside.{AreBelow};
 
 /// Laws of the blocks of a graph.
 ///

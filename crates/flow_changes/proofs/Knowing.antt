@@ -5,7 +5,8 @@ use Rattle.ar_base.specs.Numbers.{VarId}
 use Rattle.domains.specs.declared.Value.{Value}
 use Rattle.domains.specs.declared.Value.TheVariants.{Truth}
 use Rattle.typed_expr.specs.Sets.{HasExactly}
-use Rattle.typed_expr.specs.Yields.{Yields, facts_of}
+use Rattle.typed_expr.specs.Yields.{Yields}
+use Rattle.typed_expr.specs.YieldsInside.{facts_of}
 use Rattle.typed_expr.specs.declared.expr.Expr.{Expr, out-Expr}
 use Rattle.ar_meaning.specs.Facts.{PassesConditions, none, one_and}
 use Rattle.gts_core.specs.Readings.{values_at, one_or_none}

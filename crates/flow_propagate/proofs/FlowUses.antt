@@ -4,7 +4,7 @@ use Rattle.std.proofs.lemmas.List.Sums.{count_by_more_no, count_by_more_yes, cou
 use Rattle.ar_base.specs.Lists.{Stands, IsOneOf}
 use Rattle.ar_base.proofs.Standing.{stands_within, stands_one, stands_none, stands_left, stands_next, stands_map, stands_map_back, one_left, at_most}
 use Rattle.ar_base.proofs.Items.{one_last, last_cases}
-use Rattle.flow_blocks.specs.Blocks.{AreBelow}
+use Rattle.flow_blocks.specs.BlocksInside.{AreBelow}
 use Rattle.ar_base.specs.Numbers.{VarId}
 use Rattle.gts_core.specs.View.{assign_of, net_of}
 use Rattle.gts_core.specs.Sound.{IsSound, IsAssignTo}
@@ -12,7 +12,8 @@ use Rattle.gts_core.specs.declared.system.Variable.{Variable}
 use Rattle.gts_core.specs.declared.system.Assign.{Assign}
 use Rattle.gts_core.specs.declared.system.GtsParts.{GtsParts}
 use Rattle.ar_meaning.specs.Systems as s
-use Rattle.ar_meaning.specs.Dependence.{Names, IsReadBy, IsFlow, DependsOn, AreUses}
+use Rattle.ar_meaning.specs.Dependence.{Names, IsFlow, DependsOn, AreUses}
+use Rattle.ar_meaning.specs.DependenceInside.{IsReadBy}
 use Rattle.ar_meaning.proofs.Dependence.{tests_one}
 use Rattle.flow_propagate.specs.Plan.{AreReaders}
 use Rattle.flow_propagate.specs.Dependence.{flows_in, ArePlaces, AddsUse, AreUsesSoFar}

@@ -4,7 +4,8 @@ use Rattle.std.proofs.lemmas.List.Sums.{sum_by-cons}
 use Rattle.ar_base.specs.Lists.{Stands}
 use Rattle.ar_base.proofs.Standing.{stands_map, stands_map_back}
 use Rattle.ar_meaning.specs.Systems as s
-use Rattle.ar_meaning.specs.Dependence.{Names, IsReadBy, IsFlow, flow_count}
+use Rattle.ar_meaning.specs.Dependence.{Names, IsFlow, flow_count}
+use Rattle.ar_meaning.specs.DependenceInside.{IsReadBy}
 use Rattle.gts_core.specs.View.{assign_of, variable_of, variables_from, net_of}
 use Rattle.gts_core.specs.declared.system.Variable.{Variable}
 use Rattle.gts_core.specs.declared.system.Assign.{Assign}

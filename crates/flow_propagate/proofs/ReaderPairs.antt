@@ -20,7 +20,8 @@ use Rattle.gts_core.proofs.Viewing.{variables_long}
 use Rattle.gts_core.specs.Sound.{IsSound}
 use Rattle.gts_core.specs.declared.system.Assign.{Assign}
 use Rattle.gts_core.specs.declared.system.GtsParts.{GtsParts}
-use Rattle.ar_meaning.specs.Dependence.{Names, IsReadBy}
+use Rattle.ar_meaning.specs.Dependence.{Names}
+use Rattle.ar_meaning.specs.DependenceInside.{IsReadBy}
 use Rattle.flow_propagate.specs.Plan.{ComesBefore, AreReaders, AreGivers}
 use Rattle.gts_core.specs.Named.{ReadsVariable}
 use Rattle.flow_propagate.specs.Named.{IsPairFor, AddsNamed, AreNamed, AreTargets, Ascend}

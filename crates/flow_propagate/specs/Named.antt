@@ -5,7 +5,7 @@ use Rattle.ar_base.specs.Numbers.{VarId}
 use Rattle.gts_core.specs.View.{net_of}
 use Rattle.gts_core.specs.declared.system.Assign.{Assign}
 use Rattle.gts_core.specs.declared.system.GtsParts.{GtsParts}
-use Rattle.ar_meaning.specs.Dependence.{IsReadBy}
+use Rattle.ar_meaning.specs.DependenceInside.{IsReadBy}
 use Rattle.flow_propagate.specs.Plan.{ComesBefore}
 
 -- a variable that has P, by its number, with the assignment's

@@ -1,7 +1,8 @@
 -- How the flows of a system depend on each other, and which assignments read which variable.
 use Rattle.std.specs.Prelude.{◌≡◌, ℕ, ◌<◌, ◌⊎◌, List, [], length, map}
 use Rattle.ar_base.specs.Lists.{Stands, IsOneOf}
-use Rattle.ar_meaning.specs.Dependence.{IsReadBy, AreUses, flow_count}
+use Rattle.ar_meaning.specs.Dependence.{AreUses, flow_count}
+use Rattle.ar_meaning.specs.DependenceInside.{IsReadBy}
 use Rattle.flow_blocks.specs.Blocks.{Follow}
 use Rattle.flow_blocks.specs.declared.graph.Block.{Block}
 use Rattle.gts_core.specs.View.{net_of}

@@ -2,7 +2,8 @@
 
 ghost use Rattle.std.specs.Prelude.{◌≡◌, ◌<◌, ◌+◌, ◌^◌, length, IfOk};
 ghost use Rattle.gts_core.specs.Sound.{IsSound};
-ghost use Rattle.ar_meaning.specs.Dependence.{IsReadBy, AreUses};
+ghost use Rattle.ar_meaning.specs.Dependence.{AreUses};
+ghost use Rattle.ar_meaning.specs.DependenceInside.{IsReadBy};
 ghost use Rattle.gts_core.specs.View.{net_of};
 ghost use Rattle.flow_propagate.specs.Plan.{AreReaders};
 ghost use Rattle.flow_propagate.specs.Dependence.{flows_in, ArePlaces, AddsUse};

@@ -2,7 +2,8 @@
 
 ghost use Rattle.std.specs.Prelude.{[], ◌∷◌, ◌≡◌, ◌<◌, ◌≤◌, ℕ, List, length, IfOk};
 ghost use Rattle.domains.specs.declared.Value.{Value};
-ghost use Rattle.ar_meaning.specs.Found.{IsAnswer, IsFirstOrNone};
+ghost use Rattle.ar_meaning.specs.Found.{IsAnswer};
+ghost use Rattle.ar_meaning.specs.FoundInside.{IsFirstOrNone};
 ghost use Rattle.gts_core.specs.Sound.{IsSound};
 ghost use Rattle.typed_expr.specs.Rows.{row_at};
 ghost use Rattle.flow_propagate.specs.Totals.{Completed, completed_value, AreMarks, Breaks};

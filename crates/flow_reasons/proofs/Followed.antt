@@ -9,7 +9,8 @@ use Rattle.domains.specs.declared.Value.{Value}
 use Rattle.typed_expr.specs.Mentions.{Mentions}
 use Rattle.typed_expr.specs.declared.expr.Expr.{Expr, out-Expr}
 use Rattle.ar_meaning.specs.Systems as s
-use Rattle.flow_reasons.specs.Reasons.{IsReason, derived, reset, AreReasonsFrom, AreReasons, none, state, flow, InCone, named, rested_on, IsCone}
+use Rattle.flow_reasons.specs.Reasons.{IsReason, derived, reset, AreReasonsFrom, AreReasons, none, state, flow, InCone, named, rested_on}
+use Rattle.flow_reasons.specs.ReasonsInside.{IsCone}
 use Rattle.flow_reasons.specs.Reasons as rounds
 use Rattle.flow_reasons.proofs.RoundStanding.{reason_at}
 use Rattle.gts_core.specs.Sound.{IsSound}

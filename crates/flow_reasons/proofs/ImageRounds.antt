@@ -3,12 +3,13 @@ use Rattle.std.proofs.Common.{ℕ, zero, suc, List, inl, inr, sym, ◌∙◌, su
 use Rattle.ar_base.specs.Lists.{Along}
 use Rattle.ar_base.specs.Lists as l
 use Rattle.domains.specs.declared.Value.{Value}
-use Rattle.typed_expr.specs.Pairs.{turned}
+use Rattle.typed_expr.specs.PairsInside.{turned}
 use Rattle.typed_expr.specs.declared.expr.Expr.{Expr}
 use Rattle.typed_expr.proofs.Renaming.{carries, Mentioned, mentions_carry}
 use Rattle.ar_meaning.specs.Systems.{Assign, Variable, Net}
 use Rattle.ar_meaning.specs.Dependence.{Names}
-use Rattle.ar_meaning.specs.Image.{Assign_renames, Variable_renames, Expr_renames, IsNetImage}
+use Rattle.ar_meaning.specs.Image.{Assign_renames, Variable_renames, Expr_renames}
+use Rattle.ar_meaning.specs.ImageInside.{IsNetImage}
 use Rattle.ar_meaning.proofs.Dependence.{tests_there}
 use Rattle.ar_meaning.proofs.ImageFlows.{partner, passes_carry, given_there, allows_there, fact_there}
 use Rattle.ar_meaning.proofs.ImageTurned.{net_turned, assign_turned}

@@ -4,7 +4,8 @@ use Rattle.std.proofs.lemmas.Bool.{ltb-true}
 use Rattle.std.proofs.lemmas.Bool.Decides.{nat_tests}
 use Rattle.std.proofs.lemmas.List.{take_more, take_all, map-append, length-take-le}
 use Rattle.ar_base.specs.Lists.{Stands, IsOneOf}
-use Rattle.ar_base.specs.Numbers.{VarId, AssignId}
+use Rattle.ar_base.specs.Numbers.{VarId}
+use Rattle.ar_base.specs.NumbersInside.{AssignId}
 use Rattle.ar_base.proofs.Standing.{stands_one, stands_within, stands_some, stands_map_back, stands_get, one_here}
 use Rattle.domains.specs.declared.Value.{Value}
 use Rattle.ar_meaning.specs.Systems as s

@@ -3,7 +3,8 @@ use Rattle.std.proofs.Common.{◌≡◌, ◌<◌, ◌≤◌, ◌+◌, ◌⊎◌,
 use Rattle.std.proofs.lemmas.Bool.{cases_eq}
 use Rattle.std.proofs.lemmas.List.{take_more, take_all, map-append}
 use Rattle.ar_base.specs.Lists.{Stands, IsOneOf}
-use Rattle.ar_base.specs.Numbers.{VarId, AssignId}
+use Rattle.ar_base.specs.Numbers.{VarId}
+use Rattle.ar_base.specs.NumbersInside.{AssignId}
 use Rattle.ar_base.proofs.Standing.{stands_one, stands_some, stands_get, stands_none, one_none, one_here}
 use Rattle.ar_base.proofs.Sets.{ascends_push}
 use Rattle.ar_meaning.specs.Found.{IsAnswer}

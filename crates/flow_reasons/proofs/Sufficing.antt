@@ -10,7 +10,8 @@ use Rattle.ar_meaning.specs.Systems.{Assign, Variable, Net}
 use Rattle.ar_meaning.specs.Facts.{PassesConditions, FactOf}
 use Rattle.ar_meaning.specs.Dependence.{Names}
 use Rattle.ar_meaning.proofs.Dependence.{passes_named}
-use Rattle.flow_reasons.specs.Rounds.{Round, OfThese}
+use Rattle.flow_reasons.specs.Rounds.{Round}
+use Rattle.flow_reasons.specs.RoundsInside.{OfThese}
 use Rattle.flow_reasons.specs.Reasons.{Reason, IsDerived}
 use Rattle.flow_reasons.proofs.RoundRounding.{round_fact, placed}
 

@@ -2,7 +2,8 @@
 use Rattle.std.specs.Prelude.{ℕ, ⊤, List, map, Result, Ok, Err, Vec}
 use Rattle.std.specs.Option.{option_map}
 use Rattle.std.specs.Global.{Global}
-use Rattle.ar_base.specs.Numbers.{VarId, AssignId}
+use Rattle.ar_base.specs.Numbers.{VarId}
+use Rattle.ar_base.specs.NumbersInside.{AssignId}
 use Rattle.domains.specs.declared.Value.{Value}
 use Rattle.ar_meaning.specs.Systems.{Net}
 use Rattle.ar_meaning.specs.Flows.{Flows, Fails}

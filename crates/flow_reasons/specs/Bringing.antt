@@ -5,7 +5,7 @@ use Rattle.ar_base.specs.Sets.{Ascends}
 use Rattle.domains.specs.declared.Value.{Value}
 use Rattle.typed_expr.specs.Yields.{Yields}
 use Rattle.typed_expr.specs.declared.expr.Expr.{out-Expr}
-use Rattle.ar_meaning.specs.Dependence.{IsReadBy}
+use Rattle.ar_meaning.specs.DependenceInside.{IsReadBy}
 use Rattle.ar_meaning.specs.Facts.{PassesConditions}
 use Rattle.gts_core.specs.View.{net_of, assign_of}
 use Rattle.gts_core.specs.declared.system.Assign.{Assign}

@@ -3,5 +3,7 @@ pub mod Bringing
 pub mod Cones
 pub mod Marks
 pub mod Reasons
+pub mod ReasonsInside
 pub mod Resting
 pub mod Rounds
+pub mod RoundsInside

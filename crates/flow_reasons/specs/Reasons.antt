@@ -78,9 +78,3 @@ pub data InCone {V : Type 0} (net : Net V) (reasons : List Reason) (e : Expr V) 
   named : {n : ℕ} (x : Variable V) → Stands net.variables n x → Mentions x.key (out-Expr V e) → InCone net reasons e n
   rested_on : {n : ℕ} (r : Reason) → IsOneOf reasons r → InCone net reasons e r.flow → IsOneOf r.rests_on n
       → InCone net reasons e n
-
--- the variables of the cone, by number, each once
-pub record IsCone {V : Type 0} (net : Net V) (reasons : List Reason) (e : Expr V) (numbers : List ℕ) : Type 0 where
-  pub ascends : Ascends numbers
-  pub sound : (n : ℕ) → IsOneOf numbers n → InCone net reasons e n
-  pub whole : (n : ℕ) → InCone net reasons e n → IsOneOf numbers n

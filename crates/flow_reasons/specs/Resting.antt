@@ -2,7 +2,8 @@
 use Rattle.std.specs.Prelude.{◌≡◌, ◌↔◌, ℕ, Bool, true, false, nat_lt, List, [], ◌∷◌, ◌++◌, length, Some, None, Vec}
 use Rattle.std.specs.Global.{Global}
 use Rattle.ar_base.specs.Lists.{Stands, IsOneOf}
-use Rattle.ar_base.specs.Numbers.{VarId, AssignId}
+use Rattle.ar_base.specs.Numbers.{VarId}
+use Rattle.ar_base.specs.NumbersInside.{AssignId}
 use Rattle.ar_base.specs.Sets.{Ascends}
 use Rattle.domains.specs.declared.Value.{Value}
 use Rattle.flow_reasons.specs.Reasons as rounds

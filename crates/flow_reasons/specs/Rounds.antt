@@ -1,10 +1,10 @@
 -- The rounds in which the facts of a state come.
 use Rattle.std.specs.Prelude.{◌≡◌, ◌⊎◌, ℕ, zero, suc, List}
-use Rattle.ar_base.specs.Lists.{Stands, IsOneOf}
+use Rattle.ar_base.specs.Lists.{IsOneOf}
 use Rattle.domains.specs.declared.Value.{Value}
 use Rattle.typed_expr.specs.Yields.{Yields}
 use Rattle.typed_expr.specs.declared.expr.Expr.{out-Expr}
-use Rattle.ar_meaning.specs.Systems.{Assign, Variable, Net}
+use Rattle.ar_meaning.specs.Systems.{Assign, Net}
 use Rattle.ar_meaning.specs.Facts.{PassesConditions, Allows, HasStateValue}
 
 -- the assignment is one to the variable, the facts reach it, and from them it yields the value, which the variable's
@@ -27,13 +27,3 @@ pub record IsAdded {V : Type 0} (net : Net V) (facts : V → Value → Type 0) (
 abbrev pub Round : {V : Type 0} → Net V → List Value → ℕ → V → Value → Type 0
 Round net t zero x v = HasStateValue net t x v
 Round net t (suc k) x v = Round net t k x v ⊎ IsAdded net (Round net t k) x v
-
--- of the facts those of these variables alone
-pub record OfThese {V : Type 0} (net : Net V) (numbers : List ℕ) (facts : V → Value → Type 0) (x : V) (v : Value) : Type
-    0 where
-  pub place : ℕ
-  pub is_one : IsOneOf numbers place
-  pub variable : Variable V
-  pub stands : Stands net.variables place variable
-  pub is_key : variable.key ≡ x
-  pub has : facts x v

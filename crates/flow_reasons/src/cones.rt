@@ -4,7 +4,7 @@ ghost use Rattle.std.specs.Prelude.{◌≡◌, ◌==◌, ◌<◌, ℕ, [], if◌
 ghost use Rattle.ar_base.specs.Lists.{Stands, IsOneOf};
 ghost use Rattle.gts_core.specs.View.{net_of, numbered};
 ghost use Rattle.gts_core.specs.declared.system.Observer.{Observer};
-ghost use Rattle.flow_reasons.specs.Reasons.{IsCone};
+ghost use Rattle.flow_reasons.specs.ReasonsInside.{IsCone};
 ghost use Rattle.flow_reasons.specs.Answers.{numbers_of, reasons_of, AreOfState};
 ghost use Rattle.flow_reasons.specs.Cones.{AreOrderly, AreReached, AreRestsUpon};
 

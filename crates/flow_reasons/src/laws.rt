@@ -10,8 +10,10 @@ ghost use Rattle.ar_meaning.specs.Facts.{PassesConditions, FactOf};
 ghost use Rattle.ar_meaning.specs.Flows.{Flows, Total};
 ghost use Rattle.ar_meaning.specs.Image.{Expr_renames};
 ghost use Rattle.ar_meaning.specs.FlatOf.{IsNumber, IsFlatOf};
-ghost use Rattle.flow_reasons.specs.Rounds.{Round, OfThese};
-ghost use Rattle.flow_reasons.specs.Reasons.{Reason, IsDerived, AreReasons, InCone, IsCone};
+ghost use Rattle.flow_reasons.specs.Rounds.{Round};
+ghost use Rattle.flow_reasons.specs.RoundsInside.{OfThese};
+ghost use Rattle.flow_reasons.specs.Reasons.{Reason, IsDerived, AreReasons, InCone};
+ghost use Rattle.flow_reasons.specs.ReasonsInside.{IsCone};
 
 /// Laws of rounds, reasons and cones.
 ///

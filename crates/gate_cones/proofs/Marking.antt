@@ -5,7 +5,7 @@ use Rattle.ar_base.proofs.Standing.{stands_one, stands_within, stands_left, one_
 use Rattle.ar_base.proofs.Items.{none_marked}
 use Rattle.eq_core.specs.Gates.{Operand, Always, Never, EventIs, GateIs, Gate}
 use Rattle.eq_core.specs.Ordered.{AreBelow, AreOrdered}
-use Rattle.eq_core.specs.Values.{IsBelow}
+use Rattle.eq_core.specs.ValuesInside.{IsBelow}
 use Rattle.eq_core.proofs.Telling.{place_below}
 use Rattle.gate_cones.specs.Cones.{InGateCone, own, named}
 use Rattle.gate_cones.specs.Marks.{AreMarks, Marks}

@@ -2,7 +2,7 @@
 
 ghost use Rattle.std.specs.Prelude.{◌<◌, IfOk, map, length, [], ◌∷◌};
 ghost use Rattle.eq_core.specs.Ordered.{AreBelow, AreOrdered};
-ghost use Rattle.eq_core.specs.Values.{IsBelow};
+ghost use Rattle.eq_core.specs.ValuesInside.{IsBelow};
 ghost use Rattle.eq_core.specs.Views.{gate_of, operand_of};
 ghost use Rattle.gate_cones.specs.Marks.{AreMarks, Marks};
 

@@ -4,7 +4,8 @@ use Rattle.std.specs.List.{All, list_any}
 use Rattle.std.proofs.lemmas.List.Elements.{All-append, All-weaker}
 use Rattle.ar_firing.specs.Forest.{ModeTree}
 use Rattle.ar_firing.specs.Listed.{AreListed}
-use Rattle.zdd_families.specs.Families.{Family, within, has, IsFamily, minimal}
+use Rattle.zdd_families.specs.Families.{Family, within, has, minimal}
+use Rattle.zdd_families.specs.FamiliesInside.{IsFamily}
 use Rattle.zdd_families.specs.Sections.{IsCounted, IsHalf, IsMoreThan}
 use Rattle.zdd_families.proofs.Filters.{IsFamily-filter}
 use Rattle.zdd_families.proofs.Laws.{same-refl, within-refl}
@@ -18,7 +19,7 @@ use Rattle.zdd_nodes.proofs.Lists.{some_sets}
 use Rattle.zdd_nodes.proofs.Limits.{full_is_more}
 use Rattle.eq_core.specs.Gates.{Operand, Gate, Table}
 use Rattle.eq_core.specs.Values.{value_at}
-use Rattle.firable_families.specs.Firable.{IsFirableUpTo, ListsLeastUpTo}
+use Rattle.firable_families.specs.FirableInside.{IsFirableUpTo, ListsLeastUpTo}
 use Rattle.firable_families.proofs.Listing.{true_lists, least_listed}
 use Rattle.gate_diagrams.specs.Needed.{family_at, IsNeeded, IsNeededByBoth}
 use Rattle.gate_diagrams.specs.NodeLimits.{IsConflictUpTo, NodesMayUpTo}

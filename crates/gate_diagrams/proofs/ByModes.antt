@@ -5,7 +5,8 @@ use Rattle.std.proofs.lemmas.List.Elements.{All-nil, All-get_or}
 use Rattle.ar_base.proofs.Standing.{stands_one, stands_within, stands_get}
 use Rattle.ar_firing.specs.Forest.{ModeTree}
 use Rattle.ar_firing.specs.Listed.{AreListed}
-use Rattle.zdd_families.specs.Families.{Family, IsFamily, minimal}
+use Rattle.zdd_families.specs.Families.{Family, minimal}
+use Rattle.zdd_families.specs.FamiliesInside.{IsFamily}
 use Rattle.zdd_families.specs.Sections.{IsCounted, IsHalf}
 use Rattle.zdd_nodes.specs.Nodes.{NodeId, Stored, family, Draws, IsNumber, IsSoundStore}
 use Rattle.zdd_nodes.specs.declared.NodeFault.{NodeFault}
@@ -13,9 +14,10 @@ use Rattle.zdd_nodes.specs.declared.NodeFault.TheVariants.{Full, Memory as OutOf
 use Rattle.zdd_nodes.proofs.Growing.{Draws-weaker, Draws-refused}
 use Rattle.eq_core.specs.Gates.{Operand, GateIs, Gate, Table}
 use Rattle.eq_core.specs.Ordered.{AreOrdered}
-use Rattle.eq_core.specs.Values.{IsBelow, value_at}
+use Rattle.eq_core.specs.Values.{value_at}
+use Rattle.eq_core.specs.ValuesInside.{IsBelow}
 use Rattle.eq_core.proofs.Telling.{place_below}
-use Rattle.firable_families.specs.Firable.{IsFirableUpTo, IsTrueUpTo, ListsLeastUpTo}
+use Rattle.firable_families.specs.FirableInside.{IsFirableUpTo, IsTrueUpTo, ListsLeastUpTo}
 use Rattle.firable_families.proofs.Few.{firable_of, small_of, firable_up_to}
 use Rattle.firable_families.proofs.Listing.{Lists, lists_listed, listed_lists, true_lists}
 use Rattle.mode_nodes.specs.Bounds.{Bounded, GrowsWithin}

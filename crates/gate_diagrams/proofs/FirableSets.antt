@@ -12,7 +12,7 @@ use Rattle.zdd_families.proofs.Minimal.{member_of}
 use Rattle.zdd_families.proofs.OneList.{same_sets}
 use Rattle.zdd_nodes.specs.Nodes.{NodeId, Stored, Draws}
 use Rattle.zdd_nodes.specs.declared.NodeFault.{NodeFault}
-use Rattle.firable_families.specs.Firable.{IsFirableUpTo}
+use Rattle.firable_families.specs.FirableInside.{IsFirableUpTo}
 use Rattle.firable_families.specs.Walk.{left, few_of, AreTreeFamilies}
 use Rattle.firable_families.proofs.Few.{few_listed}
 use Rattle.firable_families.proofs.Listing.{Lists, listed_lists}

@@ -3,7 +3,8 @@ use Rattle.std.proofs.Common.{◌≡◌, ℕ, ◌+◌, Bool, true, false, List, 
 use Rattle.std.proofs.lemmas.List.{take_more, take_all}
 use Rattle.std.proofs.lemmas.Option.{slice_get_within, get_or_from_slice_get}
 use Rattle.ar_base.specs.Lists.{Stands}
-use Rattle.zdd_families.specs.Families.{Family, IsInOrder, union, meet, minus, having, minimal}
+use Rattle.zdd_families.specs.Families.{Family, minimal}
+use Rattle.zdd_families.specs.FamiliesInside.{IsInOrder, union, meet, minus, having}
 use Rattle.zdd_families.specs.Sections.{IsCounted, IsHalf}
 use Rattle.zdd_nodes.specs.Nodes.{NodeId, Stored, family, Draws}
 use Rattle.zdd_nodes.specs.declared.NodeFault.{NodeFault}

@@ -1,6 +1,7 @@
 -- What the family of an operand adds to the store is needed.
 use Rattle.std.proofs.Common.{◌≡◌, ℕ, Bool, true, false, List, Result, Ok, Err, sym, ap, ap₂, ◌∙◌, subst, arith}
-use Rattle.zdd_families.specs.Families.{Family, minus, having}
+use Rattle.zdd_families.specs.Families.{Family}
+use Rattle.zdd_families.specs.FamiliesInside.{minus, having}
 use Rattle.zdd_families.specs.Sections.{IsCounted}
 use Rattle.zdd_nodes.specs.Nodes.{NodeId, Stored, family, IsNumber, Draws}
 use Rattle.zdd_nodes.specs.declared.NodeFault.{NodeFault}

@@ -4,7 +4,8 @@ use Rattle.std.proofs.lemmas.List.{map-append}
 use Rattle.std.proofs.lemmas.List.Folds.{list_any-append}
 use Rattle.ar_base.specs.Lists.{Stands}
 use Rattle.ar_base.proofs.Standing.{stands_none, stands_split}
-use Rattle.zdd_families.specs.Families.{Family, IsAbove}
+use Rattle.zdd_families.specs.Families.{Family}
+use Rattle.zdd_families.specs.FamiliesInside.{IsAbove}
 use Rattle.zdd_families.specs.Sections.{lower}
 use Rattle.zdd_families.proofs.Laws.{IsAbove-node}
 use Rattle.zdd_nodes.specs.Nodes.{NodeId, Stored, family, IsNumber, IsNode}

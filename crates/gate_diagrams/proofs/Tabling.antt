@@ -16,14 +16,15 @@ use Rattle.ar_firing.specs.Trees.{IsTree}
 use Rattle.mode_trees.specs.declared.forests.Edge.{Edge}
 use Rattle.mode_trees.specs.declared.forests.ModeTree.{ModeTree as Tree}
 use Rattle.mode_trees.specs.Views.{row_of, tree_of}
-use Rattle.zdd_families.specs.Families.{Family, same, has, union}
+use Rattle.zdd_families.specs.Families.{Family, same, has}
+use Rattle.zdd_families.specs.FamiliesInside.{union}
 use Rattle.zdd_families.specs.Sections.{IsCounted}
 use Rattle.zdd_families.proofs.Laws.{same-refl, same-true}
 use Rattle.zdd_families.proofs.Members.{has-union}
 use Rattle.zdd_nodes.specs.Nodes.{NodeId, Stored, family, IsSoundStore, Draws}
 use Rattle.zdd_nodes.specs.declared.NodeFault.{NodeFault}
 use Rattle.zdd_nodes.proofs.Growing.{Grows-then, kept}
-use Rattle.firable_families.specs.Firable.{root, edge, HaveEvents, IsPathSet}
+use Rattle.firable_families.specs.FirableInside.{root, edge, HaveEvents, IsPathSet}
 use Rattle.firable_families.specs.Entries.{IsEntry, HasEntries}
 use Rattle.firable_families.proofs.ModePaths.{entries_listed}
 use Rattle.mode_diagrams.specs.Numbers.{IsEnteredBefore}

@@ -10,7 +10,7 @@ use Rattle.ar_firing.specs.Listed.{AreListed}
 use Rattle.zdd_families.specs.Families.{Family}
 use Rattle.zdd_nodes.specs.Nodes.{NodeId, Stored, family, IsNumber}
 use Rattle.zdd_nodes.proofs.Growing.{kept, still}
-use Rattle.firable_families.specs.Firable.{IsPathSet}
+use Rattle.firable_families.specs.FirableInside.{IsPathSet}
 use Rattle.firable_families.specs.Walk.{AreTreeFamilies}
 use Rattle.gate_diagrams.specs.Walked.{families_left, AreNumbers}
 use Rattle.gate_diagrams.specs.Paths.{Extends}

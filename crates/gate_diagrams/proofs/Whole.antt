@@ -16,7 +16,7 @@ use Rattle.zdd_nodes.specs.declared.NodeFault.{NodeFault}
 use Rattle.zdd_nodes.specs.declared.NodeFault.TheVariants.{Full}
 use Rattle.zdd_nodes.proofs.Limits.{full_is_more}
 use Rattle.eq_core.specs.Gates.{Table}
-use Rattle.firable_families.specs.Firable.{IsFirableUpTo}
+use Rattle.firable_families.specs.FirableInside.{IsFirableUpTo}
 use Rattle.firable_families.specs.Walk.{left, few_of, AreTreeFamilies}
 use Rattle.firable_families.proofs.Few.{few_listed}
 use Rattle.firable_families.proofs.Trees.{walk_lists}

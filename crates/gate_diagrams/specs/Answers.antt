@@ -6,7 +6,7 @@ use Rattle.zdd_families.specs.Families.{Family}
 use Rattle.zdd_nodes.specs.Nodes.{Stored, family, IsNumber}
 use Rattle.eq_core.specs.Gates.{Table}
 use Rattle.eq_core.specs.Values.{value_at}
-use Rattle.firable_families.specs.Firable.{ListsLeastUpTo}
+use Rattle.firable_families.specs.FirableInside.{ListsLeastUpTo}
 use Rattle.gate_diagrams.specs.Needed.{IsNeeded, IsNeededByBoth}
 use Rattle.gate_diagrams.specs.NodeLimits.{IsConflictUpTo}
 use Rattle.gate_diagrams.specs.declared.answer.Drawn.{Drawn}

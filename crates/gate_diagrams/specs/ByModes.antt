@@ -6,7 +6,7 @@ use Rattle.zdd_families.specs.Families.{Family}
 use Rattle.zdd_nodes.specs.Nodes.{family, IsNumber, IsSoundStore}
 use Rattle.zdd_nodes.specs.declared.NodeFault.TheVariants as NodeFault
 use Rattle.eq_core.specs.Gates.{Operand, Gate, Table}
-use Rattle.firable_families.specs.Firable.{IsFirableUpTo}
+use Rattle.firable_families.specs.FirableInside.{IsFirableUpTo}
 use Rattle.diagram_steps.specs.declared.trees.NumberedTree.{NumberedTree}
 use Rattle.mode_diagrams.specs.declared.drawing.Undrawn.{Undrawn}
 use Rattle.mode_diagrams.specs.Numbers.{IsByModes}

@@ -1,7 +1,8 @@
 -- What the drawing of gates keeps.
 use Rattle.std.specs.Prelude.{◌≡◌, ◌<◌, ℕ, Bool, true, List, length}
 use Rattle.ar_base.specs.Lists.{Stands, IsOneOf}
-use Rattle.zdd_families.specs.Families.{Family, IsInOrder}
+use Rattle.zdd_families.specs.Families.{Family}
+use Rattle.zdd_families.specs.FamiliesInside.{IsInOrder}
 use Rattle.zdd_nodes.specs.Nodes.{NodeId, Stored, family, IsNumber}
 use Rattle.eq_core.specs.Gates.{Operand, GateIs, Gate}
 use Rattle.eq_core.specs.Ordered.{AreOrdered}

@@ -6,7 +6,7 @@ use Rattle.zdd_families.specs.Families.{Family}
 use Rattle.zdd_families.specs.Sections.{IsMoreThan}
 use Rattle.eq_core.specs.Gates.{Table}
 use Rattle.eq_core.specs.Values.{value_at}
-use Rattle.firable_families.specs.Firable.{IsFirableUpTo, IsTrueUpTo}
+use Rattle.firable_families.specs.FirableInside.{IsFirableUpTo, IsTrueUpTo}
 use Rattle.gate_diagrams.specs.Needed.{IsNeeded, IsNeededByBoth}
 
 -- the set is firable in the trees, has at most as many events as are asked for, and the table's conflict operand is true at it

@@ -5,7 +5,7 @@ use Rattle.std.specs.Option.{option_eq}
 use Rattle.std.specs.Map.{lookup}
 use Rattle.std.specs.Cmp.Lexicographic.{pointwise}
 use Rattle.ar_base.specs.Lists.{Stands}
-use Rattle.ar_base.specs.Numbers.{EventId}
+use Rattle.ar_base.specs.NumbersInside.{EventId}
 use Rattle.zdd_families.specs.Families.{Family}
 use Rattle.zdd_families.specs.Sections.{lower}
 use Rattle.zdd_nodes.specs.Nodes.{NodeId, Stored, family, IsNumber}

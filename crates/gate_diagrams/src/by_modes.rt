@@ -9,7 +9,7 @@ ghost use Rattle.mode_trees.specs.Views.{trees_of};
 ghost use Rattle.zdd_families.specs.Families.{Family as Sets};
 ghost use Rattle.eq_core.specs.Ordered.{IsOrderedTable};
 ghost use Rattle.eq_core.specs.Views.{table_of};
-ghost use Rattle.firable_families.specs.Firable.{IsFirableUpTo};
+ghost use Rattle.firable_families.specs.FirableInside.{IsFirableUpTo};
 ghost use Rattle.mode_diagrams.specs.Trees.{AreNumbered, AreApart};
 ghost use Rattle.mode_diagrams.specs.Costs.{HaveDifferentEvents};
 ghost use Rattle.mode_diagrams.specs.Numbers.{HasFewEdges, IsByModes};

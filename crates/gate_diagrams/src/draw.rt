@@ -1,11 +1,11 @@
 //! The family of an operand, with those of the gates that it rests on.
 
 ghost use Rattle.std.specs.Prelude.{◌≡◌, map, length, cond, true, []};
-ghost use Rattle.zdd_families.specs.Families.{IsInOrder};
+ghost use Rattle.zdd_families.specs.FamiliesInside.{IsInOrder};
 ghost use Rattle.zdd_nodes.specs.Nodes.{family, IsNumber, Draws};
 ghost use Rattle.eq_core.specs.Gates.{GateIs};
 ghost use Rattle.eq_core.specs.Ordered.{AreOrdered};
-ghost use Rattle.eq_core.specs.Values.{IsBelow};
+ghost use Rattle.eq_core.specs.ValuesInside.{IsBelow};
 ghost use Rattle.eq_core.specs.Views.{gate_of, operand_of};
 ghost use Rattle.gate_diagrams.specs.Needed.{family_at, IsNeeded};
 ghost use Rattle.gate_diagrams.specs.Drawing.{IsReady};

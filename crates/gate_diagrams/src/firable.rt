@@ -7,7 +7,7 @@ ghost use Rattle.ar_firing.specs.Trees.{AreApart};
 ghost use Rattle.zdd_families.specs.Families.{Family as Sets};
 ghost use Rattle.zdd_families.specs.Sections.{IsCounted};
 ghost use Rattle.zdd_nodes.specs.Nodes.{Draws, IsSoundStore};
-ghost use Rattle.firable_families.specs.Firable.{IsFirableUpTo};
+ghost use Rattle.firable_families.specs.FirableInside.{IsFirableUpTo};
 ghost use Rattle.firable_families.specs.Walk.{AreTreeFamilies};
 ghost use Rattle.gate_diagrams.specs.Walked.{families_left, AreNumbers};
 

@@ -7,7 +7,7 @@ ghost use Rattle.mode_trees.specs.Views.{trees_of};
 ghost use Rattle.zdd_families.specs.Families.{Family as Sets};
 ghost use Rattle.eq_core.specs.Ordered.{IsOrderedTable};
 ghost use Rattle.eq_core.specs.Views.{table_of};
-ghost use Rattle.firable_families.specs.Firable.{IsFirableOf, IsFirableUpTo};
+ghost use Rattle.firable_families.specs.FirableInside.{IsFirableOf, IsFirableUpTo};
 ghost use Rattle.gate_diagrams.specs.NodeLimits.{NodesMay, NodesMayUpTo};
 ghost use Rattle.gate_diagrams.specs.Answers.{IsAnswer, IsAnswerUpTo, AreNeeded, store_of};
 

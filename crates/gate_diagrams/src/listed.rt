@@ -6,7 +6,7 @@ ghost use Rattle.zdd_families.specs.Families.{Family as Sets, minimal};
 ghost use Rattle.zdd_nodes.specs.Nodes.{family, IsNumber, IsSoundStore, Draws};
 ghost use Rattle.eq_core.specs.Gates.{Gate as GateOf, Operand as OperandOf};
 ghost use Rattle.eq_core.specs.Ordered.{AreOrdered};
-ghost use Rattle.eq_core.specs.Values.{IsBelow};
+ghost use Rattle.eq_core.specs.ValuesInside.{IsBelow};
 ghost use Rattle.eq_core.specs.Views.{gate_of, operand_of};
 ghost use Rattle.mode_diagrams.specs.Trees.{AreNumbered, AreApart};
 ghost use Rattle.mode_diagrams.specs.Costs.{HaveDifferentEvents};

@@ -7,7 +7,7 @@ ghost use Rattle.ar_firing.specs.Listed.{AreListed};
 ghost use Rattle.ar_firing.specs.Trees.{IsTree, AreTrees};
 ghost use Rattle.mode_trees.specs.Views.{row_of, tree_of};
 ghost use Rattle.zdd_nodes.specs.Nodes.{family, IsNumber, IsSoundStore};
-ghost use Rattle.firable_families.specs.Firable.{IsPathSet};
+ghost use Rattle.firable_families.specs.FirableInside.{IsPathSet};
 ghost use Rattle.firable_families.specs.Walk.{AreTreeFamilies};
 ghost use Rattle.gate_diagrams.specs.Walked.{families_left, AreNumbers};
 ghost use Rattle.gate_diagrams.specs.Paths.{Extends, IsOneSet, IsWith, IsKnown, IsTabled};

@@ -14,7 +14,8 @@ use Rattle.zdd_families.proofs.Ascending.{IsAscending, is_ascending, ascends_fro
 use Rattle.zdd_families.proofs.Laws.{same-true, same-refl}
 use Rattle.zdd_families.proofs.Members.{holds_law}
 use Rattle.zdd_families.proofs.Minimal.{member_of}
-use Rattle.gate_modules.specs.Modules.{lies, inside, outside, joined_sets, IsPartOfUnit, IsModule, AreApart}
+use Rattle.gate_modules.specs.Modules.{lies, inside, outside, joined_sets, IsPartOfUnit, IsModule}
+use Rattle.gate_modules.specs.ModulesInside.{AreApart}
 use Rattle.gate_modules.specs.Shortened.{ShortForm, touches, is_covered, same_form, once}
 use Rattle.gate_modules.specs.declared.ranges.Range.{Range}
 use Rattle.gate_modules.proofs.Forming.{passed_one}

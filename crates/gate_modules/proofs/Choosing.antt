@@ -12,7 +12,8 @@ use Rattle.zdd_nodes.specs.Nodes.{Stored, family, IsNumber, IsSoundStore}
 use Rattle.gate_modules.specs.Choosing.{IsWithinNone, Considers, AreChosenSoFar}
 use Rattle.gate_modules.specs.Choosing.Considers.{within, no_module, is_new}
 use Rattle.gate_modules.specs.Forms.{AreOfDifferentUnits, IsFit, AddsForms}
-use Rattle.gate_modules.specs.Modules.{lies, Covers, AreRanges, IsModule, IsRound, IsChosen, AreChosen}
+use Rattle.gate_modules.specs.Modules.{lies, Covers, IsModule, IsRound, IsChosen, AreChosen}
+use Rattle.gate_modules.specs.ModulesInside.{AreRanges}
 use Rattle.gate_modules.specs.Shortened.{UnitSets, ShortForm, short_form, once, IsModuleOf, IsShortened}
 use Rattle.gate_modules.specs.declared.ranges.Range.{Range}
 use Rattle.gate_modules.proofs.Exchange.{exit_has, together_part, exits_alike, in_lies}

@@ -5,7 +5,8 @@ use Rattle.ar_base.specs.Lists.{IsOneOf}
 use Rattle.ar_base.proofs.Standing.{one_none, only_item}
 use Rattle.ar_base.specs.Sets.{Within}
 use Rattle.firable_families.proofs.Listing.{lists_listed, has_stands}
-use Rattle.zdd_families.specs.Families.{Family, has, order, node, IsFamily}
+use Rattle.zdd_families.specs.Families.{Family, has}
+use Rattle.zdd_families.specs.FamiliesInside.{order, node, IsFamily}
 use Rattle.zdd_families.specs.Sections.{section}
 use Rattle.zdd_families.proofs.Gates.{order-refl}
 use Rattle.zdd_families.proofs.Laws.{has_each}

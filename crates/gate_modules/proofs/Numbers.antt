@@ -1,7 +1,8 @@
 -- The walk of two families by their numbers.
 use Rattle.std.proofs.Common.{◌≡◌, ◌≢◌, ◌⊎◌, inl, inr, ⊎_elim, ℕ, ◌<◌, [], sym, ap, ◌∙◌, subst, arith}
 use Rattle.std.proofs.lemmas.Bool.{cases_lt}
-use Rattle.zdd_families.specs.Families.{Family, node, IsAbove}
+use Rattle.zdd_families.specs.Families.{Family}
+use Rattle.zdd_families.specs.FamiliesInside.{node, IsAbove}
 use Rattle.zdd_nodes.specs.Nodes.{Stored, family, IsNumber, IsNode, IsSoundStore}
 use Rattle.zdd_nodes.proofs.Lists.{same_number, some_sets, node_above}
 use Rattle.gate_modules.specs.Ends.{Agree, AgreeSome}

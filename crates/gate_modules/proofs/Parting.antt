@@ -3,7 +3,8 @@ use Rattle.std.proofs.Common.{◌≡◌, ◌≢◌, ◌⊎◌, inl, inr, ℕ, ze
 use Rattle.std.specs.List.{AllByRecursion}
 use Rattle.std.proofs.lemmas.List.{map-append}
 use Rattle.std.proofs.lemmas.List.Folds.{list_any-append}
-use Rattle.zdd_families.specs.Families.{Family, same, has, node, IsAbove}
+use Rattle.zdd_families.specs.Families.{Family, same, has}
+use Rattle.zdd_families.specs.FamiliesInside.{node, IsAbove}
 use Rattle.zdd_families.specs.Sections.{section}
 use Rattle.zdd_families.specs.Behind.{behind}
 use Rattle.zdd_families.proofs.Laws.{IsAbove_set, has_each, each_of, has-with, list_any-map, list_any-none, every}
@@ -12,8 +13,8 @@ use Rattle.zdd_families.proofs.Behind.{behind_node}
 use Rattle.zdd_nodes.specs.Nodes.{Stored, family, IsNumber, IsSoundStore}
 use Rattle.zdd_nodes.proofs.Order.{IsFamily-node, IsFamily-nil, IsFamily-unit}
 use Rattle.event_bounds.specs.Bounds.{EndsBelow, HasBelow}
-use Rattle.ar_base.specs.Numbers.{EventId}
-use Rattle.gate_modules.specs.Shortened.{event_numbers, set_of}
+use Rattle.ar_base.specs.NumbersInside.{EventId}
+use Rattle.gate_modules.specs.ShortenedInside.{event_numbers, set_of}
 use Rattle.gate_modules.specs.declared.ranges.EventSet.{EventSet}
 use Rattle.gate_modules.specs.Parts.{AreHeads, AreSomeHeads, AddsHeads, AddsSomeHeads}
 use Rattle.gate_modules.proofs.Sections.{starts, section_lower, section_end, by_start, ByStart}

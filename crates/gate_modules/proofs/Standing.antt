@@ -8,11 +8,13 @@ use Rattle.ar_base.specs.Sets.{Ascends}
 use Rattle.ar_base.proofs.Standing.{one_first, one_rest, one_here, stands_map, stands_map_back, along_on, along_back}
 use Rattle.ar_base.proofs.Truths.{alike}
 use Rattle.ar_firing.proofs.OneListing.{ascending_same}
-use Rattle.zdd_families.specs.Families.{Family, has, holds, IsFamily}
+use Rattle.zdd_families.specs.Families.{Family, has, holds}
+use Rattle.zdd_families.specs.FamiliesInside.{IsFamily}
 use Rattle.zdd_families.proofs.Minimal.{member_of}
 use Rattle.gate_modules.specs.Choices.{IsSetOf, IsChoice, IsMadeOf, ComesFrom, StandFor}
 use Rattle.gate_modules.specs.Forms.{AreOfDifferentUnits}
-use Rattle.gate_modules.specs.Modules.{lies, inside, IsPartOfUnit, IsModule, AreRanges}
+use Rattle.gate_modules.specs.Modules.{lies, inside, IsPartOfUnit, IsModule}
+use Rattle.gate_modules.specs.ModulesInside.{AreRanges}
 use Rattle.gate_modules.specs.Shortened.{UnitSets, ShortForm, touches, is_covered, short_form, once, IsModuleOf, IsShortened}
 use Rattle.gate_modules.specs.declared.ranges.Range.{Range}
 use Rattle.gate_modules.proofs.Choosing.{different_units}

@@ -5,7 +5,8 @@ use Rattle.std.proofs.lemmas.Bool.{cases_lt}
 use Rattle.std.proofs.lemmas.Grind.{flat_map-append}
 use Rattle.std.proofs.lemmas.List.{map-append}
 use Rattle.ar_base.specs.Lists.{IsOneOf}
-use Rattle.zdd_families.specs.Families.{Family, node, IsAbove}
+use Rattle.zdd_families.specs.Families.{Family}
+use Rattle.zdd_families.specs.FamiliesInside.{node, IsAbove}
 use Rattle.zdd_families.specs.Sections.{section}
 use Rattle.zdd_families.specs.Behind.{behind}
 use Rattle.zdd_families.proofs.Laws.{IsAbove_set, each_of}

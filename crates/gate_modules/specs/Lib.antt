@@ -1,5 +1,7 @@
 pub mod Modules
+pub mod ModulesInside
 pub mod Shortened
+pub mod ShortenedInside
 pub mod Ends
 pub mod Walked
 pub mod Entries

@@ -1,5 +1,5 @@
 -- Units whose events may be exchanged in the sets of a family.
-use Rattle.std.specs.Prelude.{◌≡◌, ◌≢◌, ◌⊎◌, ◌≤◌, ◌<◌, ℕ, Bool, true, not, ◌&&◌, List, [], ◌++◌, nat_lt}
+use Rattle.std.specs.Prelude.{◌≡◌, ◌≢◌, ◌≤◌, ◌<◌, ℕ, Bool, true, not, ◌&&◌, List, [], ◌++◌, nat_lt}
 use Rattle.std.specs.List.{filter}
 use Rattle.ar_base.specs.Lists.{Stands, IsOneOf}
 use Rattle.zdd_families.specs.Families.{Family, has}
@@ -50,21 +50,6 @@ pub record IsModule (f : Family) (r : Range) : Type 0 where
 -- the events of the second range are among those of the first
 abbrev pub Covers : Range → Range → Type 0
 Covers outer inner = (outer.from ≤ inner.from) × (inner.to ≤ outer.to)
-
--- no event is of both ranges
-abbrev pub AreApart : Range → Range → Type 0
-AreApart a b = (e : ℕ) → lies a e ≡ true → lies b e ≡ true → ⊥
-
--- the range has an event
-abbrev pub HasEvents : Range → Type 0
-HasEvents r = r.from < r.to
-
--- ranges of units, by the numbers of the units: of two that have events, no event is of both, or those of the unit with
--- the greater number are among those of the other
-pub record AreRanges (ranges : List Range) : Type 0 where
-  pub ascend : (j k : ℕ) (a b : Range) → j < k → Stands ranges j a → Stands ranges k b → a.unit.n < b.unit.n
-  pub nested : (j k : ℕ) (a b : Range) → j < k → Stands ranges j a → Stands ranges k b → HasEvents a → HasEvents b
-      → AreApart a b ⊎ Covers a b
 
 -- the unit of the first range is round that of the second
 pub record IsRound (outer inner : Range) : Type 0 where

@@ -1,6 +1,7 @@
 -- The sets of events below a bound.
 use Rattle.std.specs.Prelude.{◌≡◌, ◌≢◌, ℕ, true, List, [], ◌++◌}
-use Rattle.zdd_families.specs.Families.{Family, has, IsFamily}
+use Rattle.zdd_families.specs.Families.{Family, has}
+use Rattle.zdd_families.specs.FamiliesInside.{IsFamily}
 use Rattle.zdd_families.specs.Sections.{section}
 use Rattle.zdd_families.specs.Behind.{behind}
 use Rattle.zdd_nodes.specs.Nodes.{Stored, family}

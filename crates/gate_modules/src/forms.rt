@@ -4,8 +4,10 @@ ghost use Rattle.std.specs.Prelude.{◌≡◌, false, not, IfOk, OnOk, MatchOpti
 ghost use Rattle.std.specs.List.{filter};
 ghost use Rattle.zdd_nodes.specs.Nodes.{family, IsNumber};
 ghost use Rattle.gate_modules.specs.Modules.{lies as lies_in};
-ghost use Rattle.gate_modules.specs.Shortened.{event_numbers, touches as has_touched, is_covered as covered_by};
-ghost use Rattle.gate_modules.specs.Shortened.{units_where, short_form_of as form_made};
+ghost use Rattle.gate_modules.specs.Shortened.{touches as has_touched, is_covered as covered_by};
+ghost use Rattle.gate_modules.specs.ShortenedInside.{event_numbers};
+ghost use Rattle.gate_modules.specs.Shortened.{units_where};
+ghost use Rattle.gate_modules.specs.ShortenedInside.{short_form_of as form_made};
 ghost use Rattle.gate_modules.specs.Forms.{AreOfDifferentUnits, IsFit, AddsForms, IsSkip, IsHeld};
 
 use crate::entries::exit;

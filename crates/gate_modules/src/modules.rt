@@ -4,7 +4,7 @@ ghost use Rattle.std.specs.Prelude.{◌≡◌, ◌+◌, IfOk, MatchOption, lengt
 ghost use Rattle.zdd_nodes.specs.Nodes.{family, IsNumber, IsSoundStore};
 ghost use Rattle.gate_modules.specs.Deciding.{IsModuleWith};
 ghost use Rattle.gate_modules.specs.Modules.{IsModule};
-ghost use Rattle.gate_modules.specs.Shortened.{set_of};
+ghost use Rattle.gate_modules.specs.ShortenedInside.{set_of};
 ghost use Rattle.gate_modules.specs.Walked.{AreTwins};
 
 use crate::entries::{Reference, entries_agree, entries_of, entry_exit};

@@ -2,7 +2,7 @@
 
 ghost use Rattle.std.specs.Prelude.{◌≡◌, ◌++◌, ◌∷◌, [], IfOk, OnOk, map};
 ghost use Rattle.zdd_nodes.specs.Nodes.{IsNumber};
-ghost use Rattle.gate_modules.specs.Shortened.{event_numbers, set_of};
+ghost use Rattle.gate_modules.specs.ShortenedInside.{event_numbers, set_of};
 ghost use Rattle.gate_modules.specs.Parts.{AddsHeads, AddsSomeHeads};
 
 use crate::ranges::EventSet;

@@ -4,8 +4,9 @@ ghost use Rattle.std.specs.Prelude.{◌≡◌, ◌+◌, IfOk, OnOk, length, map,
 ghost use Rattle.zdd_nodes.specs.Nodes.{family as family_of, IsNumber, IsSoundStore};
 ghost use Rattle.gate_modules.specs.Choices.{StandFor};
 ghost use Rattle.gate_modules.specs.Choosing.{IsWithin, IsWithinNone, AreChosenSoFar};
-ghost use Rattle.gate_modules.specs.Modules.{AreRanges, Covers};
-ghost use Rattle.gate_modules.specs.Shortened.{Shortens, short_form_of, module_of};
+ghost use Rattle.gate_modules.specs.Modules.{Covers};
+ghost use Rattle.gate_modules.specs.ModulesInside.{AreRanges};
+ghost use Rattle.gate_modules.specs.ShortenedInside.{Shortens, short_form_of, module_of};
 ghost use Rattle.gate_modules.specs.Walked.{AreTwins};
 
 use crate::forms::add_forms;

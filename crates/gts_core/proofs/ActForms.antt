@@ -10,7 +10,7 @@ use Rattle.ar_base.specs.Lists as l
 use Rattle.ar_base.specs.declared.places.Place.{Place}
 use Rattle.typed_expr.specs.Renames.{Renames}
 use Rattle.typed_expr.specs.declared.expr.Expr.{Expr, out-Expr}
-use Rattle.typed_expr.specs.Pairs.{turned}
+use Rattle.typed_expr.specs.PairsInside.{turned}
 use Rattle.typed_expr.proofs.Renaming.{renames_turned, renames_joined}
 use Rattle.ar_meaning.specs.Systems as s
 use Rattle.ar_meaning.specs.Image.{Assign_renames}

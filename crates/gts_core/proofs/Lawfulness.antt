@@ -8,7 +8,7 @@ use Rattle.domains.specs.declared.Value.{Value}
 use Rattle.domains.proofs.Domains.{listed, held}
 use Rattle.typed_expr.specs.Kinds.{kind_of, HasKind}
 use Rattle.typed_expr.specs.Mentions.{Mentions}
-use Rattle.typed_expr.specs.Pairs.{turned}
+use Rattle.typed_expr.specs.PairsInside.{turned}
 use Rattle.typed_expr.proofs.Renaming.{mentions_carry, renames_turned}
 use Rattle.typed_expr.specs.declared.expr.Expr.{Expr, out-Expr}
 use Rattle.typed_expr.specs.declared.expr.ValueKind.{ValueKind}

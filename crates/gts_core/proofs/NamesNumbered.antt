@@ -1,7 +1,7 @@
 -- The variables that an assignment reads, by number and by plain number.
 use Rattle.std.proofs.Common.{◌≡◌, ℕ, ◌⊎◌, inl, inr, Bool, List, [], ◌∷◌, map, sym, subst}
 use Rattle.ar_base.specs.Numbers.{VarId}
-use Rattle.typed_expr.specs.Pairs.{turned}
+use Rattle.typed_expr.specs.PairsInside.{turned}
 use Rattle.typed_expr.specs.Mentions.{Mentions}
 use Rattle.typed_expr.proofs.Renaming.{mentions_carry, renames_turned}
 use Rattle.typed_expr.specs.declared.expr.Expr.{Expr, out-Expr}

@@ -1,7 +1,7 @@
 -- An expression over plain numbers is the expression with the numbers of its variables in their places.
 use Rattle.std.proofs.Common.{◌≡◌, ℕ, Bool, List, [], ◌∷◌, map, refl, sym, ap, ◌∙◌, subst}
 use Rattle.domains.specs.declared.Value.{Value}
-use Rattle.typed_expr.specs.Pairs.{turned}
+use Rattle.typed_expr.specs.PairsInside.{turned}
 use Rattle.typed_expr.specs.Yields.{Level, Yields}
 use Rattle.typed_expr.specs.Renames.{Renames, All_rename, Parts_rename, Cases_rename}
 use Rattle.typed_expr.specs.Renames as r

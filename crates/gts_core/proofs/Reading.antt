@@ -10,7 +10,8 @@ use Rattle.domains.specs.declared.Value.{Value}
 use Rattle.domains.specs.declared.Value.TheVariants.{Truth, Whole, Symbol}
 use Rattle.domains.proofs.Members.{contains-head, contains-cases, nothing-in}
 use Rattle.typed_expr.specs.Kinds.{kind_of}
-use Rattle.typed_expr.specs.Yields.{Yields, facts_of}
+use Rattle.typed_expr.specs.Yields.{Yields}
+use Rattle.typed_expr.specs.YieldsInside.{facts_of}
 use Rattle.typed_expr.specs.declared.expr.Expr.{Expr, out-Expr}
 use Rattle.typed_expr.specs.declared.expr.ValueKind.{ValueKind}
 use Rattle.typed_expr.specs.declared.expr.ValueKind.TheVariants as kind

@@ -3,7 +3,7 @@ use Rattle.std.proofs.Common.{◌≡◌, ℕ, zero, suc, ◌+◌, List, [], ◌�
 use Rattle.ar_base.specs.Lists.{Stands}
 use Rattle.ar_base.proofs.Standing.{stands_none}
 use Rattle.ar_meaning.specs.Systems as s
-use Rattle.ar_meaning.specs.Facts.{AreNumbered, AreKeyed}
+use Rattle.ar_meaning.specs.FactsInside.{AreNumbered, AreKeyed}
 use Rattle.ar_meaning.specs.Systems.{System, Net}
 use Rattle.ar_meaning.proofs.ByNumber.{keyed}
 use Rattle.gts_core.specs.View.{variable_of, variables_from, net_of, Views}

@@ -7,7 +7,8 @@ use Rattle.typed_expr.specs.declared.expr.Expr.{Expr, out-Expr}
 use Rattle.typed_expr.specs.declared.expr.ValueKind.{ValueKind}
 use Rattle.typed_expr.specs.declared.expr.ValueKind.TheVariants as kind
 use Rattle.ar_meaning.specs.Systems.{Assign, Variable, Net}
-use Rattle.ar_meaning.specs.Facts.{Allows, AreNumbered}
+use Rattle.ar_meaning.specs.Facts.{Allows}
+use Rattle.ar_meaning.specs.FactsInside.{AreNumbered}
 use Rattle.ar_meaning.specs.Dependence.{IsFlow, Names}
 use Rattle.gts_core.specs.Sound.{kind_of_found}
 use Rattle.gts_core.specs.declared.system.GtsParts.{GtsParts}

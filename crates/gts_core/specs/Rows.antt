@@ -6,7 +6,7 @@ use Rattle.domains.specs.Domains.{values_of}
 use Rattle.ar_base.specs.Numbers.{VarId}
 use Rattle.domains.specs.declared.Value.{Value}
 use Rattle.typed_expr.specs.Rows.{Rows, row_at}
-use Rattle.typed_expr.specs.Yields.{facts_of}
+use Rattle.typed_expr.specs.YieldsInside.{facts_of}
 use Rattle.ar_meaning.specs.Found.{IsAnswer}
 use Rattle.gts_core.specs.declared.system.Variable.{Variable}
 use Rattle.gts_core.specs.declared.system.GtsParts.{GtsParts}

@@ -1,7 +1,7 @@
 //! Copies of expressions and domains.
 
 ghost use Rattle.std.specs.Prelude.{IfOk};
-ghost use Rattle.domains.specs.Same.{IsSameDomain};
+ghost use Rattle.domains.specs.SameInside.{IsSameDomain};
 ghost use Rattle.gts_core.specs.Copies.{IsCopy, AreCopies, AreTermCopies, AreCaseCopies};
 
 use ar_base::{Memory, VarId};

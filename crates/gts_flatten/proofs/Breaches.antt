@@ -3,11 +3,13 @@ use Rattle.std.proofs.Common.{◌≡◌, ℕ, ◌↔◌, Vec, Bool, refl, sym, a
 use Rattle.std.specs.Global.{Global}
 use Rattle.ar_base.specs.Breach.{IsBroken, AreKept}
 use Rattle.ar_base.specs.Lists.{Stands, AreDifferent}
-use Rattle.ar_base.specs.Numbers.{EventId, NameId}
+use Rattle.ar_base.specs.Numbers.{NameId}
+use Rattle.ar_base.specs.NumbersInside.{EventId}
 use Rattle.ar_base.specs.declared.places.Place.{Place}
 use Rattle.ar_base.proofs.Standing.{one_here, along_on, along_back, stands_one}
 use Rattle.ar_meaning.specs.Expand.{LeadsBack, Synchronises}
-use Rattle.ar_meaning.specs.FlatOf.{IsNumber, AreFlatOf}
+use Rattle.ar_meaning.specs.FlatOf.{IsNumber}
+use Rattle.ar_meaning.specs.FlatOfInside.{AreFlatOf}
 use Rattle.ar_meaning.specs.Image.{Transition_renames}
 use Rattle.ar_meaning.proofs.ImageWays.{leads_there, leads_back}
 use Rattle.gts_core.specs.Bound.{declared_from}

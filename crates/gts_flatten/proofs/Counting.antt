@@ -11,7 +11,8 @@ use Rattle.typed_expr.proofs.Opened.{opened-constant, opened-variable}
 use Rattle.ar_base.specs.Lists.{Stands}
 use Rattle.ar_base.specs.Numbers.{VarId}
 use Rattle.sync_expand.proofs.Placed.{take_next}
-use Rattle.gts_flatten.specs.Sizes.{total, total_marked, total_paired, form_nodes, nodes_of, nodes_in, term_nodes_in, case_nodes_in}
+use Rattle.gts_flatten.specs.Sizes.{total, total_marked, total_paired, form_nodes, nodes_of, nodes_in}
+use Rattle.gts_flatten.specs.SizesInside.{term_nodes_in, case_nodes_in}
 
 arm : (e : Expr VarId) (x : Expr-F VarId (Expr VarId)) → out-Expr VarId e ≡ x
     → nodes_of e ≡ form_nodes (map-Expr VarId (Expr VarId) ℕ nodes_of x)

@@ -6,7 +6,8 @@ use Rattle.ar_base.specs.Lists.{Stands, IsOneOf, Along}
 use Rattle.ar_base.specs.Lists as l
 use Rattle.ar_base.proofs.Standing.{stands_one, one_first, one_rest}
 use Rattle.ar_meaning.specs.Systems.{System, Transition, Tree, Joint, Branches, Event}
-use Rattle.ar_meaning.specs.Expand.{EventDeclaration, Member, AreKeyedEvents, Ways, event, Members_give, no_member, one, synchronises, IsExpanded}
+use Rattle.ar_meaning.specs.Expand.{EventDeclaration, Member, Ways, event, Members_give, no_member, one, synchronises, IsExpanded}
+use Rattle.ar_meaning.specs.ExpandInside.{AreKeyedEvents}
 use Rattle.gts_core.specs.Bound.{assigns_under, declared_from, declared_of, member_of}
 use Rattle.gts_core.specs.View.{numbered}
 use Rattle.gts_core.specs.declared.bound.Act.{Act}

@@ -9,7 +9,8 @@ use Rattle.typed_expr.specs.declared.expr.Expr.{Expr}
 use Rattle.ar_meaning.specs.Systems.{System, Event as SystemEvent, Way as SystemWay, Transition}
 use Rattle.ar_meaning.specs.Systems as s
 use Rattle.ar_meaning.specs.Expand.{EventDeclaration}
-use Rattle.ar_meaning.specs.Image.{Expr_renames, Variable_renames, Assign_renames, Way_renames, Event_renames, IsImage}
+use Rattle.ar_meaning.specs.Image.{Expr_renames, Variable_renames, Assign_renames, Way_renames, Event_renames}
+use Rattle.ar_meaning.specs.ImageInside.{IsImage}
 use Rattle.ar_meaning.specs.Numbered.{Acts, Joins, Means_way}
 use Rattle.ar_meaning.specs.TraceText.{Naming}
 use Rattle.ar_meaning.proofs.FlatSystems.{copied_system}

@@ -3,7 +3,8 @@ use Rattle.std.proofs.Common.{◌≡◌, ℕ, ◌≤◌, ◌<◌, ◌^◌, List,
 use Rattle.std.specs.List.{flat_map}
 use Rattle.ar_base.specs.Lists.{Along, none, one_and, AreDifferent}
 use Rattle.ar_base.specs.Counts.{limit_of}
-use Rattle.ar_base.specs.Stages.{refuses, passes, kept, broken, Fits, fits, passes_it, IsRefusal, rule_told, Meets}
+use Rattle.ar_base.specs.Stages.{refuses, passes, kept, broken, Fits, fits, passes_it}
+use Rattle.ar_base.specs.StagesInside.{IsRefusal, rule_told, Meets}
 use Rattle.ar_base.specs.declared.counts.Count.TheVariants.{Ways as TheWays, ExpressionNodes}
 use Rattle.ar_base.specs.declared.faults.RuleFault.{RuleFault}
 use Rattle.ar_base.proofs.Standing.{stands_one, one_here}
@@ -22,7 +23,8 @@ use Rattle.gts_core.specs.declared.bound.DeclaredEvent.{DeclaredEvent}
 use Rattle.gts_core.specs.declared.bound.DeclaredWay.TheVariants.{Sync}
 use Rattle.gts_core.specs.declared.system.GtsParts.{GtsParts}
 use Rattle.gts_core.specs.declared.system.Observer.{Observer}
-use Rattle.hierarchy.specs.Models.{RootedModel, KeepsTextRules}
+use Rattle.hierarchy.specs.Models.{RootedModel}
+use Rattle.hierarchy.specs.ModelsInside.{KeepsTextRules}
 use Rattle.hierarchy.specs.Units.{UnitPath, Thing}
 use Rattle.hierarchy.specs.Walks.{is_event}
 use Rattle.hierarchy.specs.Listing.{AreUnits, variables, events}

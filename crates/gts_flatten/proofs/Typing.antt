@@ -8,7 +8,7 @@ use Rattle.domains.specs.declared.Value.{Value}
 use Rattle.domains.specs.declared.Value.TheVariants as value
 use Rattle.typed_expr.specs.Kinds.{HasKind}
 use Rattle.typed_expr.specs.Mentions.{Mentions}
-use Rattle.typed_expr.specs.Pairs.{turned}
+use Rattle.typed_expr.specs.PairsInside.{turned}
 use Rattle.typed_expr.specs.Possible.{IsSubexpression}
 use Rattle.typed_expr.specs.Renames.{Renames}
 use Rattle.typed_expr.specs.Renames as r

@@ -1,4 +1,5 @@
 pub mod Sizes
+pub mod SizesInside
 pub mod Bounds
 pub mod Elaborating
 pub mod Flat

@@ -6,7 +6,7 @@ use Rattle.ar_base.specs.Lists.{Stands, Along}
 use Rattle.ar_base.specs.Numbers.{VarId, WayId}
 use Rattle.typed_expr.specs.declared.expr.Expr.{Expr}
 use Rattle.gts_core.specs.Bound.{assigns_of_act, places_of_act, places_in, AreAssigns}
-use Rattle.domains.specs.Same.{IsSameDomain}
+use Rattle.domains.specs.SameInside.{IsSameDomain}
 use Rattle.gts_core.specs.Copies.{IsCopy}
 use Rattle.gts_core.specs.declared.bound.Act.{Act}
 use Rattle.gts_core.specs.declared.bound.DeclaredEvent.{DeclaredEvent}

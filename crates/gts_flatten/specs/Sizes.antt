@@ -42,14 +42,6 @@ abbrev pub nodes_in : {V : Type 0} → List (Expr V) → ℕ
 nodes_in [] = 0
 nodes_in (e ∷ es) = nodes_of e + nodes_in es
 
-abbrev pub term_nodes_in : {V : Type 0} → List (Bool × Expr V) → ℕ
-term_nodes_in [] = 0
-term_nodes_in (t ∷ ts) = nodes_of t.1 + term_nodes_in ts
-
-abbrev pub case_nodes_in : {V : Type 0} → List (Expr V × Expr V) → ℕ
-case_nodes_in [] = 0
-case_nodes_in (c ∷ cs) = (nodes_of c.0 + nodes_of c.1) + case_nodes_in cs
-
 -- the nodes of conditions
 abbrev pub condition_nodes : {V : Type 0} → List (Expr V × Bool) → ℕ
 condition_nodes [] = 0

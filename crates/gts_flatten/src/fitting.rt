@@ -1,7 +1,8 @@
 //! The limit on the nodes of a flat system's expressions.
 
 ghost use Rattle.std.specs.Prelude.{◌≡◌, ℕ, List, map, min};
-ghost use Rattle.ar_base.specs.Stages.{Fits, Meets};
+ghost use Rattle.ar_base.specs.Stages.{Fits};
+ghost use Rattle.ar_base.specs.StagesInside.{Meets};
 ghost use Rattle.ar_base.specs.declared.counts.Count.TheVariants.{ExpressionNodes};
 ghost use Rattle.ar_meaning.specs.Systems.{System};
 ghost use Rattle.gts_core.specs.Bound.{declared_from, member_of};

@@ -1,9 +1,10 @@
 //! The call that makes the flat system of bound forms.
 
 ghost use Rattle.std.specs.Prelude.{◌≡◌, ◌<◌, ◌^◌, ℕ, List, map, length, IfOk};
-ghost use Rattle.ar_base.specs.Stages.{Meets};
+ghost use Rattle.ar_base.specs.StagesInside.{Meets};
 ghost use Rattle.hierarchy.specs.Listing.{AreUnits};
-ghost use Rattle.hierarchy.specs.Models.{RootedModel, KeepsTextRules};
+ghost use Rattle.hierarchy.specs.Models.{RootedModel};
+ghost use Rattle.hierarchy.specs.ModelsInside.{KeepsTextRules};
 ghost use Rattle.hierarchy.specs.Units.{UnitPath};
 ghost use Rattle.gts_core.specs.Bound.{declared_from};
 ghost use Rattle.source_meaning.specs.Binding.{IsBoundFrom};

@@ -1,7 +1,8 @@
 //! How many nodes expressions have.
 
 ghost use Rattle.std.specs.Prelude.{◌≡◌, ◌+◌, min};
-ghost use Rattle.gts_flatten.specs.Sizes.{nodes_of, nodes_in, term_nodes_in, case_nodes_in};
+ghost use Rattle.gts_flatten.specs.Sizes.{nodes_of, nodes_in};
+ghost use Rattle.gts_flatten.specs.SizesInside.{term_nodes_in, case_nodes_in};
 
 use ar_base::VarId;
 use typed_expr::Expr;

@@ -6,7 +6,8 @@ use Rattle.ar_base.proofs.Standing.{stands_none, stands_one}
 use Rattle.ar_base.proofs.Comparing.{side}
 use Rattle.class_table.specs.Members.{Site, NamedMember, named_at, member_named}
 use Rattle.class_table.specs.Rules.{l4}
-use Rattle.hierarchy.specs.Models.{RootedModel, KeepsTextRules}
+use Rattle.hierarchy.specs.Models.{RootedModel}
+use Rattle.hierarchy.specs.ModelsInside.{KeepsTextRules}
 use Rattle.hierarchy.specs.Units.{UnitPath, body_of, names_at}
 use Rattle.hierarchy.specs.Listing.{AreUnits}
 use Rattle.hierarchy.proofs.Finding.{same_or_not}

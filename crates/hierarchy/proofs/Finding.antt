@@ -5,7 +5,8 @@ use Rattle.std.proofs.lemmas.Bool.Decides.{nat_tests}
 use Rattle.std.proofs.lemmas.Option.{get_or_from_slice_get}
 use Rattle.std.specs.List.Sorted.{IsNonDecreasingBy, IsPartitionPoint}
 use Rattle.ar_base.specs.Lists.{Stands}
-use Rattle.ar_base.specs.Numbers.{NameId, UnitId}
+use Rattle.ar_base.specs.Numbers.{NameId}
+use Rattle.ar_base.specs.NumbersInside.{UnitId}
 use Rattle.ar_base.proofs.Standing.{stands_within, stands_get, stands_one}
 use Rattle.ar_base.proofs.Comparing.{side}
 use Rattle.hierarchy.specs.Tie.{entry_in}

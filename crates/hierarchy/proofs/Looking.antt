@@ -4,15 +4,18 @@ use Rattle.std.specs.Option.{option_or}
 use Rattle.std.proofs.lemmas.List.{drop_more, drop_all}
 use Rattle.std.specs.List.Sorted.{IsNonDecreasingBy}
 use Rattle.ar_base.specs.Lists.{Stands, Along}
-use Rattle.ar_base.specs.Numbers.{NameId, UnitId}
+use Rattle.ar_base.specs.Numbers.{NameId}
+use Rattle.ar_base.specs.NumbersInside.{UnitId}
 use Rattle.ar_base.proofs.Standing.{stands_one, stands_within, stands_get, stands_some, along_on, along_back, along_length}
 use Rattle.ar_base.proofs.Items.{last_one}
 use Rattle.ar_syntax.specs.declared.paths.PathStart.{PathStart}
 use Rattle.ar_syntax.specs.declared.paths.PathStart.TheVariants.{Owner}
 use Rattle.class_table.specs.Members.{NamedMember, MemberKind, Inner, Clone, Alias, Variable, Parameter, Kept, Event, Observer}
-use Rattle.hierarchy.specs.Models.{RootedModel, KeepsTextRules}
+use Rattle.hierarchy.specs.Models.{RootedModel}
+use Rattle.hierarchy.specs.ModelsInside.{KeepsTextRules}
 use Rattle.hierarchy.specs.Units.{UnitPath, Thing, name_at, kind_at, start_of, numbers}
-use Rattle.hierarchy.specs.Walks.{Reaches, NameLeads, NamesLead, LeadsFrom, IsUnitAt, IsThingAt, absent, on, arrives}
+use Rattle.hierarchy.specs.Walks.{Reaches, NameLeads, NamesLead, IsUnitAt, IsThingAt, absent, on, arrives}
+use Rattle.hierarchy.specs.WalksInside.{LeadsFrom}
 use Rattle.hierarchy.specs.Listing.{AreUnits, unit, is_inner, things_in}
 use Rattle.hierarchy.specs.Tie.{IsOwner, of_main, of_unit, IsUnitNode, is_alias, entry_in, IsTreeOf, AnswersUnit, AnswersThing, IsNode}
 use Rattle.hierarchy.specs.Finding.{unit_number, StartsAt, IsStep, FindsNode, HasOwner}

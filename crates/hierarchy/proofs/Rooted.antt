@@ -8,10 +8,12 @@ use Rattle.ar_syntax.specs.declared.items.Model.{Model}
 use Rattle.class_table.specs.Declaring.{Declared}
 use Rattle.class_table.specs.Members.{Site, Members}
 use Rattle.class_table.specs.Rules.{BreaksTextRule, text_rules}
-use Rattle.class_table.specs.Tables.{IsTableOfModel, IsMain}
+use Rattle.class_table.specs.Tables.{IsMain}
+use Rattle.class_table.specs.TablesInside.{IsTableOfModel}
 use Rattle.class_table.specs.Tabling.{Tabulates, table}
 use Rattle.class_table.specs.declared.tables.Classes.{Classes}
-use Rattle.hierarchy.specs.Models.{RootedModel, IsRootedIn, IsKeptTable, sites_kept}
+use Rattle.hierarchy.specs.Models.{RootedModel, IsRootedIn}
+use Rattle.hierarchy.specs.ModelsInside.{IsKeptTable, sites_kept}
 
 -- a table with what it declares, as the model is seen from its main block
 model_of : Declared → Classes → RootedModel

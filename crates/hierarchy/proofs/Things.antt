@@ -4,7 +4,8 @@ use Rattle.std.specs.List.{flat_map, filter}
 use Rattle.ar_base.specs.Lists.{Stands, IsOneOf}
 use Rattle.ar_base.proofs.Standing.{stands_split, stands_none, stands_within, stands_map, stands_map_back, one_here, one_left, one_right, one_cases, one_first, one_rest, one_none}
 use Rattle.class_table.specs.Members.{NamedMember, MemberKind}
-use Rattle.hierarchy.specs.Models.{RootedModel, KeepsTextRules}
+use Rattle.hierarchy.specs.Models.{RootedModel}
+use Rattle.hierarchy.specs.ModelsInside.{KeepsTextRules}
 use Rattle.hierarchy.specs.Units.{UnitPath, Thing, names_at, name_at}
 use Rattle.hierarchy.specs.Walks.{thing, PassesTest}
 use Rattle.hierarchy.specs.Listing.{things_in}

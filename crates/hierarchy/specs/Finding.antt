@@ -3,7 +3,8 @@ use Rattle.std.specs.Prelude.{◌≡◌, ℕ, Bool, List, [], ◌∷◌, ◌++�
 use Rattle.std.specs.Option.{option_or}
 use Rattle.std.specs.List.Sorted.{IsNonDecreasingBy}
 use Rattle.ar_base.specs.Lists.{Stands}
-use Rattle.ar_base.specs.Numbers.{NameId, UnitId}
+use Rattle.ar_base.specs.Numbers.{NameId}
+use Rattle.ar_base.specs.NumbersInside.{UnitId}
 use Rattle.ar_syntax.specs.declared.paths.PathStart.{PathStart}
 use Rattle.class_table.specs.Members.{MemberKind}
 use Rattle.hierarchy.specs.Models.{RootedModel}

@@ -1,9 +1,13 @@
 pub mod Models
+pub mod ModelsInside
 pub mod Units
+pub mod UnitsInside
 pub mod Walks
+pub mod WalksInside
 pub mod Listing
 pub mod Settings
 pub mod Paths
+pub mod PathsInside
 pub mod Tie
 pub mod TypeDomains
 pub mod Finding

@@ -21,9 +21,3 @@ thing_path m t = prefix m t.unit ++ name_text m t.name
 abbrev pub unit_path : RootedModel → UnitPath → List ℕ
 unit_path m [] = codes "main"
 unit_path m (l ∷ above) = prefix m above ++ name_text m l.name
-
--- a path's text: the texts of these names with dots between them
-abbrev pub dotted : RootedModel → List ℕ → List ℕ
-dotted m [] = []
-dotted m (x ∷ []) = name_text m x
-dotted m (x ∷ y ∷ more) = name_text m x ++ (codes "." ++ dotted m (y ∷ more))

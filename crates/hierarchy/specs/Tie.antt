@@ -5,7 +5,8 @@ use Rattle.std.specs.List.Sorted.{IsNonDecreasingBy}
 use Rattle.ar_base.specs.Counts.{limit_of}
 use Rattle.ar_base.specs.declared.counts.Count.TheVariants.{Units, Variables, Events}
 use Rattle.ar_base.specs.Lists.{Stands, Along}
-use Rattle.ar_base.specs.Numbers.{NameId, UnitId, BodyId}
+use Rattle.ar_base.specs.Numbers.{NameId, BodyId}
+use Rattle.ar_base.specs.NumbersInside.{UnitId}
 use Rattle.ar_syntax.specs.declared.expressions.RawExpr.{RawExpr}
 use Rattle.ar_syntax.specs.declared.members.Setting.{Setting}
 use Rattle.ar_syntax.specs.declared.members.TypeForm.{TypeForm}
@@ -15,9 +16,11 @@ use Rattle.domains.specs.declared.Domain.{Domain}
 use Rattle.class_table.specs.Declaring.{Declared}
 use Rattle.class_table.specs.Members.{Site, NamedMember, MemberKind, Variable, Parameter, Kept, Alias}
 use Rattle.class_table.specs.declared.tables.Classes.{Classes}
-use Rattle.hierarchy.specs.Models.{RootedModel, IsKeptTable}
+use Rattle.hierarchy.specs.Models.{RootedModel}
+use Rattle.hierarchy.specs.ModelsInside.{IsKeptTable}
 use Rattle.hierarchy.specs.Units.{UnitLevel, UnitPath, Thing, body_of, set_at_of, name_at}
-use Rattle.hierarchy.specs.Walks.{Reaches, LeadsFrom, IsUnitAt, IsThingAt}
+use Rattle.hierarchy.specs.Walks.{Reaches, IsUnitAt, IsThingAt}
+use Rattle.hierarchy.specs.WalksInside.{LeadsFrom}
 use Rattle.hierarchy.specs.Listing.{AreUnits, is_inner, variables, parameters, events, observers}
 use Rattle.hierarchy.specs.Settings.{in_force, is_state}
 use Rattle.hierarchy.specs.Settings as s

@@ -62,10 +62,6 @@ is_among (s ∷ ss) t = same_thing s t || is_among ss t
 
 -- Members of a unit
 
--- the names of the members of a body, inherited ones included
-abbrev pub names_in : RootedModel → ℕ → List NamedMember
-names_in m b = named_at m.declared (unwrap_or (slice_get m.members b) [])
-
 -- the members of a unit, inherited ones included
 abbrev pub members_at : RootedModel → UnitPath → List Site
 members_at m u = unwrap_or (slice_get m.members (body_of m u)) []

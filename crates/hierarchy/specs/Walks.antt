@@ -66,10 +66,6 @@ mutual
     loops : {f : List Thing} {u : UnitPath} {x : ℕ} {xs : List ℕ} → NameLeads m f u x (kind_at m u x) Loops
         → NamesLead m f (Some u) (x ∷ xs) Loops
 
--- the name x in the unit u leads to this
-abbrev pub LeadsFrom : RootedModel → UnitPath → ℕ → WalkOutcome → Type 0
-LeadsFrom m u x o = NameLeads m [] u x (kind_at m u x) o
-
 -- Look-ups
 
 -- the names, read in the unit u from this start, lead to the unit t

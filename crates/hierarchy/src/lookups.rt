@@ -3,7 +3,8 @@
 ghost use Rattle.std.specs.Prelude.{◌<◌, List, length, option_map};
 ghost use Rattle.std.specs.List.Sorted.{IsNonDecreasingBy};
 ghost use Rattle.ar_base.specs.Lists.{Stands};
-ghost use Rattle.ar_base.specs.Numbers.{VarId as VarNumber, EventId as EventNumber};
+ghost use Rattle.ar_base.specs.Numbers.{VarId as VarNumber};
+ghost use Rattle.ar_base.specs.NumbersInside.{EventId as EventNumber};
 ghost use Rattle.hierarchy.specs.Models.{RootedModel};
 ghost use Rattle.hierarchy.specs.Units.{UnitPath, start_of, numbers};
 ghost use Rattle.hierarchy.specs.Walks.{is_variable, is_parameter, is_event, is_observer};

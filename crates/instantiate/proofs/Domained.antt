@@ -8,14 +8,15 @@ use Rattle.ar_syntax.specs.declared.members.TypeForm.{TypeForm}
 use Rattle.class_table.specs.Declaring.{NamedType, Declared}
 use Rattle.class_table.specs.Members.{domain_body}
 use Rattle.class_table.specs.Tables.{IsDomainOf, symbols as of_symbols, range as of_range}
-use Rattle.class_table.specs.Tables.IsTypeOf.{domain as domain_type, class as class_type}
+use Rattle.class_table.specs.TablesInside.IsTypeOf.{domain as domain_type, class as class_type}
 use Rattle.class_table.specs.declared.tables.TypeBody.{TypeBody}
 use Rattle.class_table.specs.declared.tables.TypeBody.TheVariants as types
-use Rattle.domains.specs.Same.{IsSameDomain, boolean as same_boolean, symbols as same_list, range as same_range}
+use Rattle.domains.specs.SameInside.{IsSameDomain, boolean as same_boolean, symbols as same_list, range as same_range}
 use Rattle.domains.specs.declared.Domain.{Domain}
 use Rattle.domains.specs.declared.Domain.TheVariants as values
 use Rattle.hierarchy.specs.TypeDomains.{HasDomain}
-use Rattle.unit_rules.specs.Typing.{IsFound, none, some, bounds_variables}
+use Rattle.unit_rules.specs.Typing.{bounds_variables}
+use Rattle.unit_rules.specs.TypingInside.{IsFound, none, some}
 use Rattle.instantiate.specs.Values.{HasDomainIf, has, every_whole, no_domain}
 
 -- a domain of symbols with the same symbols

@@ -14,7 +14,7 @@ use Rattle.hierarchy.specs.declared.tree.MemNode.{MemNode}
 use Rattle.hierarchy.specs.declared.tree.Attribute.{Attribute}
 use Rattle.ar_base.proofs.Standing.{one_here}
 use Rattle.class_table.specs.Declaring.{MemberForm}
-use Rattle.class_table.specs.Tables.{site_of}
+use Rattle.class_table.specs.TablesInside.{site_of}
 use Rattle.class_table.specs.Members.{owned_at}
 use Rattle.hierarchy.specs.Units.{members_at}
 use Rattle.hierarchy.specs.Walks.{is_variable}

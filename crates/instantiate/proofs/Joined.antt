@@ -2,20 +2,24 @@
 use Rattle.std.proofs.Common.{◌≡◌, ◌≤◌, List, length, Result, Ok, Err, sym, ◌∙◌, ap, subst}
 use Rattle.ar_base.specs.Breach.{AreKept}
 use Rattle.ar_base.specs.Counts.{limit_of}
-use Rattle.ar_base.specs.Stages.{Then, passes, fits, Keeps, kept, Meets, rule_told}
+use Rattle.ar_base.specs.Stages.{Then, passes, fits, Keeps, kept}
+use Rattle.ar_base.specs.StagesInside.{Meets, rule_told}
 use Rattle.ar_base.specs.declared.counts.Count.TheVariants.{Variables, Events}
 use Rattle.ar_base.specs.declared.faults.RuleFault.{RuleFault}
 use Rattle.ar_base.proofs.Stages.{stage_stops, stage_passes}
 use Rattle.class_table.specs.declared.tables.Classes.{Classes}
-use Rattle.hierarchy.specs.Models.{RootedModel, IsKeptTable}
+use Rattle.hierarchy.specs.Models.{RootedModel}
+use Rattle.hierarchy.specs.ModelsInside.{IsKeptTable}
 use Rattle.hierarchy.specs.Units.{UnitPath}
 use Rattle.hierarchy.specs.Listing.{Unfolded, variables, events}
 use Rattle.hierarchy.specs.Tie.{AreOutlines}
 use Rattle.unit_walks.specs.Growing.{IsUnfolded}
 use Rattle.unit_walks.specs.Settling.{AreOutcomes}
-use Rattle.unit_walks.specs.Unfolding.{Unfolds, whole, RefusesUnits, limit, memory}
+use Rattle.unit_walks.specs.Unfolding.{Unfolds, whole}
+use Rattle.unit_walks.specs.UnfoldingInside.{RefusesUnits, limit, memory}
 use Rattle.unit_walks.specs.declared.growing.Unfolded.{Unfolded as Found}
-use Rattle.unit_rules.specs.Limits.{FitsLimits, AnswersLimits}
+use Rattle.unit_rules.specs.Limits.{FitsLimits}
+use Rattle.unit_rules.specs.LimitsInside.{AnswersLimits}
 use Rattle.hierarchy.specs.declared.tree.Tree.{Tree}
 use Rattle.instantiate.specs.Values.{KeepsDeclarations}
 use Rattle.instantiate.specs.Unfolding.{Instantiates, unit_rules, unit_breaks, l8}

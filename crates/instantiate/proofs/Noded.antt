@@ -5,7 +5,8 @@ use Rattle.ar_base.specs.Lists.{Along, none as along_none, one_and as along_and}
 use Rattle.hierarchy.specs.Models.{RootedModel}
 use Rattle.hierarchy.specs.Units.{UnitPath, Thing}
 use Rattle.hierarchy.specs.Tie.{IsPlainNode}
-use Rattle.ar_base.specs.Numbers.{NameId, UnitId}
+use Rattle.ar_base.specs.Numbers.{NameId}
+use Rattle.ar_base.specs.NumbersInside.{UnitId}
 use Rattle.ar_base.specs.declared.places.Place.{Place}
 use Rattle.ar_syntax.specs.declared.members.Member.TheOpen as member
 use Rattle.ar_syntax.specs.declared.members.Setting.{Setting}

@@ -4,13 +4,14 @@ use Rattle.std.proofs.lemmas.Bool.{cases_eq, cases_lt}
 use Rattle.std.proofs.lemmas.List.{length-map}
 use Rattle.std.proofs.lemmas.Option.{slice_get_past}
 use Rattle.ar_base.specs.Lists.{Stands, Along, none, one_and}
-use Rattle.ar_base.specs.Numbers.{UnitId}
+use Rattle.ar_base.specs.NumbersInside.{UnitId}
 use Rattle.ar_base.proofs.Standing.{stands_one, stands_none, stands_map, one_here}
 use Rattle.class_table.specs.Members.{Site, NamedMember, MemberKind, member_named, named_at}
 use Rattle.class_table.specs.Rules.{text_rules, l4}
 use Rattle.class_table.specs.declared.tables.Classes.{Classes}
 use Rattle.class_table.specs.declared.tables.Body.{Body}
-use Rattle.hierarchy.specs.Models.{RootedModel, KeepsTextRules, IsRootedTable, sites_kept}
+use Rattle.hierarchy.specs.Models.{RootedModel}
+use Rattle.hierarchy.specs.ModelsInside.{KeepsTextRules, IsRootedTable, sites_kept}
 use Rattle.hierarchy.specs.Units.{UnitPath, body_of, names_at, name_at}
 use Rattle.hierarchy.specs.Walks.{thing}
 use Rattle.hierarchy.proofs.Places.{AreApart}

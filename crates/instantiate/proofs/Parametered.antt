@@ -16,7 +16,8 @@ use Rattle.class_table.specs.Rules.{Misnames, parameter, IsNoDomainName, named}
 use Rattle.class_table.specs.declared.tables.Owned.{Owned}
 use Rattle.class_table.specs.declared.tables.Owned.TheVariants.{Plain, Nested}
 use Rattle.domains.specs.declared.Domain.{Domain}
-use Rattle.hierarchy.specs.Models.{RootedModel, KeepsTextRules}
+use Rattle.hierarchy.specs.Models.{RootedModel}
+use Rattle.hierarchy.specs.ModelsInside.{KeepsTextRules}
 use Rattle.hierarchy.specs.Units.{UnitPath, name_at}
 use Rattle.hierarchy.specs.Walks.{is_parameter}
 use Rattle.hierarchy.specs.Tie.{HasParameterDomain}

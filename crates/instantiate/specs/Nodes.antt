@@ -1,6 +1,7 @@
 -- The things of a unit, as they are listed.
 use Rattle.std.specs.Prelude.{◌≡◌, Bool, true, false, List, map, filter, Option, Some, None}
-use Rattle.ar_base.specs.Numbers.{NameId, UnitId}
+use Rattle.ar_base.specs.Numbers.{NameId}
+use Rattle.ar_base.specs.NumbersInside.{UnitId}
 use Rattle.ar_base.specs.declared.places.Place.{Place}
 use Rattle.ar_syntax.specs.declared.members.Member.TheOpen as member
 use Rattle.ar_syntax.specs.declared.members.TypeForm.{TypeForm}

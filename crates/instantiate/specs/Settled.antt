@@ -2,7 +2,8 @@
 use Rattle.std.specs.Prelude.{◌≡◌, ◌≤◌, List, length, Result}
 use Rattle.ar_base.specs.Breach.{AreKept}
 use Rattle.ar_base.specs.Counts.{limit_of}
-use Rattle.ar_base.specs.Stages.{Keeps, Meets}
+use Rattle.ar_base.specs.Stages.{Keeps}
+use Rattle.ar_base.specs.StagesInside.{Meets}
 use Rattle.ar_base.specs.declared.counts.Count.TheVariants.{Units, Variables, Events}
 use Rattle.ar_base.specs.declared.faults.RuleFault.{RuleFault}
 use Rattle.class_table.specs.declared.tables.Classes.{Classes}

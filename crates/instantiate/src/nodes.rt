@@ -6,12 +6,12 @@ ghost use Rattle.ar_base.specs.Lists.{Along};
 ghost use Rattle.ar_syntax.specs.declared.members.Member.{out-Member};
 ghost use Rattle.class_table.specs.Declaring.{Declared};
 ghost use Rattle.class_table.specs.Members.{names_of, named_at};
-ghost use Rattle.class_table.specs.Tables.{HoldsDeclared, site_of};
+ghost use Rattle.class_table.specs.TablesInside.{HoldsDeclared, site_of};
 ghost use Rattle.hierarchy.specs.Models.{RootedModel};
 ghost use Rattle.hierarchy.specs.Units.{UnitPath};
 ghost use Rattle.hierarchy.specs.Listing.{things_in};
 ghost use Rattle.hierarchy.specs.Tie.{AreOutlines};
-ghost use Rattle.unit_rules.specs.Typing.{KnowsPlaces};
+ghost use Rattle.unit_rules.specs.TypingInside.{KnowsPlaces};
 ghost use Rattle.instantiate.specs.Nodes.{test_of, declares_so, single_of, node_named, nodes_of, names_nodes, IsNodeSo};
 
 use ar_base::{BodyId, Memory, NameId, Place, UnitId};

@@ -9,7 +9,7 @@ ghost use Rattle.hierarchy.specs.Walks.{is_parameter};
 ghost use Rattle.hierarchy.specs.Listing.{parameters as parameters_of};
 ghost use Rattle.hierarchy.specs.Tie.{IsParameterNode};
 ghost use Rattle.hierarchy.specs.Tie.{AreOutlines};
-ghost use Rattle.unit_rules.specs.Typing.{KnowsPlaces};
+ghost use Rattle.unit_rules.specs.TypingInside.{KnowsPlaces};
 ghost use Rattle.instantiate.specs.Nodes.{IsNodeSo};
 ghost use Rattle.settings_in_force.specs.SettingPlaces.{TellsSettings};
 ghost use Rattle.instantiate.specs.Values.{parameter_type};

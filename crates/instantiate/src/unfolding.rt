@@ -1,8 +1,9 @@
 //! The call that unfolds the main block.
 
 ghost use Rattle.std.specs.Prelude.{◌≤◌, IfOk, length};
-ghost use Rattle.ar_base.specs.Stages.{Meets};
-ghost use Rattle.hierarchy.specs.Models.{RootedModel, IsKeptTable};
+ghost use Rattle.ar_base.specs.StagesInside.{Meets};
+ghost use Rattle.hierarchy.specs.Models.{RootedModel};
+ghost use Rattle.hierarchy.specs.ModelsInside.{IsKeptTable};
 ghost use Rattle.instantiate.specs.Settled.{IsSettled};
 ghost use Rattle.instantiate.specs.Unfolding.{Instantiates};
 ghost use Rattle.instantiate.specs.MadeTrees.{IsTreeFor};

@@ -9,7 +9,7 @@ ghost use Rattle.hierarchy.specs.Listing.{variables as variables_of};
 ghost use Rattle.hierarchy.specs.Settings.{target_word_of};
 ghost use Rattle.hierarchy.specs.Tie.{IsVariableNode};
 ghost use Rattle.hierarchy.specs.Tie.{AreOutlines};
-ghost use Rattle.unit_rules.specs.Typing.{KnowsPlaces};
+ghost use Rattle.unit_rules.specs.TypingInside.{KnowsPlaces};
 ghost use Rattle.instantiate.specs.Nodes.{IsNodeSo};
 ghost use Rattle.settings_in_force.specs.SettingPlaces.{TellsSettings};
 ghost use Rattle.instantiate.specs.Values.{KeepsDeclarations, AddsVariable, last_of};

@@ -7,7 +7,8 @@ use Rattle.ar_base.proofs.Standing.{stands_none, stands_split, stands_map_back, 
 use Rattle.ar_base.proofs.Items.{last_one}
 use Rattle.ar_syntax.specs.declared.paths.PathStart.TheVariants.{Here}
 use Rattle.class_table.specs.Members.{NamedMember, MemberKind}
-use Rattle.hierarchy.specs.Models.{RootedModel, KeepsTextRules}
+use Rattle.hierarchy.specs.Models.{RootedModel}
+use Rattle.hierarchy.specs.ModelsInside.{KeepsTextRules}
 use Rattle.hierarchy.specs.Units.{UnitPath, Thing, names_at}
 use Rattle.hierarchy.specs.Walks.{Reaches, NamesLead, IsThingAt, thing, is_event}
 use Rattle.hierarchy.specs.Listing.{AreUnits, things_in, events}

@@ -5,14 +5,15 @@ use Rattle.std.specs.Option.{MatchOption}
 use denote.Bor.{Bor}
 use Rattle.ar_base.specs.Lists.{Along, IsOneOf}
 use Rattle.ar_base.specs.Lists as l
-use Rattle.ar_base.specs.Numbers.{EventId}
+use Rattle.ar_base.specs.NumbersInside.{EventId}
 use Rattle.ar_base.proofs.Standing.{one_none, one_split, one_cases, one_right, one_first}
 use Rattle.gts_core.specs.declared.system.GtsParts.{GtsParts}
 use Rattle.gts_flatten.specs.Elaborating.{Elaborated}
 use Rattle.job_inputs.specs.Labels.{NamesEvent}
 use Rattle.job_inputs.specs.Lines.{pieces}
 use Rattle.job_inputs.specs.CutLines.{is_comma}
-use Rattle.job_inputs.specs.Naming.{NamesEvents, HasUnknown, AreEventsOf}
+use Rattle.job_inputs.specs.Naming.{NamesEvents, HasUnknown}
+use Rattle.job_inputs.specs.NamingInside.{AreEventsOf}
 
 -- the parts that are left, and their bytes with a comma more
 abbrev pub parts_left : Option (Bor (List ℕ)) → List (List ℕ)

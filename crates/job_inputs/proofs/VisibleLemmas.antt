@@ -6,7 +6,8 @@ use Rattle.std.proofs.lemmas.List.{length-map}
 use Rattle.std.proofs.lemmas.Option.{slice_get_past}
 use Rattle.hierarchy.proofs.Finding.{item_stands}
 use Rattle.ar_base.specs.Lists.{Stands, AreDifferent}
-use Rattle.ar_base.specs.Numbers.{EventId, WayId, NameId}
+use Rattle.ar_base.specs.Numbers.{WayId, NameId}
+use Rattle.ar_base.specs.NumbersInside.{EventId}
 use Rattle.ar_base.proofs.Standing.{stands_one, stands_within, stands_some, along_on, along_length}
 use Rattle.ar_meaning.specs.Systems as s
 use Rattle.ar_meaning.specs.Runs.{Label}

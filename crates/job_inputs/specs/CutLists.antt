@@ -1,5 +1,5 @@
 -- The cuts that the lines of a list give, and the first line that is bad.
-use Rattle.std.specs.Prelude.{◌≡◌, ◌<◌, ◌+◌, ℕ, List, [], ◌∷◌, Result, Ok, Err}
+use Rattle.std.specs.Prelude.{◌<◌, ◌+◌, ℕ, List, [], ◌∷◌, Result, Ok, Err}
 use Rattle.ar_base.specs.Lists.{Stands, Along}
 use Rattle.ar_meaning.specs.Runs.{Label}
 use Rattle.gts_flatten.specs.Elaborating.{Elaborated}
@@ -58,8 +58,3 @@ pub data CutList (text : List ℕ) (x : Elaborated) : Result (List CutLine) BadL
   gives : {cuts : List CutLine} → ListsCutLines x 1 (lines_of text) cuts → CutList text x (Ok cuts)
   bad : {n : ℕ} {why : Why} → IsFirstBadCut x (lines_of text) n why
       → CutList text x (Err (record { number = n + 1; why = why }))
-
--- a label is that of one way, and not the path of an event with other ways
-pub record HaveOneMeaning (x : Elaborated) : Type 0 where
-  pub one : (text : List ℕ) (l m : Label) → IsLabel x text l → IsLabel x text m → l ≡ m
-  pub needs_none : (text : List ℕ) (l : Label) → IsLabel x text l → NeedsWay x text → ⊥

@@ -2,11 +2,13 @@ pub mod Answers
 pub mod Chains
 pub mod CutLines
 pub mod CutLists
+pub mod CutListsInside
 pub mod CutReads
 pub mod Flat
 pub mod Labels
 pub mod Lines
 pub mod Naming
+pub mod NamingInside
 pub mod Reads
 pub mod Scripts
 pub mod Wanting

@@ -3,7 +3,8 @@ use Rattle.std.specs.Prelude.{◌≡◌, ◌==◌, ◌||◌, ◌+◌, ◌<◌, �
 use Rattle.std.specs.Global.{Global}
 use denote.Bor.{Bor}
 use Rattle.ar_base.specs.Lists.{Stands}
-use Rattle.ar_base.specs.Numbers.{NameId, EventId, WayId}
+use Rattle.ar_base.specs.Numbers.{NameId, WayId}
+use Rattle.ar_base.specs.NumbersInside.{EventId}
 use Rattle.ar_meaning.specs.Runs.{Command, Label}
 use Rattle.gts_core.specs.declared.system.Event.{Event}
 use Rattle.gts_core.specs.declared.system.GtsParts.{GtsParts}

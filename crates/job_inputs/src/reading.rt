@@ -2,7 +2,7 @@
 
 ghost use Rattle.gts_flatten.specs.Elaborating.{Elaborated};
 ghost use Rattle.job_inputs.specs.Flat.{IsOfTree};
-ghost use Rattle.job_inputs.specs.Naming.{AnswersEvents};
+ghost use Rattle.job_inputs.specs.NamingInside.{AnswersEvents};
 
 use crate::{event_named, first_piece};
 use ar_base::{EventId, Memory};

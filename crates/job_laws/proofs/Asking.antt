@@ -7,7 +7,8 @@ use Rattle.domains.specs.declared.Value.{Value}
 use Rattle.job_inputs.specs.Naming.{NamesEvents, HasUnknown}
 use Rattle.gts_flatten.specs.Elaborating.{Elaborated}
 use Rattle.job_inputs.specs.CutLines.{is_comma}
-use Rattle.job_inputs.specs.CutLists.{CutLine, CutList, HaveOneMeaning}
+use Rattle.job_inputs.specs.CutLists.{CutLine, CutList}
+use Rattle.job_inputs.specs.CutListsInside.{HaveOneMeaning}
 use Rattle.job_inputs.specs.Lines.{pieces}
 use Rattle.job_inputs.specs.Scripts.{BadLine, Commands}
 use Rattle.run_words.specs.Commands.{shape_of, is_script, is_list}

@@ -2,7 +2,7 @@
 use Rattle.std.proofs.Common.{◌≡◌, ℕ, Bool, true, List, ◌∷◌, ◌++◌, map, codes, refl, sym, ap, ◌∙◌}
 use Rattle.ar_base.specs.Numbers.{VarId}
 use Rattle.ar_base.specs.Texts.{separated}
-use Rattle.typed_expr.specs.Pairs.{turned}
+use Rattle.typed_expr.specs.PairsInside.{turned}
 use Rattle.typed_expr.specs.Yields.{Level}
 use Rattle.typed_expr.specs.Renames.{Renames, All_rename, Parts_rename, Cases_rename}
 use Rattle.typed_expr.specs.Renames as r

@@ -19,7 +19,8 @@ use Rattle.gate_modules.specs.Choices.{StandFor}
 use Rattle.gts_flatten.specs.Elaborating.{Elaborated}
 use Rattle.gts_flatten.specs.Flat.{naming_of}
 use Rattle.hierarchy.specs.Listing.{AreUnits}
-use Rattle.hierarchy.specs.Models.{RootedModel, KeepsTextRules}
+use Rattle.hierarchy.specs.Models.{RootedModel}
+use Rattle.hierarchy.specs.ModelsInside.{KeepsTextRules}
 use Rattle.hierarchy.specs.Units.{UnitPath, Thing}
 use Rattle.module_text.specs.Texts.{IsModuleText}
 use Rattle.run_words.specs.Commands.{shape_of, is_script, is_list}

@@ -5,7 +5,7 @@ use Rattle.ar_base.specs.Lists.{Stands, AreDifferent, Along}
 use Rattle.ar_base.specs.Lists as l
 use Rattle.ar_base.specs.Numbers.{WayId}
 use Rattle.ar_base.proofs.Standing.{stands_one, along_on, along_length}
-use Rattle.typed_expr.specs.Pairs.{turned}
+use Rattle.typed_expr.specs.PairsInside.{turned}
 use Rattle.typed_expr.specs.declared.expr.Expr.{Expr}
 use Rattle.ar_meaning.specs.Systems.{Net, Transition, Tree, Event as SystemEvent, Variable as SystemVariable}
 use Rattle.ar_meaning.specs.FlatOf.{IsNumber}

@@ -13,7 +13,7 @@ use Rattle.hierarchy.specs.Listing.{events}
 use Rattle.hierarchy.specs.Models.{RootedModel}
 use Rattle.hierarchy.specs.Units.{UnitPath, Thing}
 use Rattle.hierarchy.specs.Walks.{IsThingAt, is_event}
-use Rattle.job_inputs.specs.CutLists.{HaveOneMeaning}
+use Rattle.job_inputs.specs.CutListsInside.{HaveOneMeaning}
 use Rattle.job_inputs.specs.Labels.{is_dot, Spells, NamesOne, NamesEvent, NamesVisible, IsLabel, path, numbered, NeedsWay}
 use Rattle.job_inputs.specs.Lines.{onto_first, pieces}
 use Rattle.job_inputs.specs.Reads.{has_mark}

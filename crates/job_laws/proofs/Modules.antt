@@ -3,7 +3,7 @@ use Rattle.std.proofs.Common.{◌≡◌, ◌<◌, ◌≤◌, ◌⊎◌, ◌-◌,
 use Rattle.std.proofs.lemmas.Bool.{cases_lt}
 use Rattle.std.proofs.lemmas.Bool.Decides.{nat_tests}
 use Rattle.ar_base.specs.Lists.{Stands, IsOneOf, Along}
-use Rattle.ar_base.specs.Numbers.{UnitId}
+use Rattle.ar_base.specs.NumbersInside.{UnitId}
 use Rattle.ar_base.proofs.Comparing.{id_from}
 use Rattle.ar_base.proofs.Standing.{stands_within, stands_some, one_none, one_first, one_here, one_rest, one_cases}
 use Rattle.ar_firing.specs.Cuts.{Cut}
@@ -12,7 +12,8 @@ use Rattle.ar_firing.specs.Static.{IsKeyedStatic}
 use Rattle.ar_firing.proofs.OneForest.{forest_same}
 use Rattle.ar_firing.proofs.OneListing.{listed_same}
 use Rattle.domains.specs.declared.Value.{Value}
-use Rattle.gate_modules.specs.Modules.{lies, inside, IsPartOfUnit, IsModule, HasEvents, IsChosen, AreChosen}
+use Rattle.gate_modules.specs.Modules.{lies, inside, IsPartOfUnit, IsModule, IsChosen, AreChosen}
+use Rattle.gate_modules.specs.ModulesInside.{HasEvents}
 use Rattle.gate_modules.specs.Shortened.{UnitSets, ShortForm, short_form, once, IsModuleOf, IsShortened}
 use Rattle.gate_modules.specs.declared.ranges.Range.{Range}
 use Rattle.gts_flatten.specs.Elaborating.{Elaborated}

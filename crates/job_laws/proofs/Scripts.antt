@@ -5,7 +5,7 @@ use Rattle.ar_base.specs.Lists.{Stands}
 use Rattle.ar_base.proofs.Standing.{stands_none, stands_one}
 use Rattle.ar_meaning.specs.Runs.{Command, Label, Fire, Back, Show, Enabled}
 use Rattle.gts_flatten.specs.Elaborating.{Elaborated}
-use Rattle.job_inputs.specs.CutLists.{HaveOneMeaning}
+use Rattle.job_inputs.specs.CutListsInside.{HaveOneMeaning}
 use Rattle.job_inputs.specs.Labels.{IsLabel, NeedsWay}
 use Rattle.job_inputs.specs.Lines.{ScriptLine, Skipped, Fires, GoesBack, Shows, ListsEnabled, NoCommand, line_said, lines_of}
 use Rattle.job_inputs.specs.Scripts.{GivesCommands, IsBad, no_command, needs_way, no_event, Why, IsFirstBad, BadLine, Commands}

@@ -19,7 +19,7 @@ use Rattle.ar_lexer.specs.declared.token.Token.{Token}
 use Rattle.ar_lexer.specs.declared.token.TokenKind.{TokenKind}
 use Rattle.ar_lexer.specs.declared.token.TokenKind.TheVariants.{Name}
 use Rattle.ar_lexer.proofs.RunLemmas.{letter_of_word}
-use Rattle.ar_meaning.specs.Facts.{AreKeyed}
+use Rattle.ar_meaning.specs.FactsInside.{AreKeyed}
 use Rattle.ar_meaning.specs.Systems.{Event, Net}
 use Rattle.ar_parser.specs.Models.{token_of, text_of, IsNumbered, name, other, AreNamesNumbered, Reads}
 use Rattle.expression_grammar.specs.Words.{Tokens}
@@ -33,7 +33,8 @@ use Rattle.class_table.specs.Declaring.{symbols_in, symbols_of, FirstUses}
 use Rattle.class_table.specs.Declaring.FirstUses.{none as no_uses, known as used, first}
 use Rattle.gts_flatten.specs.Elaborating.{Elaborated, Flattens, has, most_ways_counted}
 use Rattle.hierarchy.specs.Listing.{Unfolded, AreUnits, variables, events, observers}
-use Rattle.hierarchy.specs.Models.{RootedModel, IsRootedIn, KeepsTextRules}
+use Rattle.hierarchy.specs.Models.{RootedModel, IsRootedIn}
+use Rattle.hierarchy.specs.ModelsInside.{KeepsTextRules}
 use Rattle.hierarchy.specs.Paths.{name_text}
 use Rattle.hierarchy.specs.Units.{UnitPath, Thing}
 use Rattle.hierarchy.specs.Walks.{is_variable, is_event, is_observer}

@@ -1,6 +1,6 @@
 -- Sources of which words ask one thing, and what words say of a source.
 use Rattle.std.specs.Prelude.{◌≡◌, ◌⊎◌, ℕ, true, List, Ok, Err}
-use Rattle.ar_meaning.specs.Facts.{AreKeyed}
+use Rattle.ar_meaning.specs.FactsInside.{AreKeyed}
 use Rattle.gts_flatten.specs.Elaborating.{Elaborated}
 use Rattle.run_words.specs.declared.jobs.Asked.{Asked}
 use Rattle.job_laws.specs.Named.{NamesOnce}

@@ -4,7 +4,7 @@ ghost use Rattle.std.specs.Prelude.{◌≡◌, ℕ, List, Option, Result};
 ghost use Rattle.ar_meaning.specs.Runs.{Command};
 ghost use Rattle.domains.specs.declared.Value.{Value};
 ghost use Rattle.gts_flatten.specs.Elaborating.{Elaborated};
-ghost use Rattle.job_inputs.specs.CutLists.{HaveOneMeaning};
+ghost use Rattle.job_inputs.specs.CutListsInside.{HaveOneMeaning};
 ghost use Rattle.job_inputs.specs.Scripts.{BadLine, Commands};
 ghost use Rattle.job_inputs.specs.Naming.{NamesEvents, HasUnknown};
 ghost use Rattle.job_inputs.specs.Wanting.{IsWanted, NamesObserver, NamesNone, WantsNone};

@@ -6,20 +6,23 @@ use Rattle.ar_base.specs.Lists as l
 use Rattle.ar_base.proofs.Standing.{stands_one, stands_some, stands_map, one_here, along_on, along_back}
 use Rattle.ar_io.specs.Writing.{SinkState}
 use Rattle.domains.specs.declared.Value.{Value}
-use Rattle.typed_expr.specs.Pairs.{turned}
+use Rattle.typed_expr.specs.PairsInside.{turned}
 use Rattle.typed_expr.specs.Yields.{Yields}
 use Rattle.typed_expr.specs.Kinds.{HasKind}
 use Rattle.typed_expr.specs.declared.expr.Expr.{Expr, out-Expr}
 use Rattle.ar_meaning.specs.Systems.{Net, System}
-use Rattle.ar_meaning.specs.Facts.{AreKeyed, HasValue}
+use Rattle.ar_meaning.specs.Facts.{HasValue}
+use Rattle.ar_meaning.specs.FactsInside.{AreKeyed}
 use Rattle.ar_meaning.specs.Flows.{FlowFault}
 use Rattle.ar_meaning.specs.Runs.{Label}
 use Rattle.ar_meaning.specs.FlatOf.{IsNumber, IsFlatOf}
-use Rattle.ar_meaning.specs.Image.{Expr_renames, IsImage}
+use Rattle.ar_meaning.specs.Image.{Expr_renames}
+use Rattle.ar_meaning.specs.ImageInside.{IsImage}
 use Rattle.ar_meaning.proofs.ByNumber.{keyed}
 use Rattle.ar_meaning.proofs.FlatSystems.{flat_image, flat_back}
 use Rattle.ar_firing.specs.Static.{IsKeyedStatic}
-use Rattle.ar_firing.specs.Cuts.{AreEvents, Conflicts, Cut, ConflictSet, IsConflictFreeUpTo, Makes, Reaches, UpTo}
+use Rattle.ar_firing.specs.Cuts.{AreEvents, Conflicts, Cut, ConflictSet, IsConflictFreeUpTo, Makes, Reaches}
+use Rattle.ar_firing.specs.CutsInside.{UpTo}
 use Rattle.ar_base.proofs.Sets.{within_self}
 use Rattle.ar_firing.specs.Forest.{ModeTree, IsForest, IsLine}
 use Rattle.ar_firing.specs.Listed.{AreListed}
@@ -62,7 +65,8 @@ use Rattle.table_laws.specs.GateLaws.{TableIsOrdered, TableAgrees}
 use Rattle.table_laws.proofs.Agreeing.{agrees as table_meant}
 use Rattle.tree_equations.specs.Gives as gives
 use Rattle.gate_diagrams.specs.Answers.{IsAnswerUpTo}
-use Rattle.firable_families.specs.Firable.{AndUpTo, IsFirableOf}
+use Rattle.firable_families.specs.Firable.{AndUpTo}
+use Rattle.firable_families.specs.FirableInside.{IsFirableOf}
 use Rattle.firable_families.proofs.Few.{firable_of, small_of, firable_up_to}
 use Rattle.cut_text.proofs.UpToOrder.{has_it, is_small, has_other}
 use Rattle.firable_families.proofs.InForests.{firable_in_trees, firable_in_system}

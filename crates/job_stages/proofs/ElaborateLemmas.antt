@@ -1,7 +1,8 @@
 -- From a text to its system, as the calls of the stages answer.
 use Rattle.std.proofs.Common.{◌≡◌, ℕ, List, Option, Result, Ok, Err, refl, sym, ◌∙◌, ap, subst}
 use Rattle.ar_base.specs.Breach.{AreKept}
-use Rattle.ar_base.specs.Stages.{passes, kept, fits, IsRefusal, rule_told, Meets}
+use Rattle.ar_base.specs.Stages.{passes, kept, fits}
+use Rattle.ar_base.specs.StagesInside.{IsRefusal, rule_told, Meets}
 use Rattle.ar_base.specs.declared.faults.RuleFault.{RuleFault}
 use Rattle.ar_base.specs.declared.faults.RuleFault.TheVariants.{Rule, Limit, Memory}
 use Rattle.ar_base.specs.declared.places.Place.{Place}
@@ -14,7 +15,8 @@ use Rattle.class_table.specs.Rules.{BreaksTextRule, text_rules}
 use Rattle.class_table.specs.Tabling.{Tabulates, table, breach}
 use Rattle.class_table.specs.declared.tables.Classes.{Classes}
 use Rattle.hierarchy.specs.Listing.{Unfolded}
-use Rattle.hierarchy.specs.Models.{RootedModel, IsRootedIn, IsKeptTable}
+use Rattle.hierarchy.specs.Models.{RootedModel, IsRootedIn}
+use Rattle.hierarchy.specs.ModelsInside.{IsKeptTable}
 use Rattle.hierarchy.specs.Tie.{IsTreeOf}
 use Rattle.hierarchy.specs.declared.tree.Tree.{Tree}
 use Rattle.gts_core.specs.declared.system.GtsParts.{GtsParts}

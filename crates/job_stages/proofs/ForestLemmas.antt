@@ -1,10 +1,10 @@
 -- The dropped events and the forest of a job.
 use Rattle.std.proofs.Common.{◌≡◌, ◌≤◌, ℕ, length, Option, List, [], Ok, Err, map, refl, sym, ◌∙◌, ap, subst}
 use Rattle.ar_base.specs.Lists.{IsOneOf}
-use Rattle.ar_base.specs.Numbers.{EventId}
+use Rattle.ar_base.specs.NumbersInside.{EventId}
 use Rattle.ar_base.specs.Texts.{text_at}
 use Rattle.ar_base.proofs.Standing.{one_none}
-use Rattle.typed_expr.specs.Pairs.{turned}
+use Rattle.typed_expr.specs.PairsInside.{turned}
 use Rattle.ar_meaning.specs.Systems.{System}
 use Rattle.ar_meaning.specs.FlatOf.{IsNumber}
 use Rattle.ar_meaning.specs.TraceText.{Naming}

@@ -8,7 +8,8 @@ use Rattle.run_words.specs.declared.jobs.JobFault.{JobFault}
 use Rattle.run_words.specs.declared.jobs.JobFault.TheVariants as words
 use Rattle.run_words.specs.declared.shapes.Form.{Form}
 use Rattle.run_words.specs.declared.shapes.Form.TheVariants as form
-use Rattle.job_stages.specs.Jobs.{makes_model, AnswersJob}
+use Rattle.job_stages.specs.Jobs.{makes_model}
+use Rattle.job_stages.specs.JobsInside.{AnswersJob}
 use Rattle.job_stages.specs.Passing.{stop_of_words}
 use Rattle.job_stages.specs.declared.stops.Stop.{Stop}
 

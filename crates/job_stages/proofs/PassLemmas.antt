@@ -4,12 +4,13 @@ use Rattle.std.proofs.lemmas.List.{length-map}
 use Rattle.std.proofs.lemmas.Option.{same_Some}
 use Rattle.std.specs.Global.{Global}
 use Rattle.ar_base.specs.Counts.{limit_of}
-use Rattle.ar_base.specs.Numbers.{EventId}
+use Rattle.ar_base.specs.NumbersInside.{EventId}
 use Rattle.ar_base.specs.declared.counts.Count.TheVariants.{CutLines, Events, ScriptBytes}
 use Rattle.ar_base.proofs.Standing.{stands_within, along_length}
-use Rattle.ar_base.specs.Stages.{IsRefusal, Where}
+use Rattle.ar_base.specs.Stages.{Where}
+use Rattle.ar_base.specs.StagesInside.{IsRefusal}
 use Rattle.ar_base.specs.Stages as then
-use Rattle.job_inputs.specs.Naming.{AnswersEvents}
+use Rattle.job_inputs.specs.NamingInside.{AnswersEvents}
 use Rattle.job_inputs.specs.declared.reading.ListFault.{ListFault}
 use Rattle.job_inputs.specs.declared.reading.ListFault.TheVariants as list
 use Rattle.gts_core.specs.declared.bound.Chain.{Chain}

@@ -9,7 +9,7 @@ use Rattle.ar_firing.specs.Forest.{ModeTree, IsForest}
 use Rattle.eq_core.specs.Gates.{Table}
 use Rattle.eq_core.specs.Views.{table_of, gate_of}
 use Rattle.eq_core.specs.declared.joints.Equations.{Equations}
-use Rattle.eq_build.specs.Builds.{most_gates}
+use Rattle.eq_build.specs.BuildsInside.{most_gates}
 use Rattle.gts_core.specs.Sound.{IsSound}
 use Rattle.gts_core.specs.View.{Views, net_of, numbered}
 use Rattle.gts_core.specs.declared.system.GtsParts.{GtsParts}

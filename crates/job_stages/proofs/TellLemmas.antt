@@ -1,7 +1,8 @@
 -- The texts of jobs, as they are written.
 use Rattle.std.proofs.Common.{◌≡◌, ℕ, List, Result, Ok, Err, map, length, refl, sym, ◌∙◌, ap, subst}
 use Rattle.std.proofs.lemmas.List.{length-map}
-use Rattle.ar_io.specs.Writing.{SinkState, Writes}
+use Rattle.ar_io.specs.Writing.{SinkState}
+use Rattle.ar_io.specs.WritingInside.{Writes}
 use Rattle.aralia_text.specs.Texts.{equations_text}
 use Rattle.eq_core.specs.Views.{table_of}
 use Rattle.ar_io.specs.declared.outside.SinkFailed.{SinkFailed}
@@ -22,8 +23,9 @@ use Rattle.hierarchy.specs.Paths.{unit_path, thing_path}
 use Rattle.job_inputs.specs.Flat.{command_of}
 use Rattle.job_inputs.specs.declared.commands.Command.{Command as Given}
 use Rattle.mode_trees.specs.declared.forests.Forest.{Forest}
-use Rattle.replayer.specs.Replays.{IsReplay, AnswersReplay}
-use Rattle.replayer.specs.Replays as replays
+use Rattle.replayer.specs.Replays.{IsReplay}
+use Rattle.replayer.specs.ReplaysInside.{AnswersReplay}
+use Rattle.replayer.specs.ReplaysInside as replays
 use Rattle.replayer.specs.declared.replaying.End.{End}
 use Rattle.replayer.specs.declared.replaying.ReplayFault.{ReplayFault}
 use Rattle.run_words.specs.declared.jobs.Asked.{Asked}

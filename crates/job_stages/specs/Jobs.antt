@@ -1,12 +1,9 @@
 -- The jobs of words, and which commands make their model.
-use Rattle.std.specs.Prelude.{◌≡◌, Bool, true, ℕ, List, Result, Ok, Err}
+use Rattle.std.specs.Prelude.{◌≡◌, Bool, true, ℕ, List}
 use Rattle.run_words.specs.Commands.{shape_of, is_made}
 use Rattle.run_words.specs.Jobs.{IsAsked}
 use Rattle.run_words.specs.declared.jobs.Asked.{Asked}
 use Rattle.run_words.specs.declared.verbs.Verb.{Verb}
-use Rattle.job_stages.specs.declared.refusals.Refusal.TheVariants.{Usage}
-use Rattle.job_stages.specs.declared.stops.Stop.{Stop}
-use Rattle.job_stages.specs.declared.stops.Stop.TheVariants.{Refused, Memory}
 
 -- the words give no job
 abbrev pub IsNoJob : List (List ℕ) → Type 0
@@ -19,9 +16,3 @@ makes_model command = is_made (shape_of command).files
 -- the words ask for no file: they are no job, or the command makes its model
 abbrev pub LoadsNothing : List (List ℕ) → Type 0
 LoadsNothing words = (asked : Asked) → IsAsked words asked → makes_model asked.job.command ≡ true
-
--- what the reading of words answers: the job, or that there is none, or want of memory
-abbrev pub AnswersJob : List (List ℕ) → Result Asked Stop → Type 0
-AnswersJob words (Ok asked) = IsAsked words asked
-AnswersJob words (Err (Refused r)) = (r ≡ Usage) × IsNoJob words
-AnswersJob words (Err Memory) = Unit {0}

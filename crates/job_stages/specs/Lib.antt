@@ -1,4 +1,5 @@
 pub mod Jobs
+pub mod JobsInside
 pub mod Refusals
 pub mod Files
 pub mod Elaborates

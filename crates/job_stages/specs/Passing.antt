@@ -5,8 +5,8 @@ use Rattle.ar_base.specs.Counts.{limit_of}
 use Rattle.ar_base.specs.declared.counts.Count.TheVariants.{Nesting, ScriptBytes, Events, Gates, CutLines}
 use Rattle.ar_base.specs.declared.faults.RuleFault.{RuleFault}
 use Rattle.ar_base.specs.declared.faults.RuleFault.TheVariants as rules
-use Rattle.ar_base.specs.Numbers.{EventId}
-use Rattle.ar_base.specs.Stages.{IsStage}
+use Rattle.ar_base.specs.NumbersInside.{EventId}
+use Rattle.ar_base.specs.StagesInside.{IsStage}
 use Rattle.ar_firing.specs.Forest.{IsForest}
 use Rattle.ar_firing.specs.Rules.{KeepsUpTo}
 use Rattle.ar_meaning.specs.Runs as runs
@@ -14,7 +14,8 @@ use Rattle.ar_meaning.specs.Systems.{System}
 use Rattle.ar_parser.specs.declared.fault.ParseFault.{ParseFault}
 use Rattle.ar_parser.specs.declared.fault.ParseFault.TheVariants as parse
 use Rattle.eq_core.specs.Views.{table_of}
-use Rattle.job_inputs.specs.Naming.{NamesEvents, HasUnknown, AreEventsOf}
+use Rattle.job_inputs.specs.Naming.{NamesEvents, HasUnknown}
+use Rattle.job_inputs.specs.NamingInside.{AreEventsOf}
 use Rattle.job_inputs.specs.declared.reading.ListFault.{ListFault}
 use Rattle.job_inputs.specs.declared.reading.ListFault.TheVariants as list
 use Rattle.cut_text.specs.ForestPrinted.{edge_count}

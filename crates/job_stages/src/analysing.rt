@@ -1,8 +1,8 @@
 //! What the analyses of a system stand on: the dropped events, and the trees of modes.
 
 ghost use Rattle.std.specs.Prelude.{◌≡◌, map};
-ghost use Rattle.ar_base.specs.Numbers.{EventId as EventNumber};
-ghost use Rattle.job_inputs.specs.Naming.{AreEventsOf};
+ghost use Rattle.ar_base.specs.NumbersInside.{EventId as EventNumber};
+ghost use Rattle.job_inputs.specs.NamingInside.{AreEventsOf};
 ghost use Rattle.gts_flatten.specs.Elaborating.{Elaborated};
 ghost use Rattle.gts_flatten.specs.Flat.{IsFlat};
 ghost use Rattle.job_stages.specs.Passing.{IsStageOf, IsFlattened, AreDropped, ReadsList, HasForest};

@@ -2,9 +2,9 @@
 
 ghost use Rattle.std.specs.Prelude.{◌≡◌, ◌≤◌, length};
 ghost use Rattle.ar_base.specs.Counts.{limit_of};
-ghost use Rattle.ar_base.specs.Stages.{Meets};
+ghost use Rattle.ar_base.specs.StagesInside.{Meets};
 ghost use Rattle.ar_base.specs.declared.counts.Count.TheVariants.{ModelBytes};
-ghost use Rattle.hierarchy.specs.Models.{IsKeptTable};
+ghost use Rattle.hierarchy.specs.ModelsInside.{IsKeptTable};
 ghost use Rattle.job_stages.specs.Elaborates.{Parses, Tables, Systems, Elaborates};
 ghost use Rattle.job_stages.specs.Passing.{IsStageOf, IsFlattened};
 

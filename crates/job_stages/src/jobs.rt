@@ -1,8 +1,9 @@
 //! The job of the words.
 
 ghost use Rattle.std.specs.Prelude.{◌≡◌};
-ghost use Rattle.ar_base.specs.Texts.{bytes_of_all};
-ghost use Rattle.job_stages.specs.Jobs.{AnswersJob, makes_model};
+ghost use Rattle.ar_base.specs.TextsInside.{bytes_of_all};
+ghost use Rattle.job_stages.specs.Jobs.{makes_model};
+ghost use Rattle.job_stages.specs.JobsInside.{AnswersJob};
 
 use crate::stops::Stop;
 use run_words::{Asked, Verb, read_asked};

@@ -14,8 +14,8 @@ use Rattle.ar_firing.specs.Forest.{Row, ModeTree}
 use Rattle.ar_firing.specs.Trees.{AreTrees}
 use Rattle.zdd_families.specs.Families.{Family, holds, has}
 use Rattle.zdd_families.proofs.Members.{holds_law}
-use Rattle.firable_families.specs.Firable.{LeadsToMode, IsFirableOf}
-use Rattle.firable_families.specs.Firable.LeadsToMode.{root, edge}
+use Rattle.firable_families.specs.FirableInside.{LeadsToMode, IsFirableOf}
+use Rattle.firable_families.specs.FirableInside.LeadsToMode.{root, edge}
 use Rattle.firable_families.proofs.Listing.{stands_has}
 use Rattle.min_cuts.specs.Lines.{line_from, IsInFiringOrder, AreInFiringOrder}
 use Rattle.min_cuts.specs.Kept.{edge_events, in_order, IsKnown}

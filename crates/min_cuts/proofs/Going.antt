@@ -8,14 +8,14 @@ use Rattle.std.proofs.lemmas.List.Sorted.{length_permutation}
 use Rattle.ar_base.specs.Lists.{Stands}
 use Rattle.ar_base.specs.Sets.{Ascends}
 use Rattle.ar_base.proofs.Standing.{one_here}
-use Rattle.ar_base.specs.Numbers.{EventId}
+use Rattle.ar_base.specs.NumbersInside.{EventId}
 use Rattle.ar_firing.specs.Forest.{ModeTree}
 use Rattle.ar_firing.specs.Trees.{AreTrees}
 use Rattle.zdd_families.specs.Families.{Family, has}
 use Rattle.zdd_families.specs.Behind.{behind}
 use Rattle.zdd_families.proofs.Behind.{behind_none}
 use Rattle.zdd_nodes.specs.Nodes.{NodeId, Stored, family, IsNumber, IsSoundStore}
-use Rattle.firable_families.specs.Firable.{IsFirableOf}
+use Rattle.firable_families.specs.FirableInside.{IsFirableOf}
 use Rattle.firable_families.proofs.Listing.{stands_has}
 use Rattle.min_cuts.specs.Lines.{AreInFiringOrder}
 use Rattle.min_cuts.specs.Sizes.{largest}

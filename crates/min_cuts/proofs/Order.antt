@@ -10,8 +10,8 @@ use Rattle.domains.specs.declared.Value.{Value}
 use Rattle.ar_meaning.specs.Runs.{Label}
 use Rattle.ar_firing.specs.Forest.{Row, ModeTree}
 use Rattle.ar_firing.specs.Trees.{IsTree}
-use Rattle.firable_families.specs.Firable.{LeadsToMode}
-use Rattle.firable_families.specs.Firable.LeadsToMode.{root, edge}
+use Rattle.firable_families.specs.FirableInside.{LeadsToMode}
+use Rattle.firable_families.specs.FirableInside.LeadsToMode.{root, edge}
 
 -- whether the edge has the event of one of the labels
 abbrev pub on : List Label → Row → Bool

@@ -1,7 +1,7 @@
 -- What one call for the next set does.
 use Rattle.std.specs.Prelude.{◌≡◌, ℕ, List, [], ◌∷◌, Option, MatchOption, ⊤}
 use Rattle.std.specs.Borrow.{follows_so, Bor, MutBor, Fml}
-use Rattle.ar_base.specs.Numbers.{EventId}
+use Rattle.ar_base.specs.NumbersInside.{EventId}
 use Rattle.min_cuts.specs.Kept.{numbers}
 use Rattle.min_cuts.specs.contracts.lister.Lister.{the_row}
 use mathlib.Core.Option.{none}

@@ -6,7 +6,7 @@ ghost use Rattle.ar_firing.specs.Trees.{AreTrees};
 ghost use Rattle.mode_trees.specs.Views.{trees_of};
 ghost use Rattle.zdd_families.specs.Families.{has};
 ghost use Rattle.zdd_nodes.specs.Nodes.{family as family_of, IsNumber};
-ghost use Rattle.firable_families.specs.Firable.{IsFirableOf};
+ghost use Rattle.firable_families.specs.FirableInside.{IsFirableOf};
 ghost use Rattle.min_cuts.specs.Lines.{AreInFiringOrder};
 
 use crate::orders::{find_spots, name_spots, order_of, places_of};

@@ -7,7 +7,7 @@ use Rattle.domains.specs.declared.Value.{Value}
 use Rattle.ar_meaning.specs.Runs.{Label}
 use Rattle.ar_firing.specs.Forest.{Row, ModeTree}
 use Rattle.ar_firing.specs.Trees.{IsTree}
-use Rattle.firable_families.specs.Firable.{LeadsToMode, root, edge}
+use Rattle.firable_families.specs.FirableInside.{LeadsToMode, root, edge}
 use Rattle.diagram_steps.specs.declared.trees.NumberedEdge.{NumberedEdge}
 use Rattle.diagram_steps.specs.declared.trees.NumberedTree.{NumberedTree}
 use Rattle.diagram_steps.specs.Trees.{edges_of}

@@ -6,7 +6,7 @@ use Rattle.domains.specs.declared.Value.{Value}
 use Rattle.ar_meaning.specs.Runs.{Label}
 use Rattle.ar_firing.specs.Forest.{Row, ModeTree}
 use Rattle.ar_firing.specs.Trees.{IsTree, AreTrees}
-use Rattle.firable_families.specs.Firable.{LeadsToMode, root, edge, IsFirableOf}
+use Rattle.firable_families.specs.FirableInside.{LeadsToMode, root, edge, IsFirableOf}
 use Rattle.mode_nodes.specs.Diagrams.{mode_of}
 use Rattle.diagram_steps.specs.declared.trees.NumberedTree.{NumberedTree}
 use Rattle.diagram_steps.specs.Trees.{edges_of, HasEvent}

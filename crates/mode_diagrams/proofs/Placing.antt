@@ -3,7 +3,7 @@ use Rattle.std.proofs.Common.{◌≡◌, ◌⊎◌, ⊎_elim, inl, inr, ℕ, ◌
 use Rattle.std.specs.HashMap.{HashMap, Updates}
 use Rattle.std.proofs.lemmas.Bool.{and_parts, cases_eq}
 use Rattle.ar_base.specs.Lists.{Stands, IsOneOf}
-use Rattle.ar_base.specs.Numbers.{EventId}
+use Rattle.ar_base.specs.NumbersInside.{EventId}
 use Rattle.ar_base.proofs.Standing.{stands_one, stands_within, one_none, one_cases, one_split, one_left, one_right, one_first}
 use Rattle.eq_core.specs.Gates.{Operand, EventIs, Gate}
 use Rattle.zdd_families.proofs.Laws.{eqb-refl}

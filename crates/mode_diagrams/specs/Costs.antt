@@ -1,7 +1,7 @@
 -- What the modes of trees cost: as many events as are on the path to each.
 use Rattle.std.specs.Prelude.{◌≡◌, ◌≤◌, ℕ, suc, List, Option, length, slice_index_or}
 use Rattle.ar_base.specs.Lists.{Stands, AreDifferent, IsOneOf}
-use Rattle.ar_firing.specs.Cuts.{UpTo}
+use Rattle.ar_firing.specs.CutsInside.{UpTo}
 use Rattle.mode_nodes.specs.Bounds.{Costs, Bounded, Allows}
 use Rattle.diagram_steps.specs.declared.trees.NumberedEdge.{NumberedEdge}
 use Rattle.diagram_steps.specs.declared.trees.NumberedTree.{NumberedTree}

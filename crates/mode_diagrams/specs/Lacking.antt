@@ -2,7 +2,7 @@
 use Rattle.std.specs.Prelude.{◌≡◌, ◌⊎◌, ◌<◌, ℕ, Bool, true, ◌&&◌, eqb, List, length, Option, Some}
 use Rattle.std.specs.HashMap.{HashMap, get}
 use Rattle.ar_base.specs.Lists.{Stands, IsOneOf}
-use Rattle.ar_base.specs.Numbers.{EventId}
+use Rattle.ar_base.specs.NumbersInside.{EventId}
 use Rattle.eq_core.specs.Gates.{Operand, EventIs, Gate}
 use Rattle.mode_nodes.specs.Diagrams.{Stored}
 use Rattle.mode_nodes.specs.declared.store.DiagramFault.{DiagramFault}

@@ -2,7 +2,7 @@
 
 ghost use Rattle.std.specs.Prelude.{◌≡◌, ◌⊎◌, ◌≤◌, IfOk, length, map};
 ghost use Rattle.eq_core.specs.Ordered.{AreOrdered};
-ghost use Rattle.eq_core.specs.Values.{IsBelow};
+ghost use Rattle.eq_core.specs.ValuesInside.{IsBelow};
 ghost use Rattle.eq_core.specs.Views.{gate_of, operand_of};
 ghost use Rattle.mode_nodes.specs.Diagrams.{IsNumber};
 ghost use Rattle.mode_nodes.specs.Bounds.{GrowsWithin};

@@ -3,7 +3,7 @@
 ghost use Rattle.std.specs.Prelude.{◌≡◌, ◌⊎◌, ◌<◌, List, IfOk, length, map, true};
 ghost use Rattle.eq_core.specs.Gates.{Gate as GateOf};
 ghost use Rattle.eq_core.specs.Ordered.{AreBelow};
-ghost use Rattle.eq_core.specs.Values.{IsBelow};
+ghost use Rattle.eq_core.specs.ValuesInside.{IsBelow};
 ghost use Rattle.eq_core.specs.Views.{all_needed, gate_of, operand_of};
 ghost use Rattle.mode_nodes.specs.Diagrams.{IsNumber};
 ghost use Rattle.mode_nodes.specs.Bounds.{GrowsWithin};

@@ -9,7 +9,8 @@ use Rattle.ar_base.proofs.Items.{next_left, none_left}
 use Rattle.domains.specs.declared.Value.{Value}
 use Rattle.domains.specs.declared.Value.TheVariants.{Truth}
 use Rattle.typed_expr.specs.Sets.{HasExactly}
-use Rattle.typed_expr.specs.Yields.{Yields, facts_of}
+use Rattle.typed_expr.specs.Yields.{Yields}
+use Rattle.typed_expr.specs.YieldsInside.{facts_of}
 use Rattle.typed_expr.specs.declared.expr.Expr.{Expr, out-Expr}
 use Rattle.ar_meaning.specs.Facts.{PassesConditions, none, one_and}
 use Rattle.ar_firing.specs.Fragment.{At}

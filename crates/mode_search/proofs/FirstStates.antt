@@ -6,7 +6,7 @@ use Rattle.ar_base.specs.Lists.{Stands}
 use Rattle.ar_base.specs.Numbers.{VarId}
 use Rattle.ar_base.proofs.Standing.{stands_one, stands_within, at_most}
 use Rattle.ar_meaning.specs.Systems as s
-use Rattle.ar_meaning.specs.Found.{IsFirstOrNone}
+use Rattle.ar_meaning.specs.FoundInside.{IsFirstOrNone}
 use Rattle.ar_firing.specs.Fragment.{IsStateOf}
 use Rattle.gts_core.specs.View.{net_of, variable_of}
 use Rattle.gts_core.proofs.Viewing.{variable_there, variable_back}

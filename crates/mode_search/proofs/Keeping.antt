@@ -3,7 +3,8 @@ use Rattle.std.proofs.Common.{◌≡◌, ℕ, ◌+◌, ◌<◌, ◌≤◌, ◌�
 use Rattle.std.proofs.lemmas.List.{append-nil}
 use Rattle.std.proofs.lemmas.Bool.{cases_lt}
 use Rattle.ar_base.specs.Lists.{Stands, IsOneOf, HasNo, none}
-use Rattle.ar_base.specs.Numbers.{EventId, WayId}
+use Rattle.ar_base.specs.Numbers.{WayId}
+use Rattle.ar_base.specs.NumbersInside.{EventId}
 use Rattle.ar_base.proofs.Standing.{stands_one, stands_within, stands_none, stands_split, one_left, one_right, one_first, at_most}
 use Rattle.ar_base.proofs.Items.{single, along_push}
 use Rattle.ar_meaning.specs.Runs.{Label}

@@ -1,6 +1,7 @@
 -- Where transitions lead.
 use Rattle.std.proofs.Common.{◌≡◌, ℕ, true, List, [], ◌∷◌, Contains, slice_get, None, refl, sym, ap, ◌∙◌, subst}
-use Rattle.ar_base.specs.Lists.{IsOneOf, HasOther}
+use Rattle.ar_base.specs.Lists.{IsOneOf}
+use Rattle.ar_base.specs.ListsInside.{HasOther}
 use Rattle.ar_base.specs.Numbers.{VarId}
 use Rattle.ar_base.proofs.Standing.{one_contains, contains_one, one_none, stands_map, stands_map_back}
 use Rattle.domains.specs.declared.Value.{Value}

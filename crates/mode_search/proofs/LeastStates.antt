@@ -10,7 +10,7 @@ use Rattle.typed_expr.specs.Mentions.{Mentions}
 use Rattle.typed_expr.specs.declared.expr.Expr.{Expr, out-Expr}
 use Rattle.ar_meaning.specs.Systems as s
 use Rattle.ar_meaning.specs.Systems.{System, Net, Leaf}
-use Rattle.ar_meaning.specs.Found.{IsFirstOrNone}
+use Rattle.ar_meaning.specs.FoundInside.{IsFirstOrNone}
 use Rattle.ar_firing.specs.Fragment.{WayNames, in_guard, in_action, IsStateOf, IsNamedStateOf, IsModeOf}
 use Rattle.ar_firing.specs.Fragment as f
 use Rattle.gts_core.specs.View.{net_of, variable_of}

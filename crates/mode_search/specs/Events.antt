@@ -1,7 +1,8 @@
 -- Events that are marked, units that have transitions, and the first state variable of each unit.
 use Rattle.std.specs.Prelude.{◌≡◌, ◌<◌, ◌≤◌, ◌⊎◌, ℕ, Bool, true, false, List, length, map, Option, Some, None}
 use Rattle.ar_base.specs.Lists.{Stands, IsOneOf}
-use Rattle.ar_base.specs.Numbers.{EventId, VarId, WayId}
+use Rattle.ar_base.specs.Numbers.{VarId, WayId}
+use Rattle.ar_base.specs.NumbersInside.{EventId}
 use Rattle.ar_meaning.specs.Found.{IsAnswer}
 use Rattle.gts_core.specs.declared.system.Event.{Event}
 use Rattle.gts_core.specs.declared.system.Way.{Way}

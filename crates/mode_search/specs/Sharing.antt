@@ -1,7 +1,7 @@
 -- Events with two live edges, and the events that have one.
 use Rattle.std.specs.Prelude.{◌≡◌, ◌<◌, ◌++◌, ℕ, nat_lt, if◌then◌else◌, List, [], ◌∷◌, length, replicate, Option, Some, None, slice_set}
 use Rattle.ar_base.specs.Lists.{Stands}
-use Rattle.ar_base.specs.Numbers.{EventId}
+use Rattle.ar_base.specs.NumbersInside.{EventId}
 use Rattle.mode_search.specs.Events.{IsLeast}
 use Rattle.mode_search.specs.declared.listing.Live.{Live}
 use Rattle.mode_search.specs.declared.sharing.Sharing.{Sharing}

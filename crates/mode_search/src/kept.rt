@@ -2,7 +2,7 @@
 
 ghost use Rattle.std.specs.Prelude.{◌≡◌, ◌++◌, ◌<◌, length, IfOk, MatchOption};
 ghost use Rattle.ar_base.specs.Lists.{Stands};
-ghost use Rattle.ar_meaning.specs.Found.{IsFirstOrNone};
+ghost use Rattle.ar_meaning.specs.FoundInside.{IsFirstOrNone};
 ghost use Rattle.ar_firing.specs.Fragment.{IsStateOf};
 ghost use Rattle.mode_search.specs.Modes.{number_in};
 ghost use Rattle.gts_core.specs.View.{net_of};

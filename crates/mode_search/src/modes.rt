@@ -2,7 +2,7 @@
 
 ghost use Rattle.std.specs.Prelude.{◌≡◌, IfOk, MatchOption};
 ghost use Rattle.ar_base.specs.Lists.{HasNo};
-ghost use Rattle.ar_meaning.specs.Found.{IsFirstOrNone};
+ghost use Rattle.ar_meaning.specs.FoundInside.{IsFirstOrNone};
 ghost use Rattle.ar_firing.specs.Fragment.{IsStateOf};
 ghost use Rattle.gts_core.specs.View.{net_of};
 ghost use Rattle.mode_search.specs.Modes.{IsStateAt, IsNamedState, IsLeast, lesser_of, IsAlone, number_in, transition_of, IsWayMode};

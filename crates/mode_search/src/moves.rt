@@ -9,7 +9,7 @@ ghost use Rattle.gts_core.specs.View.{condition_of};
 ghost use Rattle.gts_core.specs.Adding.{Adds, HasThose};
 ghost use Rattle.mode_search.specs.Adding.{SomeHas};
 ghost use Rattle.mode_search.specs.Modes.{transition_of};
-ghost use Rattle.ar_base.specs.Lists.{HasOther};
+ghost use Rattle.ar_base.specs.ListsInside.{HasOther};
 ghost use Rattle.mode_search.specs.Moves.{HasAt, IsMove, IsJudged, GivesValue};
 
 use ar_base::{Memory, VarId};

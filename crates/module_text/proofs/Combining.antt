@@ -8,15 +8,18 @@ use Rattle.ar_base.specs.Sets.{Ascends, IsBefore}
 use Rattle.ar_base.proofs.Standing.{stands_one}
 use Rattle.typed_expr.specs.declared.expr.Expr.{Expr}
 use Rattle.hierarchy.specs.Listing.{AreUnits, events}
-use Rattle.hierarchy.specs.Models.{RootedModel, KeepsTextRules}
+use Rattle.hierarchy.specs.Models.{RootedModel}
+use Rattle.hierarchy.specs.ModelsInside.{KeepsTextRules}
 use Rattle.hierarchy.specs.Units.{UnitLevel, UnitPath, Thing}
 use Rattle.hierarchy.proofs.Apart.{units_different}
 use Rattle.hierarchy.proofs.Places.{IsUnder}
 use Rattle.gts_flatten.specs.Elaborating.{Elaborated}
-use Rattle.zdd_families.specs.Families.{Family, IsFamily, order}
+use Rattle.zdd_families.specs.Families.{Family}
+use Rattle.zdd_families.specs.FamiliesInside.{IsFamily, order}
 use Rattle.zdd_families.proofs.Members.{order_law}
 use Rattle.gate_modules.specs.Choices.{StandFor}
-use Rattle.gate_modules.specs.Modules.{lies, AreRanges, Covers, HasEvents}
+use Rattle.gate_modules.specs.Modules.{lies, Covers}
+use Rattle.gate_modules.specs.ModulesInside.{AreRanges, HasEvents}
 use Rattle.gate_modules.specs.declared.ranges.Range.{Range}
 use Rattle.gate_modules.proofs.Standing.{stand_for}
 use Rattle.module_text.specs.Ranges.{HasEvent, IsRangeOf, AreRangesOf}

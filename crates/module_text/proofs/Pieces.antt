@@ -5,18 +5,18 @@ use Rattle.std.proofs.lemmas.List.{map-append, take_more, length-map}
 use Rattle.std.proofs.lemmas.List.Elements.{filter-append}
 use Rattle.ar_base.specs.Lists.{Along, IsOneOf}
 use Rattle.ar_base.specs.Lists.Along.{none, one_and}
-use Rattle.ar_base.specs.Numbers.{EventId}
+use Rattle.ar_base.specs.NumbersInside.{EventId}
 use Rattle.ar_base.specs.Texts.{line, text_at}
 use Rattle.gts_core.specs.declared.system.GtsParts.{GtsParts}
 use Rattle.mode_trees.specs.declared.forests.Edge.{Edge}
 use Rattle.mode_trees.specs.declared.forests.ModeTree.{ModeTree}
 use Rattle.zdd_families.specs.Families.{holds}
-use Rattle.ar_base.specs.Numbers.{UnitId}
+use Rattle.ar_base.specs.NumbersInside.{UnitId}
 use Rattle.ar_base.proofs.Standing.{one_none, one_first, one_rest, one_cases, one_split, one_here, stands_map, stands_map_back, stands_within, along_back}
 use Rattle.ar_base.proofs.Lines.{line_after}
 use Rattle.mode_trees.specs.Ways.{OwnTheirWays}
 use Rattle.text_pieces.specs.WayLabels.{way_label}
-use Rattle.gate_modules.specs.Shortened.{event_numbers, set_of, module_of, short_form_of}
+use Rattle.gate_modules.specs.ShortenedInside.{event_numbers, set_of, module_of, short_form_of}
 use Rattle.gate_modules.specs.declared.ranges.EventSet.{EventSet}
 use Rattle.gate_modules.specs.declared.ranges.Module.{Module}
 use Rattle.gate_modules.specs.declared.ranges.Short.{Short}

@@ -12,7 +12,8 @@ use Rattle.std.proofs.lemmas.List.Filters.{dedup_is}
 use Rattle.std.proofs.lemmas.List.Kept.{Contains-dedup, Contains-from_dedup, IsStrictlySortedBy-dedup}
 use Rattle.std.proofs.lemmas.List.Sorted.{Contains-permutation, IsPermutation-sym}
 use Rattle.ar_base.specs.Lists.{Stands, IsOneOf}
-use Rattle.ar_base.specs.Numbers.{EventId, WayId}
+use Rattle.ar_base.specs.Numbers.{WayId}
+use Rattle.ar_base.specs.NumbersInside.{EventId}
 use Rattle.ar_base.specs.Sets.{Ascends}
 use Rattle.ar_base.specs.declared.faults.Memory.{Memory}
 use Rattle.ar_base.proofs.Items.{all_stand}
@@ -20,7 +21,7 @@ use Rattle.ar_base.proofs.Standing.{stands_none, stands_left, stands_next, stand
 use Rattle.ar_firing.proofs.OneListing.{ascending_same}
 use Rattle.flow_blocks.specs.Bits.{row_of}
 use Rattle.flow_blocks.proofs.RowLemmas.{row_set_same, row_set_other}
-use Rattle.gate_modules.specs.Shortened.{event_numbers}
+use Rattle.gate_modules.specs.ShortenedInside.{event_numbers}
 use Rattle.mode_trees.specs.declared.forests.Edge.{Edge}
 use Rattle.zdd_families.specs.Families.{holds}
 use Rattle.zdd_families.proofs.Ascending.{IsAscending, ascends_from}

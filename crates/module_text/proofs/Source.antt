@@ -6,7 +6,7 @@ use Rattle.std.proofs.lemmas.List.Elements.{filter-append}
 use Rattle.domains.specs.declared.Value.{Value}
 use Rattle.ar_base.specs.Texts.{line, text_at}
 use Rattle.ar_base.proofs.Standing.{one_first, one_rest}
-use Rattle.typed_expr.specs.Pairs.{turned}
+use Rattle.typed_expr.specs.PairsInside.{turned}
 use Rattle.typed_expr.specs.declared.expr.Expr.{Expr}
 use Rattle.ar_meaning.specs.Systems.{System}
 use Rattle.ar_meaning.specs.Runs.{Label}
@@ -39,7 +39,8 @@ use Rattle.text_pieces.proofs.Ways.{label_alike}
 use Rattle.zdd_families.specs.Families.{holds}
 use Rattle.cut_text.specs.Printed.{edges_of, things_of, IsForestOf}
 use Rattle.cut_text.specs.Texts.{braced, labels_text}
-use Rattle.gate_modules.specs.Shortened.{UnitSets, ShortForm, Shortens, module_of, short_form_of}
+use Rattle.gate_modules.specs.Shortened.{UnitSets, ShortForm}
+use Rattle.gate_modules.specs.ShortenedInside.{Shortens, module_of, short_form_of}
 use Rattle.gate_modules.specs.declared.ranges.Range.{Range}
 use Rattle.gate_modules.specs.declared.ranges.Short.{Short}
 use Rattle.module_text.specs.Printed.{labels_in, module_lines, form_line, short_lines}

@@ -2,11 +2,12 @@
 use Rattle.std.proofs.Common.{◌≡◌, ◌↔◌, ◌⊎◌, inl, inr, ⊎_elim, ℕ, suc, ◌+◌, ◌-◌, ◌<◌, ◌≤◌, true, List, length, Some, refl, sym, ◌∙◌, subst, arith}
 use Rattle.std.proofs.lemmas.Bool.{cases_lt}
 use Rattle.ar_base.specs.Lists.{Stands}
-use Rattle.ar_base.specs.Numbers.{UnitId}
+use Rattle.ar_base.specs.NumbersInside.{UnitId}
 use Rattle.ar_base.proofs.Standing.{stands_one, stands_within, at_most}
 use Rattle.hierarchy.specs.declared.tree.MemNode.{MemNode}
 use Rattle.hierarchy.specs.declared.tree.UnitNode.{UnitNode}
-use Rattle.gate_modules.specs.Modules.{lies, AreRanges, AreApart, Covers, HasEvents}
+use Rattle.gate_modules.specs.Modules.{lies, Covers}
+use Rattle.gate_modules.specs.ModulesInside.{AreRanges, AreApart, HasEvents}
 use Rattle.gate_modules.specs.declared.ranges.Range.{Range}
 use Rattle.gate_modules.proofs.Exchange.{lies_in, in_lies}
 use Rattle.module_text.specs.Spans.{AreBelow, IsOver, here, above, IsOf, GainsAt, AllGain, IsAt, IsAtOver, IsAtFirst, IsEmpty, AreEmpty}

@@ -1,7 +1,7 @@
 -- The ranges of the units of a tree have the events of the units and of those within them.
 use Rattle.std.proofs.Common.{◌≡◌, ◌⊎◌, inl, inr, ℕ, zero, suc, ◌+◌, ◌<◌, ◌^◌, true, List, [], ◌∷◌, ◌++◌, length, Option, Some, refl, sym, ◌∙◌, ap, subst, arith}
 use Rattle.ar_base.specs.Lists.{Stands, AreDifferent}
-use Rattle.ar_base.specs.Numbers.{UnitId}
+use Rattle.ar_base.specs.NumbersInside.{UnitId}
 use Rattle.ar_base.proofs.Standing.{stands_one, stands_none, stands_within, stands_some, stands_split, stands_left, stands_right, along_on, along_back, along_length}
 use Rattle.class_table.specs.Members.{NamedMember}
 use Rattle.hierarchy.specs.Models.{RootedModel}

@@ -2,13 +2,13 @@
 use Rattle.std.specs.Prelude.{◌≡◌, ◌<◌, ℕ, List, [], ◌++◌, map, length}
 use Rattle.std.specs.List.{filter, flat_map}
 use Rattle.ar_base.specs.Lists.{IsOneOf}
-use Rattle.ar_base.specs.Numbers.{UnitId}
+use Rattle.ar_base.specs.NumbersInside.{UnitId}
 use Rattle.ar_base.specs.Texts.{line, text_at}
 use Rattle.gts_core.specs.declared.system.GtsParts.{GtsParts}
 use Rattle.mode_trees.specs.declared.forests.Edge.{Edge}
 use Rattle.text_pieces.specs.WayLabels.{way_label}
 use Rattle.zdd_families.specs.Families.{holds}
-use Rattle.gate_modules.specs.Shortened.{event_numbers}
+use Rattle.gate_modules.specs.ShortenedInside.{event_numbers}
 use Rattle.gate_modules.specs.declared.ranges.EventSet.{EventSet}
 use Rattle.gate_modules.specs.declared.ranges.Module.{Module}
 use Rattle.gate_modules.specs.declared.ranges.ShortSet.{ShortSet}

@@ -9,7 +9,8 @@ use Rattle.text_pieces.specs.WayLabels.{way_label}
 use Rattle.zdd_families.specs.Families.{holds}
 use Rattle.cut_text.specs.Printed.{edges_of}
 use Rattle.cut_text.specs.Texts.{braced}
-use Rattle.gate_modules.specs.Shortened.{UnitSets, ShortForm, module_of, short_form_of}
+use Rattle.gate_modules.specs.Shortened.{UnitSets, ShortForm}
+use Rattle.gate_modules.specs.ShortenedInside.{module_of, short_form_of}
 use Rattle.gate_modules.specs.declared.ranges.Short.{Short}
 use Rattle.module_text.specs.Texts.{module_line, part_line, unit_mark, lines_line}
 

@@ -1,7 +1,7 @@
 -- How events are gathered in the ranges of units.
 use Rattle.std.specs.Prelude.{◌≡◌, ◌↔◌, ◌⊎◌, ◌+◌, ◌<◌, ℕ, suc, true, List, length, Some}
 use Rattle.ar_base.specs.Lists.{Stands}
-use Rattle.ar_base.specs.Numbers.{UnitId}
+use Rattle.ar_base.specs.NumbersInside.{UnitId}
 use Rattle.hierarchy.specs.declared.tree.MemNode.{MemNode}
 use Rattle.hierarchy.specs.declared.tree.UnitNode.{UnitNode}
 use Rattle.gate_modules.specs.Modules.{lies}

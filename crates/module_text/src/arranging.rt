@@ -2,7 +2,7 @@
 
 ghost use Rattle.std.specs.Prelude.{◌≡◌, ◌<◌, ◌++◌, ℕ, List, IfOk, OnOk, map, length};
 ghost use Rattle.ar_base.specs.Lists.{Along, IsOneOf};
-ghost use Rattle.gate_modules.specs.Shortened.{event_numbers};
+ghost use Rattle.gate_modules.specs.ShortenedInside.{event_numbers};
 ghost use Rattle.mode_trees.specs.declared.forests.Edge.{Edge};
 ghost use Rattle.module_text.specs.Arranged.{line_pieces, part_pieces, form_pieces, IsGroupOf};
 ghost use Rattle.module_text.specs.Arranged.{pieces_of, unit_pieces};

@@ -5,7 +5,7 @@ ghost use Rattle.ar_base.specs.Lists.{IsOneOf};
 ghost use Rattle.ar_base.specs.Sets.{Ascends};
 ghost use Rattle.cut_text.specs.Printed.{edges_of};
 ghost use Rattle.flow_blocks.specs.Bits.{row_of};
-ghost use Rattle.gate_modules.specs.Shortened.{event_numbers};
+ghost use Rattle.gate_modules.specs.ShortenedInside.{event_numbers};
 ghost use Rattle.mode_trees.specs.declared.forests.Edge.{Edge as TheEdge};
 ghost use Rattle.module_text.specs.Places.{ArePlacesOf, IsPlaced};
 

@@ -2,7 +2,7 @@
 
 ghost use Rattle.std.specs.Prelude.{true, false, codes, map};
 ghost use Rattle.ar_base.specs.Texts.{separated, text_at};
-ghost use Rattle.ar_io.specs.Writing.{Writes};
+ghost use Rattle.ar_io.specs.WritingInside.{Writes};
 ghost use Rattle.cut_text.specs.Answers.{Prints};
 ghost use Rattle.mode_trees.specs.Ways.{OwnTheirWays};
 ghost use Rattle.module_text.specs.Arranged.{piece_text, line_text, part_lines as texts_of_parts};

@@ -6,7 +6,7 @@ ghost use Rattle.hierarchy.specs.Finding.{IsSomeTree};
 ghost use Rattle.hierarchy.specs.Models.{RootedModel};
 ghost use Rattle.hierarchy.specs.Tie.{IsTreeOf};
 ghost use Rattle.hierarchy.specs.Units.{UnitPath};
-ghost use Rattle.gate_modules.specs.Modules.{AreRanges};
+ghost use Rattle.gate_modules.specs.ModulesInside.{AreRanges};
 ghost use Rattle.gate_modules.specs.declared.ranges.Range.{Range};
 ghost use Rattle.module_text.specs.Ranges.{AreRangesOf};
 ghost use Rattle.module_text.specs.Spans.{AreBelow, AreEmpty, Gains, AllGain, IsAt, IsAtOver, ReachesTo, AllReach};

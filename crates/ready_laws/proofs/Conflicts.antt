@@ -6,7 +6,8 @@ use Rattle.ar_firing.specs.Cuts.{Cut, MeetsConflict}
 use Rattle.firable_families.specs.Firable.{AndUpTo}
 use Rattle.cut_text.proofs.UpToOrder.{has_other}
 use Rattle.ar_firing.proofs.ImageCuts.{meets_there, cut_there}
-use Rattle.ar_meaning.specs.Image.{Expr_renames, IsImage}
+use Rattle.ar_meaning.specs.Image.{Expr_renames}
+use Rattle.ar_meaning.specs.ImageInside.{IsImage}
 use Rattle.ar_meaning.specs.Systems.{System}
 use Rattle.ar_meaning.proofs.ImageFlows.{Partner, partner}
 use Rattle.hierarchy.specs.Units.{Thing}

@@ -2,10 +2,11 @@
 use Rattle.std.proofs.Common.{◌≡◌, ◌&&◌, ℕ, Option, List, [], ◌∷◌, ◌++◌, length, refl, ◌∙◌, ap}
 use Rattle.ar_base.specs.Lists.{Along}
 use Rattle.domains.specs.declared.Value.{Value}
-use Rattle.typed_expr.specs.Pairs.{turned}
+use Rattle.typed_expr.specs.PairsInside.{turned}
 use Rattle.typed_expr.specs.declared.expr.Expr.{Expr}
 use Rattle.ar_meaning.specs.Systems.{System}
-use Rattle.ar_meaning.specs.Image.{Expr_renames, IsImage}
+use Rattle.ar_meaning.specs.Image.{Expr_renames}
+use Rattle.ar_meaning.specs.ImageInside.{IsImage}
 use Rattle.ar_meaning.specs.Runs.{Label}
 use Rattle.ar_meaning.specs.TraceText.{Naming, label_text, flow_fault_text}
 use Rattle.ar_meaning.proofs.ImageTurned.{image_turned}

@@ -5,7 +5,8 @@ use Rattle.ar_base.specs.Lists as along
 use Rattle.ar_base.proofs.Standing.{along_length}
 use Rattle.ar_meaning.specs.Systems.{Transition, Event}
 use Rattle.ar_meaning.specs.Expand.{EventDeclaration, Member}
-use Rattle.ar_meaning.specs.ExpandImage.{Part_renames, Member_renames, transitions, synchronise, Declared_renames}
+use Rattle.ar_meaning.specs.ExpandImage.{Part_renames, transitions, synchronise, Declared_renames}
+use Rattle.ar_meaning.specs.ExpandImageInside.{Member_renames}
 use Rattle.ar_meaning.specs.FlatOf.{IsFlatOf}
 use Rattle.ar_meaning.specs.Image.{Event_renames}
 use Rattle.ar_meaning.proofs.ImageJoined.{along_joined, transition_joined}

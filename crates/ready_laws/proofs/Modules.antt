@@ -6,7 +6,8 @@ use Rattle.ar_base.specs.Texts.{line, text_at}
 use Rattle.domains.specs.declared.Value.{Value}
 use Rattle.typed_expr.specs.declared.expr.Expr.{Expr}
 use Rattle.ar_meaning.specs.Systems.{System}
-use Rattle.ar_meaning.specs.Image.{Expr_renames, IsImage}
+use Rattle.ar_meaning.specs.Image.{Expr_renames}
+use Rattle.ar_meaning.specs.ImageInside.{IsImage}
 use Rattle.ar_meaning.specs.TraceText.{Naming, label_text}
 use Rattle.ar_firing.specs.Forest.{ModeTree}
 use Rattle.ar_firing.proofs.ImageCuts.{cut_there, cut_back}

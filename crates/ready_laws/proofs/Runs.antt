@@ -2,12 +2,13 @@
 use Rattle.std.proofs.Common.{◌≡◌, ℕ, List, Option, Some, None, refl, ap}
 use Rattle.ar_base.specs.Texts.{text_at}
 use Rattle.domains.specs.declared.Value.{Value}
-use Rattle.typed_expr.specs.Pairs.{turned}
+use Rattle.typed_expr.specs.PairsInside.{turned}
 use Rattle.typed_expr.specs.declared.expr.Expr.{Expr}
 use Rattle.typed_expr.proofs.Renaming.{renames_turned}
 use Rattle.ar_meaning.specs.Systems.{System}
-use Rattle.ar_meaning.specs.FlatOf.{NameAlike}
-use Rattle.ar_meaning.specs.Image.{Expr_renames, IsImage}
+use Rattle.ar_meaning.specs.FlatOfInside.{NameAlike}
+use Rattle.ar_meaning.specs.Image.{Expr_renames}
+use Rattle.ar_meaning.specs.ImageInside.{IsImage}
 use Rattle.ar_meaning.specs.Runs.{Label, Command}
 use Rattle.ar_meaning.specs.TraceText.{Naming, way_text, label_text}
 use Rattle.ar_meaning.proofs.ImageRuns.{runs_there}

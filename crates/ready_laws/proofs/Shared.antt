@@ -15,7 +15,7 @@ use Rattle.parser_laws.specs.Models.{SameDomain, symbols, range}
 use Rattle.parser_laws.specs.Opened.{SameKind}
 use Rattle.typed_expr.specs.declared.expr.ValueKind.{ValueKind}
 use Rattle.ar_meaning.specs.ExpandImage.{Declared_renames}
-use Rattle.ar_meaning.specs.Image.{IsImage}
+use Rattle.ar_meaning.specs.ImageInside.{IsImage}
 use Rattle.ar_meaning.specs.TraceText.{Naming}
 use Rattle.class_table.specs.Declaring.{NamedType, DomainType, ClassType}
 use Rattle.class_table.specs.Members.{MemberKind, Observer, domain_body}

@@ -1,9 +1,9 @@
 -- Systems that are images of each other over one variable for one have the same flat systems and gate tables.
 use Rattle.std.proofs.Common.{◌≡◌, ℕ, List, subst}
 use Rattle.domains.specs.declared.Value.{Value}
-use Rattle.typed_expr.specs.Pairs.{turned}
+use Rattle.typed_expr.specs.PairsInside.{turned}
 use Rattle.ar_meaning.specs.Systems.{System}
-use Rattle.ar_meaning.specs.Image.{IsImage}
+use Rattle.ar_meaning.specs.ImageInside.{IsImage}
 use Rattle.ar_meaning.specs.FlatOf.{IsNumber, IsFlatOf}
 use Rattle.ar_meaning.proofs.ImageTurned.{image_turned}
 use Rattle.ar_meaning.proofs.ImageJoined.{along_joined, variable_joined, assign_joined, event_joined, observer_joined}

@@ -1,12 +1,14 @@
 -- Systems, declarations, sources and jobs that are alike are so the other way round.
 use Rattle.std.proofs.Common.{Bool, sym, ◌∙◌}
-use Rattle.typed_expr.specs.Pairs.{turned}
+use Rattle.typed_expr.specs.PairsInside.{turned}
 use Rattle.typed_expr.specs.declared.expr.Expr.{Expr}
 use Rattle.typed_expr.proofs.Renaming.{renames_turned}
 use Rattle.ar_meaning.specs.Systems.{Assign, Variable, Transition, Event, Net, System}
 use Rattle.ar_meaning.specs.Expand.{EventDeclaration, Member}
-use Rattle.ar_meaning.specs.ExpandImage.{Part_renames, Member_renames, transitions, synchronise, Declared_renames}
-use Rattle.ar_meaning.specs.Image.{Assign_renames, Variable_renames, Transition_renames, Event_renames, Expr_renames, IsNetImage, IsImage}
+use Rattle.ar_meaning.specs.ExpandImage.{Part_renames, transitions, synchronise, Declared_renames}
+use Rattle.ar_meaning.specs.ExpandImageInside.{Member_renames}
+use Rattle.ar_meaning.specs.Image.{Assign_renames, Variable_renames, Transition_renames, Event_renames, Expr_renames}
+use Rattle.ar_meaning.specs.ImageInside.{IsNetImage, IsImage}
 use Rattle.ar_meaning.proofs.ImageTurned.{along_turned, assign_turned, variable_turned, transition_turned, event_turned}
 use Rattle.ar_meaning.proofs.ImageJoined.{assign_joined, variable_joined, transition_joined, event_joined, observer_joined}
 use Rattle.hierarchy.specs.Units.{Thing}

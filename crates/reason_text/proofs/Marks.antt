@@ -8,7 +8,8 @@ use Rattle.ar_base.specs.Numbers.{VarId}
 use Rattle.ar_base.proofs.Standing.{one_none, one_split, one_left, one_right, one_first, only_item}
 use Rattle.typed_expr.specs.declared.expr.Expr.{Expr}
 use Rattle.ar_meaning.specs.Found.{IsAnswer}
-use Rattle.flow_reasons.specs.Reasons.{InCone, IsCone}
+use Rattle.flow_reasons.specs.Reasons.{InCone}
+use Rattle.flow_reasons.specs.ReasonsInside.{IsCone}
 use Rattle.flow_reasons.specs.Reasons as rounds
 use Rattle.gts_core.specs.View.{net_of, numbered}
 use Rattle.gts_core.specs.declared.system.Observer.{Observer}

@@ -1,9 +1,10 @@
 -- The lines that are told, as they are written and as they are meant.
 use Rattle.std.proofs.Common.{◌≡◌, ◌<◌, ℕ, Bool, true, false, List, [], ◌∷◌, ◌++◌, length, Option, Some, None, Result, Err, if◌then◌else◌, refl, sym, ap, ◌∙◌, subst, arith}
 use Rattle.ar_base.specs.Lists.{IsOneOf}
-use Rattle.ar_base.specs.Numbers.{AssignId}
+use Rattle.ar_base.specs.NumbersInside.{AssignId}
 use Rattle.ar_base.proofs.Standing.{stands_within, stands_map, stands_map_back, one_here, one_first, one_rest}
-use Rattle.ar_io.specs.Writing.{SinkState, Writes}
+use Rattle.ar_io.specs.Writing.{SinkState}
+use Rattle.ar_io.specs.WritingInside.{Writes}
 use Rattle.ar_io.specs.declared.outside.SinkFailed.{SinkFailed}
 use Rattle.domains.specs.declared.Value.{Value}
 use Rattle.ar_meaning.specs.Systems as s

@@ -1,8 +1,9 @@
 -- What printing answers.
 use Rattle.std.specs.Prelude.{◌≡◌, ◌<◌, ℕ, Bool, false, List, [], ◌∷◌, ◌++◌, length, Option, Some, None, Result, Ok, Err, slice_get, unwrap_or, if◌then◌else◌}
 use Rattle.ar_base.specs.Lists.{IsOneOf}
-use Rattle.ar_base.specs.Numbers.{AssignId}
-use Rattle.ar_io.specs.Writing.{SinkState, Writes}
+use Rattle.ar_base.specs.NumbersInside.{AssignId}
+use Rattle.ar_io.specs.Writing.{SinkState}
+use Rattle.ar_io.specs.WritingInside.{Writes}
 use Rattle.typed_expr.specs.declared.expr.Expr.{Expr}
 use Rattle.ar_meaning.specs.Image.{Expr_renames}
 use Rattle.ar_meaning.specs.FlatOf.{IsNumber}

@@ -8,7 +8,8 @@ use Rattle.domains.specs.declared.Value.{Value}
 use Rattle.ar_meaning.specs.Systems as s
 use Rattle.ar_meaning.specs.Flows.{FlowFault, Flows, Outcome, Fails, Total}
 use Rattle.ar_meaning.specs.Steps.{StepFault, Answer, Refused, Next, Step}
-use Rattle.ar_meaning.specs.Runs.{Label, IsWay, Command, Fire, Back, Show, Enabled, FiresWays, Moment, Start, StartFails, first_values, Starts, Start_fails, Fires, Fire_fails, Goes_back, No_step, Shows, Lists, Ends}
+use Rattle.ar_meaning.specs.Runs.{Label, IsWay, Command, Fire, Back, Show, Enabled, Moment, Start, StartFails, first_values, Starts, Start_fails, Fires, Fire_fails, Goes_back, No_step, Shows, Lists, Ends}
+use Rattle.ar_meaning.specs.RunsInside.{FiresWays}
 use Rattle.ar_meaning.specs.Runs as r
 use Rattle.ar_meaning.specs.TraceText.{Naming, MomentText, TraceText, label_text, flow_fault_text, step_fault_text}
 use Rattle.ar_meaning.specs.TraceText as tell

@@ -1,7 +1,8 @@
 -- What each command answers.
 use Rattle.std.proofs.Common.{◌≡◌, ◌<◌, ℕ, List, [], ◌∷◌, ◌++◌, codes, length, Result, Err, refl, sym, subst}
 use Rattle.ar_base.specs.Texts.{line}
-use Rattle.ar_io.specs.Writing.{SinkState, Writes}
+use Rattle.ar_io.specs.Writing.{SinkState}
+use Rattle.ar_io.specs.WritingInside.{Writes}
 use Rattle.ar_io.specs.declared.outside.SinkFailed.{SinkFailed}
 use Rattle.ar_io.proofs.Writing.{front_longer, front_nothing}
 use Rattle.domains.specs.declared.Value.{Value}

@@ -1,12 +1,14 @@
 -- How far a replay is.
 use Rattle.std.proofs.Common.{◌≡◌, ℕ, List, [], ◌∷◌, ◌++◌, codes, decimal, length, Result, Ok, Err, refl, sym, ◌∙◌, subst, append_assoc}
 use Rattle.ar_base.specs.Texts.{line}
-use Rattle.ar_io.specs.Writing.{SinkState, Writes}
+use Rattle.ar_io.specs.Writing.{SinkState}
+use Rattle.ar_io.specs.WritingInside.{Writes}
 use Rattle.ar_io.specs.declared.outside.SinkFailed.{SinkFailed}
 use Rattle.ar_io.proofs.Writing.{front_longer, front_more, front_nothing, writes_on, rose_after}
 use Rattle.domains.specs.declared.Value.{Value}
 use Rattle.ar_meaning.specs.Systems as s
-use Rattle.ar_meaning.specs.Runs.{Command, FiresWays, Start, StartFails}
+use Rattle.ar_meaning.specs.Runs.{Command, Start, StartFails}
+use Rattle.ar_meaning.specs.RunsInside.{FiresWays}
 use Rattle.ar_meaning.specs.TraceText.{Naming, flow_fault_text}
 use Rattle.ar_meaning.specs.Flows.{FlowFault}
 use Rattle.gts_core.specs.View.{Views, net_of}
@@ -17,8 +19,10 @@ use Rattle.gts_flatten.specs.Flat.{naming_of_parts}
 use Rattle.stepper.specs.Steps.{Standing}
 use Rattle.replayer.specs.Playing.{Follows, Answers, goes_on, stops, write, memory, IsPlayed}
 use Rattle.replayer.specs.Printing.{values_text}
-use Rattle.replayer.specs.Replays.{IsReplay, AnswersReplay, whole}
+use Rattle.replayer.specs.Replays.{IsReplay}
+use Rattle.replayer.specs.ReplaysInside.{AnswersReplay, whole}
 use Rattle.replayer.specs.Replays as answers
+use Rattle.replayer.specs.ReplaysInside as replay
 use Rattle.replayer.specs.declared.replaying.End.{End}
 use Rattle.replayer.specs.declared.replaying.End.TheVariants.{Done, Fault}
 use Rattle.replayer.specs.declared.replaying.ReplayFault.{ReplayFault}
@@ -66,13 +70,13 @@ module _ {names : Naming} {sys : s.System ℕ} {all : List Command} where
       → AnswersReplay names sys all old new (Err f)
   obeyed_err {at = at} c left rest {old = old} {now = now} {new = new} Write e p (write broken rose) =
       let b = broken rest (subst (λ (z : List Command). FiresWays sys z) e p.fires) in
-      answers.write (p.rest b.text b.end
+      replay.write (p.rest b.text b.end
       (subst (λ (z : List Command). Follows names sys at.below at.values z b.text b.end) (sym e) b.follows))
       (front_more old.bytes now.bytes new.bytes p.text b.text p.writes.whole b.front)
       (rose_after old.faults now.faults new.faults p.writes.rises rose)
   obeyed_err {at = at} c left rest {old = old} {now = now} {new = new} Memory e p (memory broken kept) =
       let b = broken rest (subst (λ (z : List Command). FiresWays sys z) e p.fires) in
-      answers.memory (p.rest b.text b.end
+      replay.memory (p.rest b.text b.end
       (subst (λ (z : List Command). Follows names sys at.below at.values z b.text b.end) (sym e) b.follows))
       (front_more old.bytes now.bytes new.bytes p.text b.text p.writes.whole b.front) (kept ∙ p.writes.kept)
 
@@ -103,7 +107,7 @@ module _ (p : GtsParts) (sound : IsSound p) (sys : s.System ℕ) (views : Views 
       → AnswersReplay (naming_of_parts p) sys cs old new (Err Write)
   started_cut t cs start total fires w =
       let f = going p sound sys views [] t cs (total_none p) total fires in
-      answers.write (starts_so p sound sys views t (own_start t start) total cs f.text f.end f.follows)
+      replay.write (starts_so p sound sys views t (own_start t start) total cs f.text f.end f.follows)
       (front_longer (start_text t) f.text w.front) w.rose
 
   abbrev fault_line : FlowFault → List ℕ
@@ -119,7 +123,7 @@ module _ (p : GtsParts) (sound : IsSound p) (sys : s.System ℕ) (views : Views 
   pub no_start_cut : (f : FlowFault) (cs : List Command) → StartFails (net_of p) f
       → {old new : SinkState} {e : SinkFailed} → Writes old new (fault_line f) (Err e)
       → AnswersReplay (naming_of_parts p) sys cs old new (Err Write)
-  no_start_cut f cs fails w = answers.write
+  no_start_cut f cs fails w = replay.write
       (no_start_so p sound sys views f (subst (λ (n : s.Net ℕ). StartFails n f) (sym views.net) fails) cs) w.front w.rose
 
   -- want of memory before anything is written
@@ -127,7 +131,7 @@ module _ (p : GtsParts) (sound : IsSound p) (sys : s.System ℕ) (views : Views 
       → AnswersReplay (naming_of_parts p) sys cs old old (Err Memory)
   no_memory cs fires old =
       let f = some_replay p sound sys views cs fires in
-      answers.memory f.replay (front_longer [] f.text (front_nothing old.bytes old.bytes refl)) refl
+      replay.memory f.replay (front_longer [] f.text (front_nothing old.bytes old.bytes refl)) refl
 
   -- Ends
 
@@ -148,7 +152,7 @@ module _ (p : GtsParts) (sound : IsSound p) (sys : s.System ℕ) (views : Views 
       → IsPlayed (naming_of_parts p) sys all at left old now
       → Writes now new (end_text at) (Err f) → AnswersReplay (naming_of_parts p) sys all old new (Err Write)
   ended_cut {at = at} {old = old} {now = now} {new = new} e q w =
-      answers.write
+      replay.write
       (q.rest (end_text at) Done (subst (λ (z : List Command). Follows (naming_of_parts p) sys at.below at.values z
       (end_text at) Done) (sym e) (ends_so p sound sys views at.below at.values)))
       (front_more old.bytes now.bytes new.bytes q.text (end_text at) q.writes.whole w.front)

@@ -1,7 +1,8 @@
 -- How far a run is, command by command, where nothing but a fault is told.
 use Rattle.std.proofs.Common.{◌≡◌, ◌<◌, ℕ, List, [], ◌∷◌, ◌++◌, codes, length, Option, None, Result, Ok, Err, refl, sym, ◌∙◌, ap, subst, append_assoc}
 use Rattle.ar_base.specs.Texts.{line}
-use Rattle.ar_io.specs.Writing.{SinkState, Writes}
+use Rattle.ar_io.specs.Writing.{SinkState}
+use Rattle.ar_io.specs.WritingInside.{Writes}
 use Rattle.domains.specs.declared.Value.{Value}
 use Rattle.ar_meaning.specs.Systems as s
 use Rattle.ar_meaning.specs.Flows.{FlowFault}
@@ -25,7 +26,8 @@ use Rattle.replayer.specs.Playing.{IsRefusal}
 use Rattle.replayer.specs.Playing as refusal
 use Rattle.text_pieces.specs.Faults.{step_text}
 use Rattle.replayer.specs.Replays.{end_of}
-use Rattle.replayer.specs.Settles.{Settles, IsFaultLine, AnswersSettle, last_standing}
+use Rattle.replayer.specs.Settles.{Settles, IsFaultLine, last_standing}
+use Rattle.replayer.specs.SettlesInside.{AnswersSettle}
 use Rattle.replayer.specs.Settling.{GoesOn, Stops, AnswersCommand, IsRunning}
 use Rattle.replayer.specs.declared.replaying.End.{End}
 use Rattle.replayer.specs.declared.replaying.End.TheVariants.{Fault}

@@ -4,7 +4,8 @@ use Rattle.ar_base.specs.Lists.{Stands}
 use Rattle.ar_base.specs.Numbers.{WayId}
 use Rattle.ar_base.proofs.Standing.{stands_map_back}
 use Rattle.ar_meaning.specs.Systems as s
-use Rattle.ar_meaning.specs.Runs.{Label, IsWay, FiresWays, Fire}
+use Rattle.ar_meaning.specs.Runs.{Label, IsWay, Fire}
+use Rattle.ar_meaning.specs.RunsInside.{FiresWays}
 use Rattle.gts_core.specs.View.{Views}
 use Rattle.gts_core.specs.Sound.{IsSound}
 use Rattle.gts_core.specs.declared.system.GtsParts.{GtsParts}

@@ -1,7 +1,9 @@
 pub mod Replays
+pub mod ReplaysInside
 pub mod Observing
 pub mod Printing
 pub mod Listing
 pub mod Playing
 pub mod Settles
+pub mod SettlesInside
 pub mod Settling

@@ -4,10 +4,12 @@ use Rattle.ar_base.specs.Lists.{IsOneOf}
 use Rattle.ar_base.specs.Texts.{line}
 use Rattle.ar_io.specs.declared.outside.SinkFailed.{SinkFailed}
 use Rattle.ar_io.specs.Outside.{Rose}
-use Rattle.ar_io.specs.Writing.{SinkState, WroteFront, Writes}
+use Rattle.ar_io.specs.Writing.{SinkState, WroteFront}
+use Rattle.ar_io.specs.WritingInside.{Writes}
 use Rattle.domains.specs.declared.Value.{Value}
 use Rattle.ar_meaning.specs.Systems.{System}
-use Rattle.ar_meaning.specs.Runs.{Command, Moment, Goes, FiresWays}
+use Rattle.ar_meaning.specs.Runs.{Command, Moment, Goes}
+use Rattle.ar_meaning.specs.RunsInside.{FiresWays}
 use Rattle.ar_meaning.specs.TraceText.{Naming, TraceText}
 use Rattle.gts_core.specs.Readings.{IsTotal}
 use Rattle.gts_core.specs.declared.system.GtsParts.{GtsParts}

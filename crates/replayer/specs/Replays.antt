@@ -1,14 +1,10 @@
 -- The text of a replay, and how it ends.
-use Rattle.std.specs.Prelude.{◌≡◌, ℕ, List, [], ◌∷◌, Result, Ok, Err}
-use Rattle.ar_io.specs.Outside.{Rose}
-use Rattle.ar_io.specs.Writing.{SinkState, Appended, WroteFront}
+use Rattle.std.specs.Prelude.{◌≡◌, ℕ, List, [], ◌∷◌}
 use Rattle.ar_meaning.specs.Systems.{System}
 use Rattle.ar_meaning.specs.Runs.{Command, Moment, Starts, Start_fails, Fires, Fire_fails, Goes_back, No_step, Shows, Lists, Ends, Runs}
 use Rattle.ar_meaning.specs.TraceText.{Naming, TraceText}
 use Rattle.replayer.specs.declared.replaying.End.{End}
 use Rattle.replayer.specs.declared.replaying.End.TheVariants.{Done, Fault}
-use Rattle.replayer.specs.declared.replaying.ReplayFault.{ReplayFault}
-use Rattle.replayer.specs.declared.replaying.ReplayFault.TheVariants.{Write, Memory}
 
 -- a run that meets a fault ends in it
 abbrev pub end_of : List Moment → End
@@ -30,17 +26,3 @@ pub record IsReplay {V : Type 0} (names : Naming) (sys : System V) (cs : List Co
   pub runs : Runs sys cs moments
   pub trace : TraceText names sys moments text
   pub ends : end ≡ end_of moments
-
--- what a replay answers: the whole text was written, or its first bytes, where the sink's count of faults rose or
--- memory was refused; the count is as it was but where it rose
-pub data AnswersReplay {V : Type 0} (names : Naming) (sys : System V) (cs : List Command) (old new : SinkState) : Result
-    End ReplayFault → Type 0 where
-  whole : {text : List ℕ} {end : End} → IsReplay names sys cs text end → Appended old.bytes new.bytes text
-      → new.faults ≡ old.faults
-      → AnswersReplay names sys cs old new (Ok end)
-  write : {text : List ℕ} {end : End} → IsReplay names sys cs text end → WroteFront old.bytes new.bytes text
-      → Rose old.faults new.faults
-      → AnswersReplay names sys cs old new (Err Write)
-  memory : {text : List ℕ} {end : End} → IsReplay names sys cs text end → WroteFront old.bytes new.bytes text
-      → new.faults ≡ old.faults
-      → AnswersReplay names sys cs old new (Err Memory)

@@ -1,15 +1,11 @@
 -- Where a run stands at its end, and the line of a fault that it ends in.
-use Rattle.std.specs.Prelude.{◌≡◌, ℕ, List, [], ◌∷◌, ◌++◌, Option, Some, None, Result, Ok, Err}
-use Rattle.ar_io.specs.Writing.{SinkState, Writes}
+use Rattle.std.specs.Prelude.{◌≡◌, ℕ, List, [], ◌∷◌, ◌++◌}
 use Rattle.domains.specs.declared.Value.{Value}
 use Rattle.ar_meaning.specs.Systems.{System}
 use Rattle.ar_meaning.specs.Runs.{Command, Moment, Starts, Start_fails, Fires, Fire_fails, Goes_back, No_step, Shows, Lists, Ends, Runs}
 use Rattle.ar_meaning.specs.TraceText.{Naming, MomentText}
-use Rattle.gts_core.specs.declared.system.Valuation.{Valuation}
 use Rattle.replayer.specs.Replays.{end_of}
 use Rattle.replayer.specs.declared.replaying.End.TheVariants.{Done, Fault}
-use Rattle.replayer.specs.declared.replaying.ReplayFault.{ReplayFault}
-use Rattle.replayer.specs.declared.replaying.ReplayFault.TheVariants.{Write, Memory}
 
 -- the valuation that stands after these moments, where t stood before them
 abbrev pub last_standing : List Value → List Moment → List Value
@@ -39,14 +35,3 @@ pub record IsFaultLine {V : Type 0} (names : Naming) (sys : System V) (cs : List
   pub runs : Runs sys cs (before ++ fault ∷ [])
   pub is_fault : end_of (fault ∷ []) ≡ Fault
   pub told : MomentText names sys fault text
-
--- what settling answers: the last standing valuation, and nothing was written; or the run ends in a fault, whose line
--- alone was written, or its first bytes where the sink failed; or memory was refused, and nothing was written
-abbrev pub AnswersSettle : {V : Type 0} → Naming → System V → List Command → SinkState → SinkState
-    → Result (Option Valuation) ReplayFault → Type 0
-AnswersSettle names sys cs old new (Ok (Some t)) = Settles sys cs t.values.items × (new ≡ old)
-AnswersSettle names sys cs old new (Ok None) =
-    (text : List ℕ) × IsFaultLine names sys cs text × Writes old new text (Ok tt)
-AnswersSettle names sys cs old new (Err Write) =
-    (text : List ℕ) × IsFaultLine names sys cs text × Writes old new text (Err (record {}))
-AnswersSettle names sys cs old new (Err Memory) = new ≡ old

@@ -1,6 +1,7 @@
 -- How far a run is, and what one command adds to it.
 use Rattle.std.specs.Prelude.{◌≡◌, ℕ, List, [], ◌∷◌, ◌++◌, Result, Ok, Err}
-use Rattle.ar_io.specs.Writing.{SinkState, Writes}
+use Rattle.ar_io.specs.Writing.{SinkState}
+use Rattle.ar_io.specs.WritingInside.{Writes}
 use Rattle.domains.specs.declared.Value.{Value}
 use Rattle.ar_meaning.specs.Systems.{System}
 use Rattle.ar_meaning.specs.Runs.{Command, Moment, Starts, Goes, Runs}

@@ -1,13 +1,14 @@
 //! Replays.
 
 ghost use Rattle.std.specs.Prelude.{◌≡◌, ℕ, List, [], map};
-ghost use Rattle.ar_meaning.specs.Runs.{Start, Command as RunCommand, FiresWays};
+ghost use Rattle.ar_meaning.specs.Runs.{Start, Command as RunCommand};
+ghost use Rattle.ar_meaning.specs.RunsInside.{FiresWays};
 ghost use Rattle.ar_meaning.specs.Systems.{System};
 ghost use Rattle.gts_core.specs.Sound.{IsSound};
 ghost use Rattle.gts_core.specs.View.{Views, net_of};
 ghost use Rattle.gts_flatten.specs.Flat.{naming_of_parts};
 ghost use Rattle.job_inputs.specs.Flat.{command_of, AreFirable};
-ghost use Rattle.replayer.specs.Replays.{AnswersReplay};
+ghost use Rattle.replayer.specs.ReplaysInside.{AnswersReplay};
 ghost use Rattle.stepper.specs.Steps.{IsStartFault};
 
 use crate::latest::at_start;

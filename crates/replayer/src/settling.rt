@@ -8,7 +8,7 @@ ghost use Rattle.gts_core.specs.Sound.{IsSound};
 ghost use Rattle.gts_core.specs.View.{Views, net_of};
 ghost use Rattle.gts_flatten.specs.Flat.{naming_of_parts};
 ghost use Rattle.job_inputs.specs.Flat.{command_of, AreFirable, IsFirable};
-ghost use Rattle.replayer.specs.Settles.{AnswersSettle};
+ghost use Rattle.replayer.specs.SettlesInside.{AnswersSettle};
 ghost use Rattle.replayer.specs.Settling.{AnswersCommand};
 ghost use Rattle.stepper.specs.Steps.{IsStartFault};
 

@@ -3,7 +3,7 @@
 
 ghost use Rattle.std.specs.Prelude.{◌≡◌, ◌<◌, ◌^◌, ◌++◌, codes, length, Some};
 ghost use Rattle.ar_base.specs.Texts.{line};
-ghost use Rattle.ar_io.specs.Writing.{Writes};
+ghost use Rattle.ar_io.specs.WritingInside.{Writes};
 ghost use Rattle.ar_meaning.specs.TraceText.{variable_line, observer_line, lines_from};
 ghost use Rattle.ar_meaning.specs.ValueTexts.{value_text};
 ghost use Rattle.gts_core.specs.Readings.{IsTotal, value_at};

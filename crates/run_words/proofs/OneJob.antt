@@ -6,7 +6,8 @@ use Rattle.std.proofs.lemmas.Fmt.{decimal_injective}
 use Rattle.std.proofs.lemmas.Option.{same_Some}
 use Rattle.run_words.specs.Lines.{CommandWords}
 use Rattle.run_words.specs.Commands.{shape_of, word_of}
-use Rattle.run_words.specs.Jobs.{IsJob, IsJobOf, IsAsked, IsAskedOf, IsNodes, IsOrder, IsNumberText, NamesFiles}
+use Rattle.run_words.specs.Jobs.{IsJobOf, IsAsked, IsAskedOf, IsNodes, IsOrder, IsNumberText, NamesFiles}
+use Rattle.run_words.specs.JobsInside.{IsJob}
 use Rattle.run_words.specs.declared.jobs.Asked.{Asked}
 use Rattle.run_words.specs.declared.jobs.Job.{Job}
 use Rattle.run_words.specs.declared.shapes.Form.{Form}

@@ -79,12 +79,6 @@ abbrev pub is_list : Form → Bool
 is_list form.ModelAndList = true
 is_list _ = false
 
--- there is a second file
-abbrev pub is_second : Form → Bool
-is_second form.ModelAndScript = true
-is_second form.ModelAndList = true
-is_second _ = false
-
 -- there is no file, and the command makes its model
 abbrev pub is_made : Form → Bool
 is_made form.Number = true

@@ -91,9 +91,3 @@ found_words words = command_words_of (matches_of program (given_words words))
 pub record IsAsked (words : List Text) (asked : Asked) : Type 0 where
   pub taken : fault_of program (given_words words) ≡ []
   pub asked_of : IsAskedOf (found_words words) asked
-
--- the words give the job: `clap` takes them, what it finds gives it, and `--max-order` is not used
-pub record IsJob (words : List Text) (job : Job) : Type 0 where
-  pub taken : fault_of program (given_words words) ≡ []
-  pub job_of : IsJobOf (found_words words) job
-  pub without_order : (found_words words).order ≡ None

@@ -6,7 +6,8 @@ ghost use Rattle.ar_base.specs.declared.counts.Count.TheVariants.{ModelBytes};
 ghost use Rattle.run_words.specs.declared.jobs.Asked.{Asked};
 ghost use Rattle.run_words.specs.declared.jobs.Job.{Job};
 ghost use Rattle.run_words.specs.Generator.{generated};
-ghost use Rattle.run_words.specs.Jobs.{IsAsked, IsJob};
+ghost use Rattle.run_words.specs.Jobs.{IsAsked};
+ghost use Rattle.run_words.specs.JobsInside.{IsJob};
 ghost use Rattle.run_words.specs.Commands.{shape_of};
 
 /// Words give at most one job, and generated models are short.

@@ -1,11 +1,12 @@
 //! The words read as a job.
 
 ghost use Rattle.std.specs.Prelude.{◌≡◌, ◌↔◌, ℕ, Option, map, option_map, IfOk, IfErr, IsTrue, MatchOption, Some};
-ghost use Rattle.ar_base.specs.Texts.{bytes_of_all};
+ghost use Rattle.ar_base.specs.TextsInside.{bytes_of_all};
 ghost use Rattle.run_words.specs.declared.jobs.Asked.{Asked as AskedOfWords};
 ghost use Rattle.run_words.specs.declared.jobs.Job.{Job as Jobs};
 ghost use Rattle.run_words.specs.declared.jobs.JobFault.TheVariants.{Usage, Memory as OutOfMemory};
-ghost use Rattle.run_words.specs.Jobs.{IsJob, IsJobOf, IsAsked, IsAskedOf, IsTaken, IsUsed, IsNodes, IsOrder, given_words};
+ghost use Rattle.run_words.specs.Jobs.{IsJobOf, IsAsked, IsAskedOf, IsTaken, IsUsed, IsNodes, IsOrder, given_words};
+ghost use Rattle.run_words.specs.JobsInside.{IsJob};
 ghost use Rattle.run_words.specs.Told.{told};
 
 use crate::files::{named_files, text};

@@ -3,9 +3,10 @@ use Rattle.std.proofs.Common.{◌≡◌, ◌+◌, ℕ, length, List, [], ◌∷�
 use Rattle.std.specs.Option.{option_or}
 use Rattle.ar_base.specs.Lists.{Stands, Along}
 use Rattle.ar_base.proofs.Standing.{along_on, stands_one}
-use Rattle.ar_base.specs.Numbers.{UnitId, BodyId}
+use Rattle.ar_base.specs.Numbers.{BodyId}
+use Rattle.ar_base.specs.NumbersInside.{UnitId}
 use Rattle.class_table.specs.Members.{Site}
-use Rattle.class_table.specs.Tables.{site_of}
+use Rattle.class_table.specs.TablesInside.{site_of}
 use Rattle.hierarchy.specs.Models.{RootedModel}
 use Rattle.hierarchy.specs.Units.{UnitLevel, UnitPath}
 use Rattle.hierarchy.specs.Settings.{TargetWord, Named, settings_at, set_by, outermost}

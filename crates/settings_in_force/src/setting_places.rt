@@ -2,7 +2,7 @@
 
 ghost use Rattle.std.specs.Prelude.{◌≡◌, ◌+◌, ◌∷◌, map, OnOk, IfOk};
 ghost use Rattle.class_table.specs.Members.{own_at};
-ghost use Rattle.class_table.specs.Tables.{HoldsDeclared, site_of};
+ghost use Rattle.class_table.specs.TablesInside.{HoldsDeclared, site_of};
 ghost use Rattle.hierarchy.specs.Models.{RootedModel};
 ghost use Rattle.hierarchy.specs.Units.{UnitPath};
 ghost use Rattle.hierarchy.specs.Settings.{target_word_of, settings_at};

@@ -4,8 +4,8 @@ use Rattle.ar_base.specs.Stages.{Then, Keeps, Fits}
 use Rattle.ar_base.specs.declared.counts.Count.TheVariants.{Ways as TheWays, WayParts, ExpressionNodes}
 use Rattle.ar_base.specs.declared.faults.RuleFault.{RuleFault}
 use Rattle.ar_base.specs.declared.places.Place.{Place}
-use Rattle.ar_meaning.specs.Expand.{AreKeyedEvents}
-use Rattle.ar_meaning.specs.Image.{IsImage}
+use Rattle.ar_meaning.specs.ExpandInside.{AreKeyedEvents}
+use Rattle.ar_meaning.specs.ImageInside.{IsImage}
 use Rattle.ar_meaning.specs.Systems.{System}
 use Rattle.hierarchy.specs.Units.{Thing}
 use Rattle.source_meaning.specs.Systems.{Declarations, HasDeclarations}

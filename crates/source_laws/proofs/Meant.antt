@@ -3,8 +3,9 @@ use Rattle.std.proofs.Common.{List, sym, ◌∙◌, subst}
 use Rattle.ar_base.specs.Lists.{Along}
 use Rattle.typed_expr.specs.declared.expr.Expr.{Expr}
 use Rattle.ar_meaning.specs.Systems.{Event, Net, System}
-use Rattle.ar_meaning.specs.Expand.{AreKeyedEvents}
-use Rattle.ar_meaning.specs.Image.{Expr_renames, Event_renames, IsNetImage, IsImage}
+use Rattle.ar_meaning.specs.ExpandInside.{AreKeyedEvents}
+use Rattle.ar_meaning.specs.Image.{Expr_renames, Event_renames}
+use Rattle.ar_meaning.specs.ImageInside.{IsNetImage, IsImage}
 use Rattle.ar_meaning.proofs.ImageWays.{events_along}
 use Rattle.ar_meaning.proofs.OneRun.{events_same}
 use Rattle.hierarchy.specs.Units.{Thing}

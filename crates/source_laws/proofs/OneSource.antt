@@ -2,9 +2,10 @@
 use Rattle.std.proofs.Common.{Result, subst}
 use Rattle.ar_base.specs.Stages.{Then}
 use Rattle.ar_base.specs.declared.faults.RuleFault.{RuleFault}
-use Rattle.ar_meaning.specs.Expand.{AreKeyedEvents}
+use Rattle.ar_meaning.specs.ExpandInside.{AreKeyedEvents}
 use Rattle.hierarchy.specs.Listing.{Unfolded, AreUnits}
-use Rattle.hierarchy.specs.Models.{RootedModel, KeepsTextRules}
+use Rattle.hierarchy.specs.Models.{RootedModel}
+use Rattle.hierarchy.specs.ModelsInside.{KeepsTextRules}
 use Rattle.hierarchy.specs.Walks.{is_event}
 use Rattle.instantiate.specs.Unfolding.{Instantiates}
 use Rattle.source_meaning.specs.Systems.{Declarations, Binds}

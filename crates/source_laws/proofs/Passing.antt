@@ -3,7 +3,7 @@ use Rattle.std.proofs.Common.{◌≡◌, List, Ok, sym, ◌∙◌, subst}
 use Rattle.ar_base.specs.Lists.{Stands, AreDifferent}
 use Rattle.ar_base.specs.Stages.{passes, kept}
 use Rattle.ar_base.proofs.Standing.{along_back}
-use Rattle.ar_meaning.specs.Expand.{AreKeyedEvents}
+use Rattle.ar_meaning.specs.ExpandInside.{AreKeyedEvents}
 use Rattle.hierarchy.specs.Models.{RootedModel}
 use Rattle.hierarchy.specs.Units.{UnitPath, Thing}
 use Rattle.hierarchy.specs.Listing.{Unfolded, events}

@@ -1,5 +1,5 @@
 -- What it is that the sources of two readings are alike.
-use Rattle.ar_meaning.specs.Image.{IsImage}
+use Rattle.ar_meaning.specs.ImageInside.{IsImage}
 use Rattle.gts_flatten.specs.Elaborating.{Elaborated}
 use Rattle.binding_laws.specs.Declarations.{SameDeclarations, IsSameThing}
 

@@ -4,7 +4,8 @@ use Rattle.std.specs.List.{flat_map, filter}
 use Rattle.ar_base.specs.Lists.{Stands, IsOneOf, AreDifferent}
 use Rattle.ar_base.proofs.Standing.{stands_none, stands_split, stands_map_back, one_here}
 use Rattle.class_table.specs.Members.{NamedMember, MemberKind}
-use Rattle.hierarchy.specs.Models.{RootedModel, KeepsTextRules}
+use Rattle.hierarchy.specs.Models.{RootedModel}
+use Rattle.hierarchy.specs.ModelsInside.{KeepsTextRules}
 use Rattle.hierarchy.specs.Units.{UnitPath, Thing, names_at}
 use Rattle.hierarchy.specs.Walks.{thing}
 use Rattle.hierarchy.specs.Listing.{AreUnits, things_in}

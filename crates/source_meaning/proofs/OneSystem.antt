@@ -14,8 +14,11 @@ use Rattle.typed_expr.specs.declared.expr.Expr.TheOpen.{Variable as Named}
 use Rattle.ar_meaning.specs.Systems as s
 use Rattle.ar_meaning.specs.Image.{Assign_renames, Conditions_rename, Variable_renames, Expr_renames}
 use Rattle.ar_meaning.specs.Image as i
-use Rattle.ar_meaning.specs.Expand.{EventDeclaration, Member, AreKeyedEvents}
-use Rattle.ar_meaning.specs.ExpandImage.{Part_renames, Member_renames, transitions, synchronise, Declared_renames}
+use Rattle.ar_meaning.specs.ImageInside as images
+use Rattle.ar_meaning.specs.Expand.{EventDeclaration, Member}
+use Rattle.ar_meaning.specs.ExpandInside.{AreKeyedEvents}
+use Rattle.ar_meaning.specs.ExpandImage.{Part_renames, transitions, synchronise, Declared_renames}
+use Rattle.ar_meaning.specs.ExpandImageInside.{Member_renames}
 use Rattle.ar_meaning.proofs.ImageWays.{along_map, events_along}
 use Rattle.ar_meaning.proofs.OneRun.{events_same}
 use Rattle.ar_meaning.proofs.ImageTurned.{along_turned}
@@ -34,7 +37,8 @@ use Rattle.source_meaning.specs.Acts as a
 use Rattle.written_forms.specs.Parts.{InstrForm}
 use Rattle.written_forms.specs.Operands.{level_of}
 use Rattle.source_meaning.specs.Means.{Means}
-use Rattle.source_meaning.specs.Systems.{IsVariable, IsObserver, AreAsserted, IsPart, IsMember, IsHidden, IsEvent, IsSystemOf}
+use Rattle.source_meaning.specs.Systems.{IsVariable, IsObserver, AreAsserted, IsPart, IsMember, IsHidden, IsEvent}
+use Rattle.source_meaning.specs.SystemsInside.{IsSystemOf}
 use Rattle.source_meaning.specs.Systems as b
 use Rattle.source_meaning.proofs.OneMeaning.{means_same, value_same, leads_same}
 
@@ -177,7 +181,7 @@ module _ (m : RootedModel) (different : AreDifferent m.declared.symbols) where
 
   pub system_same : {units : List UnitPath} {x y : s.System Thing} → AreDifferent units → AreDifferent (events m units)
       → IsSystemOf m units x → IsSystemOf m units y
-      → i.IsImage (λ (t u : Thing). t ≡ u) x y
+      → images.IsImage (λ (t u : Thing). t ≡ u) x y
   system_same {units = units} {x = x} {y = y} du de p q =
       let a = p.are in
       let e = q.are in
@@ -188,13 +192,13 @@ module _ (m : RootedModel) (different : AreDifferent m.declared.symbols) where
       (sym e.assertions) asserted in
       let assertions = subst (λ zs. Along (Assign_renames (λ (t u : Thing). t ≡ u)) zs q.declarations.net.assertions)
       (sym a.assertions) from_right in
-      let net : i.IsNetImage (λ (t u : Thing). t ≡ u) p.declarations.net q.declarations.net = record {
+      let net : images.IsNetImage (λ (t u : Thing). t ≡ u) p.declarations.net q.declarations.net = record {
         variables = along_both (variable_same du) a.variables e.variables;
         assertions = assertions;
         one = λ t u v g h. sym g ∙ h;
         one_back = λ t u v g h. g ∙ sym h;
       } in
-      let left = subst (λ n. i.IsNetImage (λ (t u : Thing). t ≡ u) n q.declarations.net) (sym p.has.net) net in
+      let left = subst (λ n. images.IsNetImage (λ (t u : Thing). t ≡ u) n q.declarations.net) (sym p.has.net) net in
       let there = events_along (λ (t u : Thing). t ≡ u) (λ (t u : Thing). t ≡ u) p.declarations.events
       q.declarations.events declared
       (λ t u v g h. sym g ∙ h) declared p.has.events in
@@ -202,7 +206,7 @@ module _ (m : RootedModel) (different : AreDifferent m.declared.symbols) where
       let observed_right = subst (λ os. Along (Expr_renames (λ (t u : Thing). t ≡ u)) p.declarations.observers os)
       (sym q.has.observers) observed in
       record {
-        net = subst (λ n. i.IsNetImage (λ (t u : Thing). t ≡ u) x.net n) (sym q.has.net) left;
+        net = subst (λ n. images.IsNetImage (λ (t u : Thing). t ≡ u) x.net n) (sym q.has.net) left;
         events = subst (λ ws. Along (i.Event_renames (λ (t u : Thing). t ≡ u)) x.events ws)
             (events_same q.declarations.events (keyed de e.events) there.1 q.has.events) there.2;
         observers = subst (λ os. Along (Expr_renames (λ (t u : Thing). t ≡ u)) os y.observers) (sym p.has.observers)

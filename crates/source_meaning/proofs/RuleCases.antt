@@ -17,7 +17,8 @@ use Rattle.hierarchy.specs.Models.{RootedModel}
 use Rattle.hierarchy.specs.Units.{UnitPath, kind_at, numbers}
 use Rattle.hierarchy.specs.Listing.{Unfolded, forms_at}
 use Rattle.source_meaning.specs.Means.{IsSymbol}
-use Rattle.source_meaning.specs.Acts.{Conditions, Placed, Sets, tie, AreTied}
+use Rattle.source_meaning.specs.Acts.{Conditions, Placed, Sets, tie}
+use Rattle.source_meaning.specs.ActsInside.{AreTied}
 use Rattle.written_forms.specs.Parts.{InstrForm, IsPartOf, itself}
 use Rattle.written_forms.specs.Breaches.{target, ties}
 use Rattle.source_meaning.specs.Tested.{InAction}

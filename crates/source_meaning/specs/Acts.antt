@@ -69,16 +69,3 @@ mutual
     one_and : {when : Conditions} {i : Instr} {is : List Instr} {xs ys : List Placed} → Sets m u when (out-Instr i) xs
         → Sets_all m u when is ys
         → Sets_all m u when (i ∷ is) (xs ++ ys)
-
--- the assignments are the two of `p :=: q`: the left variable gets the value of the right one, and the right one that
--- of the left
-pub record AreTied (m : RootedModel) (u : UnitPath) (when : Conditions) (p q : Path) (ps : List Placed) : Type 0 where
-  pub left : Thing
-  pub right : Thing
-  pub of_left : Expr Thing
-  pub of_right : Expr Thing
-  pub is_left : Finds m is_variable u p left
-  pub is_right : Finds m is_variable u q right
-  pub names_left : out-Expr Thing of_left ≡ Variable left
-  pub names_right : out-Expr Thing of_right ≡ Variable right
-  pub are : ps ≡ sets left when of_right p.at ∷ sets right when of_left q.at ∷ []

@@ -4,16 +4,18 @@ use Rattle.std.specs.Prelude.{◌≡◌, ℕ, Bool, List, map, Result, Ok, Err, 
 use Rattle.std.specs.Global.{Global}
 use Rattle.std.specs.List.{flat_map}
 use Rattle.ar_base.specs.Lists.{Along}
-use Rattle.ar_base.specs.Stages.{Meets}
+use Rattle.ar_base.specs.StagesInside.{Meets}
 use Rattle.ar_base.specs.declared.counts.Count.{Count}
 use Rattle.ar_base.specs.declared.faults.RuleFault.{RuleFault}
 use Rattle.ar_base.specs.declared.faults.RuleFault.TheVariants.{Limit}
-use Rattle.ar_base.specs.Numbers.{VarId, EventId, NameId}
+use Rattle.ar_base.specs.Numbers.{VarId, NameId}
+use Rattle.ar_base.specs.NumbersInside.{EventId}
 use Rattle.ar_base.specs.declared.places.Place.{Place}
 use Rattle.typed_expr.specs.declared.expr.Expr.{Expr}
 use Rattle.ar_meaning.specs.Systems.{Net}
 use Rattle.ar_meaning.specs.ExpandImage.{Declared_renames}
-use Rattle.ar_meaning.specs.Image.{Expr_renames, IsNetImage}
+use Rattle.ar_meaning.specs.Image.{Expr_renames}
+use Rattle.ar_meaning.specs.ImageInside.{IsNetImage}
 use Rattle.gts_core.specs.View.{numbered, variables_from}
 use Rattle.gts_core.specs.Bound.{assigns_of_act, places_of_act, declared_from}
 use Rattle.gts_core.specs.declared.bound.Act.{Act}
@@ -23,15 +25,12 @@ use Rattle.gts_core.specs.declared.bound.DeclaredWay.TheVariants.{Local, Sync}
 use Rattle.gts_core.specs.declared.system.Observer.{Observer}
 use Rattle.gts_core.specs.declared.system.Variable.{Variable}
 use Rattle.class_table.specs.Declaring.{MemberForm}
-use Rattle.hierarchy.specs.Models.{RootedModel}
-use Rattle.hierarchy.specs.Tie.{IsTreeOf}
-use Rattle.hierarchy.specs.Units.{UnitPath, Thing}
+use Rattle.hierarchy.specs.Units.{Thing}
 use Rattle.hierarchy.specs.Listing.{Unfolded, variables, events, observers, ways_declared}
 use Rattle.hierarchy.specs.Paths.{name_text, unit_path, thing_path}
-use Rattle.hierarchy.specs.declared.tree.Tree.{Tree}
 use Rattle.source_meaning.specs.Rules.{IsWayOf}
 use Rattle.source_meaning.specs.SoundBound.{IsSoundBound}
-use Rattle.source_meaning.specs.Systems.{Declarations, AreOf, Binds}
+use Rattle.source_meaning.specs.Systems.{Declarations, Binds}
 use Rattle.source_meaning.specs.declared.bound.Bound.{Bound}
 use Rattle.source_meaning.specs.Numbering.{IsVariableNumber, IsEventNumber, HasObserverKind}
 
@@ -77,13 +76,6 @@ pub record IsBoundFrom (d : Declarations) (b : Bound) : Type 0 where
       b.observers.items
   pub kinds : Along (HasObserverKind d.model) (observers d.model d.units) b.observers.items
   pub texts : HasTexts d b
-
--- the bound forms are those of the tree of the model, whose units are these
-pub record IsBound (m : RootedModel) (units : List UnitPath) (tree : Tree) (b : Bound) : Type 0 where
-  pub is_tree : IsTreeOf m units tree
-  pub declarations : Declarations
-  pub are : AreOf m units declarations
-  pub bound : IsBoundFrom declarations b
 
 -- what the binding of a model with these units answers: the bound forms, or the least broken rule of L10 to L13 with
 -- its earliest place, or want of memory, which may be told of any tree; no limit is told

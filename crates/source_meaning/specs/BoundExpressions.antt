@@ -1,7 +1,7 @@
 -- What stands for paths in bound expressions, and what it is that a bound expression is what a written one means.
 use Rattle.std.specs.Prelude.{ℕ, List}
-use Rattle.ar_base.specs.Lists.{Stands}
 use Rattle.ar_base.specs.Numbers.{VarId}
+use Rattle.ar_meaning.specs.FlatOf.{IsNumber}
 use Rattle.ar_syntax.specs.declared.expressions.RawExpr.{RawExpr}
 use Rattle.ar_syntax.specs.declared.paths.Path.{Path}
 use Rattle.domains.specs.declared.Value.{Value}
@@ -19,7 +19,7 @@ use Rattle.source_meaning.specs.Means.{Means, ValueOf, IsSymbol, is_valued}
 
 -- the number stands for the variable
 abbrev pub IsNumberOf : RootedModel → List UnitPath → Thing → VarId → Type 0
-IsNumberOf m units t x = Stands (variables m units) x.n t
+IsNumberOf m units t x = IsNumber (variables m units) t x.n
 
 -- this is what the path, read in the unit u, stands for: a variable by its number, or the value of a parameter or a
 -- symbol

@@ -1,11 +1,13 @@
 pub mod Means
 pub mod Acts
+pub mod ActsInside
 pub mod Kinds
 pub mod Tested
 pub mod Rules
 pub mod BoundExpressions
 pub mod BoundActs
 pub mod Systems
+pub mod SystemsInside
 pub mod Binding
 pub mod Numbering
 pub mod SoundBound

@@ -1,6 +1,6 @@
 -- Which numbers variables and events have, and the kinds of observers.
 use Rattle.std.specs.Prelude.{◌≡◌, ℕ, Some}
-use Rattle.ar_base.specs.Lists.{Stands}
+use Rattle.ar_meaning.specs.FlatOf.{IsNumber}
 use Rattle.ar_syntax.specs.declared.expressions.RawExpr.{RawExpr}
 use Rattle.ar_syntax.specs.declared.members.TypeForm.{TypeForm}
 use Rattle.gts_core.specs.declared.system.Observer.{Observer}
@@ -13,10 +13,10 @@ use Rattle.source_meaning.specs.Systems.{Declarations}
 
 -- number n stands for the variable, or the event, at place n of the list
 abbrev pub IsVariableNumber : Declarations → Thing → ℕ → Type 0
-IsVariableNumber d t n = Stands (variables d.model d.units) n t
+IsVariableNumber d = IsNumber (variables d.model d.units)
 
 abbrev pub IsEventNumber : Declarations → Thing → ℕ → Type 0
-IsEventNumber d t n = Stands (events d.model d.units) n t
+IsEventNumber d = IsNumber (events d.model d.units)
 
 -- the kind of an observer is that of its type
 pub data HasObserverKind (m : RootedModel) (t : Thing) (o : Observer) : Type 0 where

@@ -4,7 +4,8 @@ use Rattle.std.specs.Global.{Global}
 use Rattle.ar_base.specs.Counts.{limit_of}
 use Rattle.ar_base.specs.declared.counts.Count.TheVariants.{Events}
 use Rattle.ar_base.specs.Lists.{Stands, IsOneOf}
-use Rattle.ar_base.specs.Numbers.{VarId, EventId}
+use Rattle.ar_base.specs.Numbers.{VarId}
+use Rattle.ar_base.specs.NumbersInside.{EventId}
 use Rattle.ar_base.specs.declared.places.Place.{Place}
 use Rattle.typed_expr.specs.declared.expr.Expr.{Expr}
 use Rattle.typed_expr.specs.declared.expr.ValueKind.TheVariants as kind

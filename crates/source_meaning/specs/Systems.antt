@@ -127,12 +127,6 @@ pub record HasDeclarations (d : Declarations) (sys : System Thing) : Type 0 wher
   pub events : Along (IsExpanded d.events) d.events sys.events
   pub observers : sys.observers ≡ d.observers
 
--- the system that the main block means, where it has these units
-pub record IsSystemOf (m : RootedModel) (units : List UnitPath) (sys : System Thing) : Type 0 where
-  pub declarations : Declarations
-  pub are : AreOf m units declarations
-  pub has : HasDeclarations declarations sys
-
 -- The stage
 
 -- the rules, over a model with its units

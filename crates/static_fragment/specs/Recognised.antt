@@ -3,7 +3,8 @@ use Rattle.std.specs.Prelude.{◌≡◌, ℕ, List, Option}
 use Rattle.ar_meaning.specs.Systems.{System}
 use Rattle.ar_firing.specs.Forest.{IsForest}
 use Rattle.ar_firing.specs.Forest as firing
-use Rattle.ar_firing.specs.Rules.{Rule, rule_number, IsFirstBroken, KeepsAll, IsAskedUpTo, KeepsUpTo, AtEvent, AtUnit, AtVariable, AtObserver, AtWhole}
+use Rattle.ar_firing.specs.Rules.{Rule, rule_number, IsFirstBroken, IsAskedUpTo, KeepsUpTo, AtEvent, AtUnit, AtVariable, AtObserver, AtWhole}
+use Rattle.ar_firing.specs.RulesInside.{KeepsAll}
 use Rattle.ar_firing.specs.Rules as rules
 use Rattle.static_fragment.specs.declared.faults.Spot.{Spot}
 use Rattle.static_fragment.specs.declared.faults.Spot.TheVariants.{Event, Unit as InUnit, Variable, Observer, Whole}

@@ -7,7 +7,7 @@ use Rattle.ar_base.proofs.Standing.{stands_none}
 use Rattle.ar_meaning.specs.Expand.{EventDeclaration, Member, One, Synchronises}
 use Rattle.ar_meaning.specs.Numbered.{Body, Joins}
 use Rattle.ar_meaning.specs.Systems.{Transition}
-use Rattle.ar_base.specs.Numbers.{EventId}
+use Rattle.ar_base.specs.NumbersInside.{EventId}
 use Rattle.gts_core.specs.Bound.{declared_from, declared_of, event_part_of, member_of}
 use Rattle.gts_core.specs.declared.bound.DeclaredEvent.{DeclaredEvent}
 use Rattle.gts_core.specs.declared.bound.DeclaredWay.{DeclaredWay}

@@ -1,7 +1,8 @@
 -- Declared events that stand by their numbers.
 use Rattle.std.proofs.Common.{ℕ, List, sym, ◌∙◌, subst}
 use Rattle.ar_base.specs.Lists.{Stands, IsOneOf}
-use Rattle.ar_meaning.specs.Expand.{EventDeclaration, AreKeyedEvents}
+use Rattle.ar_meaning.specs.Expand.{EventDeclaration}
+use Rattle.ar_meaning.specs.ExpandInside.{AreKeyedEvents}
 use Rattle.sync_expand.specs.Expanding.{AreByNumber}
 
 pub keyed_of : {L : Type 0} (ds : List (EventDeclaration L ℕ)) → AreByNumber ds → AreKeyedEvents ds

@@ -7,7 +7,8 @@ use Rattle.std.specs.List.{flat_map, range_with_len}
 use Rattle.ar_base.specs.Lists.{Stands}
 use Rattle.ar_base.proofs.Standing.{stands_left, stands_right, stands_map}
 use Rattle.sync_expand.specs.Counts.{choice_count}
-use Rattle.ar_base.specs.Numbers.{EventId, WayId}
+use Rattle.ar_base.specs.Numbers.{WayId}
+use Rattle.ar_base.specs.NumbersInside.{EventId}
 use Rattle.gts_core.specs.Bound.{event_part_of}
 use Rattle.gts_core.specs.View.{part_of}
 use Rattle.sync_expand.specs.Plans.{choices_by, first_of}

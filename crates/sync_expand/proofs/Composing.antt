@@ -2,7 +2,8 @@
 use Rattle.std.proofs.Common.{◌≡◌, ℕ, ◌<◌, ◌≤◌, List, length, map, Option, Some, None, Result, Ok, Err, Vec, sum, ◌^◌, refl, sym, ap, ◌∙◌, subst, arith}
 use Rattle.std.specs.Global.{Global}
 use Rattle.ar_base.specs.Breach.{AreKept}
-use Rattle.ar_base.specs.Stages.{refuses, passes, Keeps, kept, Fits, fits, passes_it, IsRefusal, rule_told, Meets}
+use Rattle.ar_base.specs.Stages.{refuses, passes, Keeps, kept, Fits, fits, passes_it}
+use Rattle.ar_base.specs.StagesInside.{IsRefusal, rule_told, Meets}
 use Rattle.ar_base.specs.Counts.{limit_of}
 use Rattle.ar_base.specs.declared.counts.Count.{Count}
 use Rattle.ar_base.specs.declared.counts.Count.TheVariants.{Ways as TheWays, WayParts}

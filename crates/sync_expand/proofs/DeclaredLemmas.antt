@@ -2,11 +2,12 @@
 use Rattle.std.proofs.Common.{◌≡◌, ℕ, zero, suc, ◌+◌, Bool, List, [], ◌∷◌, length, map, Vec, refl, sym, ◌∙◌, ap, subst, arith}
 use Rattle.std.specs.Global.{Global}
 use Rattle.ar_base.specs.Lists.{Stands, IsOneOf}
-use Rattle.ar_base.specs.Numbers.{EventId}
+use Rattle.ar_base.specs.NumbersInside.{EventId}
 use Rattle.ar_base.specs.declared.places.Place.{Place}
 use Rattle.ar_base.proofs.Standing.{stands_one, stands_map, stands_map_back, stands_none, one_here}
 use Rattle.ar_meaning.specs.Systems.{Transition}
-use Rattle.ar_meaning.specs.Expand.{EventDeclaration, Synchronises, HasPart, AreKeyedEvents}
+use Rattle.ar_meaning.specs.Expand.{EventDeclaration, Synchronises, HasPart}
+use Rattle.ar_meaning.specs.ExpandInside.{AreKeyedEvents}
 use Rattle.gts_core.specs.Bound.{member_of, declared_of, declared_from, event_part_of}
 use Rattle.gts_core.specs.declared.bound.DeclaredEvent.{DeclaredEvent}
 use Rattle.gts_core.specs.declared.bound.DeclaredWay.{DeclaredWay}

@@ -3,7 +3,8 @@ use Rattle.std.proofs.Common.{◌≡◌, ℕ, Bool, List, Option, None, Vec, ref
 use Rattle.std.specs.Global.{Global}
 use Rattle.typed_expr.specs.declared.expr.Expr.{Expr}
 use Rattle.ar_base.specs.Lists.{Stands}
-use Rattle.ar_base.specs.Numbers.{EventId, VarId}
+use Rattle.ar_base.specs.Numbers.{VarId}
+use Rattle.ar_base.specs.NumbersInside.{EventId}
 use Rattle.ar_base.specs.declared.places.Place.{Place}
 use Rattle.ar_base.proofs.Comparing.{not_before}
 use Rattle.gts_core.specs.declared.bound.Act.{Act}

@@ -7,7 +7,8 @@ use Rattle.ar_base.specs.Lists as l
 use Rattle.ar_base.proofs.Standing.{stands_one, stands_none, stands_left, stands_right, along_back, along_length, one_first, one_rest}
 use Rattle.ar_base.proofs.Items.{along_append}
 use Rattle.ar_meaning.specs.Systems.{Tree, Leaf, Joint, Branches, Empty, Branch}
-use Rattle.ar_meaning.specs.Expand.{EventDeclaration, Member, One, Synchronises, AreKeyedEvents, Ways, Members_give, no_member, one, synchronises, Parts_give, no_part, choice, choices}
+use Rattle.ar_meaning.specs.Expand.{EventDeclaration, Member, One, Synchronises, Ways, Members_give, no_member, one, synchronises, Parts_give, no_part, choice, choices}
+use Rattle.ar_meaning.specs.ExpandInside.{AreKeyedEvents}
 use Rattle.ar_meaning.specs.Numbered.{Body, Acts, Joins, Means_way, leaf, joint, Mean_parts, part}
 use Rattle.ar_meaning.specs.Numbered as m
 use Rattle.ar_meaning.proofs.ImageWays.{along_map}

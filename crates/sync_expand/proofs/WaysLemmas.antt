@@ -4,11 +4,12 @@ use Rattle.std.proofs.lemmas.List.{length-map}
 use Rattle.std.specs.Global.{Global}
 use Rattle.ar_base.specs.Lists.{Stands, IsOneOf, Along}
 use Rattle.ar_base.specs.Lists as l
-use Rattle.ar_base.specs.Numbers.{EventId}
+use Rattle.ar_base.specs.NumbersInside.{EventId}
 use Rattle.ar_base.specs.declared.places.Place.{Place}
 use Rattle.ar_base.proofs.Standing.{stands_one, stands_map, stands_within, stands_some, along_on, along_length, one_first, one_rest}
 use Rattle.ar_meaning.specs.Systems.{Tree, Leaf, Joint, Branches, Empty, Branch, Transition}
-use Rattle.ar_meaning.specs.Expand.{EventDeclaration, Member, One, Synchronises, AreKeyedEvents, Ways, event, Members_give, no_member, one, synchronises, Parts_give, no_part, choice, choices}
+use Rattle.ar_meaning.specs.Expand.{EventDeclaration, Member, One, Synchronises, Ways, event, Members_give, no_member, one, synchronises, Parts_give, no_part, choice, choices}
+use Rattle.ar_meaning.specs.ExpandInside.{AreKeyedEvents}
 use Rattle.ar_meaning.proofs.OneRun.{ways_same}
 use Rattle.gts_core.specs.Bound.{declared_from, member_of, event_part_of}
 use Rattle.gts_core.specs.declared.bound.DeclaredEvent.{DeclaredEvent}

@@ -2,7 +2,7 @@
 use Rattle.std.specs.Prelude.{◌≡◌, ℕ, ◌<◌, ◌≤◌, ◌^◌, Bool, List, length, Vec, Result, Ok}
 use Rattle.std.specs.Global.{Global}
 use Rattle.ar_base.specs.Lists.{Stands, IsOneOf, Along}
-use Rattle.ar_base.specs.Numbers.{EventId}
+use Rattle.ar_base.specs.NumbersInside.{EventId}
 use Rattle.ar_base.specs.Stages.{Then, Keeps, Fits}
 use Rattle.ar_base.specs.declared.counts.Count.TheVariants.{Ways as TheWays, WayParts}
 use Rattle.ar_base.specs.declared.faults.RuleFault.{RuleFault}

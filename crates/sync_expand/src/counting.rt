@@ -2,7 +2,8 @@
 
 ghost use Rattle.std.specs.Prelude.{◌≡◌, ◌<◌, ◌≤◌, ℕ, List, Ok, map, min, length, OnOk, IfOk, IfErr};
 ghost use Rattle.ar_base.specs.Lists.{Stands};
-ghost use Rattle.ar_base.specs.Stages.{Fits, Meets, IsRefusal, rule_told};
+ghost use Rattle.ar_base.specs.Stages.{Fits};
+ghost use Rattle.ar_base.specs.StagesInside.{Meets, IsRefusal, rule_told};
 ghost use Rattle.ar_base.specs.declared.counts.Count.TheVariants.{Ways, WayParts};
 ghost use Rattle.gts_core.specs.Bound.{declared_from, event_part_of, member_of};
 ghost use Rattle.gts_core.specs.declared.bound.DeclaredEvent.{DeclaredEvent};

@@ -1,6 +1,6 @@
 //! The call that expands declared events.
 
-ghost use Rattle.ar_base.specs.Stages.{Meets};
+ghost use Rattle.ar_base.specs.StagesInside.{Meets};
 ghost use Rattle.sync_expand.specs.Expanding.{AreExpandable, Expands};
 ghost use Rattle.sync_expand.specs.Planned.{IsPlan};
 

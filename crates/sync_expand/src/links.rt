@@ -1,7 +1,8 @@
 //! The rule that no event is reached from one of its own synchronisations.
 
 ghost use Rattle.std.specs.Prelude.{◌≡◌, ◌≤◌, Some, IfOk, IfErr, IfNone, IfSome, length};
-ghost use Rattle.ar_base.specs.Stages.{Keeps, IsRefusal, rule_told};
+ghost use Rattle.ar_base.specs.Stages.{Keeps};
+ghost use Rattle.ar_base.specs.StagesInside.{IsRefusal, rule_told};
 ghost use Rattle.ar_base.specs.declared.numbers.Id.{Id};
 ghost use Rattle.ar_base.specs.declared.numbers.EventKind.{EventKind};
 ghost use Rattle.sync_expand.specs.Expanding.{AreExpandable, BreaksNumberedWayRule};

@@ -10,7 +10,8 @@ use Rattle.typed_expr.specs.Kinds.{HasKind}
 use Rattle.typed_expr.specs.declared.expr.ValueKind.{ValueKind}
 use Rattle.typed_expr.specs.declared.expr.Expr.{Expr, out-Expr}
 use Rattle.ar_meaning.specs.Systems.{Variable, System}
-use Rattle.ar_meaning.specs.Facts.{Allows, HasStateValue, HasValue, AreKeyed}
+use Rattle.ar_meaning.specs.Facts.{Allows, HasStateValue, HasValue}
+use Rattle.ar_meaning.specs.FactsInside.{AreKeyed}
 use Rattle.ar_meaning.specs.Found.{IsAnswer}
 use Rattle.ar_meaning.proofs.Outcomes.{has_outcome}
 use Rattle.ar_firing.specs.Static.{IsStatic}
@@ -19,7 +20,8 @@ use Rattle.ar_firing.specs.Forest.{ModeTree, IsForest}
 use Rattle.ar_firing.specs.Operands.{HasFault, Shows, Agrees}
 use Rattle.gts_core.specs.Lawful.{IsLawful}
 use Rattle.eq_core.specs.Gates.{Table}
-use Rattle.eq_core.specs.Values.{IsTrueWhere, value_at}
+use Rattle.eq_core.specs.Values.{value_at}
+use Rattle.eq_core.specs.ValuesInside.{IsTrueWhere}
 use Rattle.eq_build.specs.Tells.{AreEntries}
 use Rattle.table_laws.specs.Known.{IsSomeFlow, IsConflict, Totals}
 use Rattle.table_laws.proofs.Faults.{conflict_faults, no_conflict_flows}

@@ -12,11 +12,12 @@ use Rattle.typed_expr.specs.declared.expr.ValueKind.{ValueKind}
 use Rattle.typed_expr.specs.declared.expr.ValueKind.TheVariants as kind
 use Rattle.typed_expr.specs.declared.expr.Expr.{Expr, out-Expr}
 use Rattle.ar_meaning.specs.Systems.{Assign, Variable, Net}
-use Rattle.ar_meaning.specs.Facts.{PassesConditions, Allows, AreNumbered}
+use Rattle.ar_meaning.specs.Facts.{PassesConditions, Allows}
+use Rattle.ar_meaning.specs.FactsInside.{AreNumbered}
 use Rattle.ar_meaning.specs.Facts as f
 use Rattle.gts_core.specs.Lawful.{IsTypedAssign, IsLawful}
 use Rattle.eq_core.specs.Gates.{Operand, Gate}
-use Rattle.eq_core.specs.Values.{Grows}
+use Rattle.eq_core.specs.ValuesInside.{Grows}
 use Rattle.eq_core.proofs.Telling.{grows_self, grows_on, tells_kept}
 use Rattle.eq_build.specs.Entries.{Entry}
 use Rattle.eq_build.specs.Tells.{AreEntries, IsBuilt}

@@ -3,7 +3,7 @@ use Rattle.std.proofs.Common.{◌≡◌, ℕ, zero, suc, ◌<◌, ◌⊎◌, inl
 use Rattle.ar_base.specs.Lists.{Stands, IsOneOf}
 use Rattle.ar_base.proofs.Standing.{stands_none, stands_one, one_none, along_back, along_on}
 use Rattle.ar_meaning.specs.Systems.{Assign, Variable, Net}
-use Rattle.ar_meaning.specs.Facts.{AreKeyed, AreNumbered}
+use Rattle.ar_meaning.specs.FactsInside.{AreKeyed, AreNumbered}
 use Rattle.ar_meaning.specs.Dependence.{Names, IsFlow, flow_count}
 use Rattle.flow_blocks.specs.Blocks.{directly}
 use Rattle.flow_blocks.proofs.LawLemmas.{in_some, in_one, in_earlier}

@@ -5,7 +5,8 @@ use Rattle.ar_base.proofs.Standing.{stands_one}
 use Rattle.domains.specs.declared.Value.{Value}
 use Rattle.typed_expr.proofs.Facts.{yields_more}
 use Rattle.ar_meaning.specs.Systems.{Net}
-use Rattle.ar_meaning.specs.Facts.{Allows, HasStateValue, HasValue, FactOf, AreKeyed}
+use Rattle.ar_meaning.specs.Facts.{Allows, HasStateValue, HasValue, FactOf}
+use Rattle.ar_meaning.specs.FactsInside.{AreKeyed}
 use Rattle.ar_meaning.specs.Flows.{HasTwo, IsOutside, Completes, Outcome, Fails, Total, Flows, broken, all_hold}
 use Rattle.ar_meaning.specs.Flows as w
 use Rattle.ar_meaning.proofs.Least.{passes_more, closed}

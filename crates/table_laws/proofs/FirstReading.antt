@@ -7,7 +7,8 @@ use Rattle.ar_base.proofs.Standing.{stands_one, stands_none, one_none}
 use Rattle.domains.specs.declared.Value.{Value}
 use Rattle.ar_meaning.specs.Systems.{Variable, System}
 use Rattle.ar_meaning.specs.Runs.{Label}
-use Rattle.ar_meaning.specs.Facts.{AreKeyed, AreNumbered, HasStateValue}
+use Rattle.ar_meaning.specs.Facts.{HasStateValue}
+use Rattle.ar_meaning.specs.FactsInside.{AreKeyed, AreNumbered}
 use Rattle.ar_firing.specs.Fragment.{Edge, IsModeOf, named, first}
 use Rattle.ar_firing.specs.Static.{IsStatic}
 use Rattle.ar_firing.specs.Cuts.{IsFirable}

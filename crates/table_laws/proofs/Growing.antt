@@ -5,7 +5,7 @@ use Rattle.typed_expr.specs.declared.expr.Expr.{Expr}
 use Rattle.ar_meaning.specs.Systems.{Assign, Variable, Net}
 use Rattle.ar_firing.specs.Forest.{ModeTree}
 use Rattle.eq_core.specs.Gates.{Operand, Gate, Made, Table, all_of, any_of}
-use Rattle.eq_core.specs.Values.{Grows}
+use Rattle.eq_core.specs.ValuesInside.{Grows}
 use Rattle.eq_core.proofs.Telling.{grows_self, grows_on, all_more, any_more}
 use Rattle.eq_build.specs.Entries.{Entry}
 use Rattle.eq_build.proofs.Growing.{one_more, terms_more, builds_more}

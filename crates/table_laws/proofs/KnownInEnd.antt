@@ -9,7 +9,8 @@ use Rattle.ar_meaning.specs.Facts.{Allows, HasStateValue}
 use Rattle.ar_meaning.specs.Dependence.{Names}
 use Rattle.gts_core.specs.Lawful.{IsLawful}
 use Rattle.eq_core.specs.Gates.{Gate}
-use Rattle.eq_core.specs.Values.{Grows, value_at}
+use Rattle.eq_core.specs.Values.{value_at}
+use Rattle.eq_core.specs.ValuesInside.{Grows}
 use Rattle.eq_core.proofs.Telling.{grows_on}
 use Rattle.eq_build.specs.Entries.{operand_for}
 use Rattle.table_laws.specs.Known.{HasRounds, IsKnown, IsSomeFlow, AreOfFlows}

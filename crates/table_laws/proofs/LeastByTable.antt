@@ -6,7 +6,8 @@ use Rattle.domains.specs.declared.Value.{Value}
 use Rattle.typed_expr.specs.declared.expr.Expr.{Expr}
 use Rattle.ar_meaning.specs.Systems.{System}
 use Rattle.ar_firing.specs.Static.{IsKeyedStatic}
-use Rattle.ar_firing.specs.Cuts.{IsLeast, Makes, MeetsConflict, IsFirable, UpTo, IsConflictFreeUpTo}
+use Rattle.ar_firing.specs.Cuts.{IsLeast, Makes, MeetsConflict, IsFirable, IsConflictFreeUpTo}
+use Rattle.ar_firing.specs.CutsInside.{UpTo}
 use Rattle.ar_firing.specs.Operands.{Agrees, IsFirableWith}
 use Rattle.ar_firing.proofs.Meeting.{met_is_conflicting, conflict_is_met}
 use Rattle.ar_firing.proofs.Cutting.{made_within, counted_within, calm_within}

@@ -8,7 +8,8 @@ use Rattle.ar_base.proofs.Standing.{one_none}
 use Rattle.domains.specs.declared.Value.{Value}
 use Rattle.typed_expr.specs.declared.expr.Expr.{Expr}
 use Rattle.ar_meaning.specs.Systems.{System}
-use Rattle.ar_firing.specs.Cuts.{IsLeast, MeetsConflict, ConflictSet, Cut, UpTo, IsConflictFreeUpTo}
+use Rattle.ar_firing.specs.Cuts.{IsLeast, MeetsConflict, ConflictSet, Cut, IsConflictFreeUpTo}
+use Rattle.ar_firing.specs.CutsInside.{UpTo}
 use Rattle.ar_firing.specs.Forest.{ModeTree, IsForest}
 use Rattle.ar_firing.specs.Listed.{AreListed}
 use Rattle.ar_firing.specs.Operands.{Agrees, IsFirableWith}
@@ -26,7 +27,8 @@ use Rattle.zdd_families.proofs.Minimal.{member_of}
 use Rattle.zdd_nodes.specs.Nodes.{IsNumber}
 use Rattle.eq_core.specs.Gates.{Table}
 use Rattle.eq_core.specs.Values.{value_at}
-use Rattle.firable_families.specs.Firable.{AndUpTo, IsFirableOf, IsFirableUpTo, IsTrueUpTo, ListsLeastUpTo}
+use Rattle.firable_families.specs.Firable.{AndUpTo}
+use Rattle.firable_families.specs.FirableInside.{IsFirableOf, IsFirableUpTo, IsTrueUpTo, ListsLeastUpTo}
 use Rattle.firable_families.proofs.Alike.{firable_seen}
 use Rattle.firable_families.proofs.Few.{and_up_to, firable_of, small_of, firable_up_to}
 use Rattle.firable_families.proofs.InForests.{firable_in_trees, firable_in_system, true_in_system}

@@ -9,16 +9,18 @@ use Rattle.domains.specs.Same.{is_same}
 use Rattle.domains.specs.declared.Value.{Value}
 use Rattle.domains.proofs.Same.{same_is}
 use Rattle.ar_meaning.specs.Systems.{System}
-use Rattle.ar_meaning.specs.Facts.{AreKeyed}
+use Rattle.ar_meaning.specs.FactsInside.{AreKeyed}
 use Rattle.ar_firing.specs.Fragment.{IsLive}
 use Rattle.ar_firing.specs.Static.{IsStatic}
-use Rattle.ar_firing.specs.Cuts.{IsFirable, NoneLeaves}
+use Rattle.ar_firing.specs.Cuts.{IsFirable}
+use Rattle.ar_firing.specs.CutsInside.{NoneLeaves}
 use Rattle.ar_firing.specs.Forest.{Row, ModeTree, IsModeTree}
 use Rattle.ar_firing.proofs.ModesOfSets.{stays, entered, enters_and_stays, stays_at_first, comes_by}
 use Rattle.ar_firing.proofs.TreeEdges.{row_is_live, live_is_row}
 use Rattle.ar_firing.proofs.Shapes.{is_tree}
 use Rattle.eq_core.specs.Gates.{EventIs, Gate, all_of}
-use Rattle.eq_core.specs.Values.{IsTrueWhere, Grows, has_event}
+use Rattle.eq_core.specs.Values.{has_event}
+use Rattle.eq_core.specs.ValuesInside.{IsTrueWhere, Grows}
 use Rattle.eq_core.proofs.Telling.{grows_self, grows_on, tells_kept, tells_as, all_tells, all_more}
 use Rattle.eq_build.specs.Entries.{Entry, Built}
 use Rattle.eq_build.specs.Tells.{AreEntries}

@@ -5,7 +5,8 @@ use Rattle.ar_base.specs.Lists as l
 use Rattle.ar_base.proofs.Standing.{one_cases, one_first, one_rest, one_none, one_left, one_right, one_split}
 use Rattle.eq_core.specs.Gates.{Operand, Gate, any_of}
 use Rattle.eq_core.specs.Ordered.{AreBelow}
-use Rattle.eq_core.specs.Values.{IsBelow, IsTrueWhere, Grows, EachTrue, OneTrue, value_at}
+use Rattle.eq_core.specs.Values.{value_at}
+use Rattle.eq_core.specs.ValuesInside.{IsBelow, IsTrueWhere, Grows, EachTrue, OneTrue}
 use Rattle.eq_core.proofs.Telling.{value_kept, below_kept, tells_kept, tells_as, any_tells}
 use Rattle.eq_build.specs.Entries.{one_of_alls}
 use Rattle.eq_build.proofs.EntriesTell.{OneAll, AllBelow, one_grows}

@@ -7,7 +7,7 @@ use Rattle.domains.specs.Values.{is_before}
 use Rattle.domains.specs.declared.Value.{Value}
 use Rattle.domains.proofs.Same.{same_is}
 use Rattle.eq_core.specs.Gates.{Operand, Always, Never, EventIs, GateIs, Gate, Made}
-use Rattle.eq_core.specs.Values.{IsTrueWhere}
+use Rattle.eq_core.specs.ValuesInside.{IsTrueWhere}
 use Rattle.eq_build.specs.Entries.{Entry, Term, Group, with_term, with_terms, one_of_alls, is_never, with_entry, entries_of}
 use Rattle.eq_build.specs.Tells.{AreEntries}
 use Rattle.eq_build.proofs.EntriesTell.{entry_cases, true_kept, entry_first, entry_rest}

@@ -11,7 +11,7 @@ use Rattle.ar_firing.specs.Forest.{Row, ModeTree}
 use Rattle.ar_firing.specs.Trees.{IsTree}
 use Rattle.eq_core.specs.Gates.{Operand, EventIs, Gate, opposite, all_of}
 use Rattle.eq_core.specs.Ordered.{AreBelow, AreOrdered}
-use Rattle.eq_core.specs.Values.{Grows, IsBelow}
+use Rattle.eq_core.specs.ValuesInside.{Grows, IsBelow}
 use Rattle.eq_core.proofs.Ordering.{joined_ordered, none_earlier}
 use Rattle.eq_core.proofs.Telling.{grows_self, grows_on, below_kept, opposite_below, all_more}
 use Rattle.eq_build.specs.Entries.{Entry, Built, Term, operand_for, all_of_each, one_of_alls, entries_for}

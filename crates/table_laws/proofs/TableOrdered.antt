@@ -10,7 +10,7 @@ use Rattle.ar_firing.specs.Forest.{ModeTree}
 use Rattle.ar_firing.specs.Trees.{IsTree, AreTrees}
 use Rattle.eq_core.specs.Gates.{Operand, Gate, Table, Made, any_of}
 use Rattle.eq_core.specs.Ordered.{AreBelow, AreOrdered, IsOrderedTable}
-use Rattle.eq_core.specs.Values.{Grows, IsBelow}
+use Rattle.eq_core.specs.ValuesInside.{Grows, IsBelow}
 use Rattle.eq_core.proofs.Ordering.{joined_ordered, none_earlier}
 use Rattle.eq_core.proofs.Telling.{grows_self, grows_on, below_kept, any_more}
 use Rattle.eq_build.specs.Entries.{Entry}

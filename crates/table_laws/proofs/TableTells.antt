@@ -15,7 +15,7 @@ use Rattle.ar_meaning.specs.Facts.{PassesConditions, Allows, HasStateValue}
 use Rattle.ar_firing.specs.Forest.{ModeTree}
 use Rattle.gts_core.specs.Lawful.{IsTypedAssign, IsLawful}
 use Rattle.eq_core.specs.Gates.{Operand, Gate, Made, Table}
-use Rattle.eq_core.specs.Values.{IsTrueWhere, Grows}
+use Rattle.eq_core.specs.ValuesInside.{IsTrueWhere, Grows}
 use Rattle.eq_core.proofs.Telling.{grows_on, tells_kept, tells_as}
 use Rattle.eq_build.specs.Entries.{Entry, operand_for}
 use Rattle.eq_build.specs.Tells.{AreEntries}

@@ -7,7 +7,7 @@ use Rattle.domains.specs.declared.Value.{Value}
 use Rattle.domains.proofs.Same.{has_in, in_has}
 use Rattle.eq_core.specs.Gates.{Operand, Gate}
 use Rattle.eq_core.specs.Ordered.{AreBelow}
-use Rattle.eq_core.specs.Values.{IsTrueWhere, EachTrue}
+use Rattle.eq_core.specs.ValuesInside.{IsTrueWhere, EachTrue}
 use Rattle.eq_build.specs.Entries.{Entry, Term, entries_for}
 use Rattle.eq_build.specs.Tells.{AreEntries, IsBuilt}
 use Rattle.eq_build.proofs.EntriesTell.{SomeTerm, terms_tell}

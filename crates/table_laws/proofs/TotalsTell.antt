@@ -5,7 +5,7 @@ use Rattle.ar_base.proofs.Standing.{one_cases, one_first, one_rest, one_none, on
 use Rattle.domains.specs.declared.Value.{Value}
 use Rattle.eq_core.specs.Gates.{Operand, Gate, all_of}
 use Rattle.eq_core.specs.Ordered.{AreBelow}
-use Rattle.eq_core.specs.Values.{IsTrueWhere, Grows, EachTrue}
+use Rattle.eq_core.specs.ValuesInside.{IsTrueWhere, Grows, EachTrue}
 use Rattle.eq_core.proofs.Telling.{grows_on, tells_as, tells_opposite, all_tells, all_more}
 use Rattle.eq_build.specs.Entries.{Entry, Term}
 use Rattle.eq_build.specs.Tells.{AreEntries, IsBuilt}

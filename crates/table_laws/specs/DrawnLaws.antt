@@ -13,7 +13,7 @@ use Rattle.mode_trees.specs.declared.forests.Forest.{Forest}
 use Rattle.zdd_families.specs.Families.{has}
 use Rattle.zdd_nodes.specs.Nodes.{IsNumber}
 use Rattle.eq_core.specs.Gates.{Table}
-use Rattle.firable_families.specs.Firable.{IsFirableOf}
+use Rattle.firable_families.specs.FirableInside.{IsFirableOf}
 use Rattle.gate_diagrams.specs.Answers.{IsAnswerUpTo}
 use Rattle.gate_diagrams.specs.NodeLimits.{NodesMayUpTo}
 use Rattle.gate_diagrams.specs.declared.answer.Drawn.{Drawn}

@@ -6,7 +6,8 @@ use Rattle.typed_expr.specs.declared.expr.ValueKind.{ValueKind}
 use Rattle.typed_expr.specs.declared.expr.Expr.{Expr, out-Expr}
 use Rattle.ar_meaning.specs.Systems.{Net, System}
 use Rattle.ar_firing.specs.Static.{IsKeyedStatic}
-use Rattle.ar_firing.specs.Cuts.{IsLeast, Cut, ConflictSet, UpTo, IsConflictFreeUpTo}
+use Rattle.ar_firing.specs.Cuts.{IsLeast, Cut, ConflictSet, IsConflictFreeUpTo}
+use Rattle.ar_firing.specs.CutsInside.{UpTo}
 use Rattle.ar_firing.specs.Forest.{ModeTree, IsForest}
 use Rattle.ar_firing.specs.Operands.{Agrees, IsFirableWith}
 use Rattle.gts_core.specs.Lawful.{IsLawful}

@@ -3,7 +3,8 @@
 ghost use Rattle.std.specs.Prelude.{ℕ, List, Bool, ◌≡◌, true};
 ghost use Rattle.domains.specs.declared.Value.{Value};
 ghost use Rattle.ar_meaning.specs.Systems.{Net};
-ghost use Rattle.ar_meaning.specs.Facts.{AreKeyed, FactOf};
+ghost use Rattle.ar_meaning.specs.Facts.{FactOf};
+ghost use Rattle.ar_meaning.specs.FactsInside.{AreKeyed};
 ghost use Rattle.ar_meaning.specs.Flows.{Flows, Outcome};
 ghost use Rattle.ar_firing.specs.Operands.{HasFault};
 ghost use Rattle.table_laws.specs.Known.{IsKnown, IsConflict, AreOfFlows};

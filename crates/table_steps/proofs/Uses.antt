@@ -10,7 +10,8 @@ use Rattle.typed_expr.proofs.Listing.{Told, Listed, listed_as, listed_one, liste
 use Rattle.typed_expr.proofs.Mentioning.{mentions_told}
 use Rattle.ar_meaning.specs.Systems.{Assign, Variable, Net}
 use Rattle.ar_meaning.specs.Dependence.{Tests, in_this, in_later, Names, IsFlow, DependsOn, flow_count}
-use Rattle.flow_blocks.specs.Blocks.{Follow, all_given, next, AreBelow}
+use Rattle.flow_blocks.specs.Blocks.{Follow, all_given, next}
+use Rattle.flow_blocks.specs.BlocksInside.{AreBelow}
 use Rattle.flow_blocks.proofs.ExistenceLemmas.{some_list}
 use Rattle.table_steps.specs.Steps.{AreBlocks}
 use Rattle.table_steps.proofs.Blocks.{one_flow}

@@ -3,7 +3,7 @@ use Rattle.std.proofs.Common.{◌≡◌, ℕ, List, subst}
 use Rattle.ar_base.specs.Lists.{Along}
 use Rattle.ar_base.proofs.Standing.{stands_one, along_on}
 use Rattle.domains.specs.declared.Value.{Value}
-use Rattle.typed_expr.specs.Pairs.{turned}
+use Rattle.typed_expr.specs.PairsInside.{turned}
 use Rattle.typed_expr.specs.declared.expr.Expr.{Expr}
 use Rattle.ar_meaning.specs.Systems.{System}
 use Rattle.ar_meaning.specs.FlatOf.{IsNumber, IsFlatOf}

@@ -5,10 +5,11 @@ use Rattle.typed_expr.specs.declared.expr.Expr.{Expr, out-Expr}
 use Rattle.ar_meaning.specs.Systems as s
 use Rattle.ar_firing.specs.Forest as firing
 use Rattle.eq_core.specs.Gates.{Operand, Gate, Made, Table, any_of}
-use Rattle.eq_core.specs.Values.{Grows}
+use Rattle.eq_core.specs.ValuesInside.{Grows}
 use Rattle.eq_core.proofs.Telling.{grows_on, any_more}
 use Rattle.eq_build.specs.Entries.{Entry, operand_for}
-use Rattle.eq_build.specs.Builds.{Builds, most_gates}
+use Rattle.eq_build.specs.Builds.{Builds}
+use Rattle.eq_build.specs.BuildsInside.{most_gates}
 use Rattle.eq_build.proofs.Growing.{longer_on, builds_more}
 use Rattle.table_steps.specs.Steps.{Reading, Threads, Has_modes, first_reading, All_rounds, AreBlocks, Sees_two, AllMayLeave, Sees_outside, Totals_of, Sees_broken, updated, flows_from}
 use Rattle.table_steps.specs.Table.{IsTable, flow_numbers}

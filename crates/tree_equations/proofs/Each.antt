@@ -4,9 +4,9 @@ use Rattle.std.specs.Result.{IsErrAnd}
 use Rattle.std.proofs.lemmas.List.{map-append}
 use Rattle.ar_base.proofs.Items.{none_left}
 use Rattle.eq_core.specs.Gates.{Gate}
-use Rattle.eq_core.specs.Values.{Grows}
+use Rattle.eq_core.specs.ValuesInside.{Grows}
 use Rattle.eq_core.specs.declared.joints.Gate as flat
-use Rattle.eq_build.specs.Builds.{most_gates}
+use Rattle.eq_build.specs.BuildsInside.{most_gates}
 use Rattle.eq_build.specs.Views.{Stops}
 use Rattle.eq_build.specs.declared.entries.BuildFault.{BuildFault}
 use Rattle.eq_build.proofs.Stopping.{stops_up, passed_on}

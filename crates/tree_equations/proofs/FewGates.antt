@@ -11,7 +11,7 @@ use Rattle.eq_build.specs.Entries.{Entry, Group, with_term, with_terms, with_ent
 use Rattle.table_steps.specs.Steps.{Threads, Has_modes, as_terms, not_left, entered, modes_of}
 use Rattle.table_steps.specs.Steps as t
 use Rattle.ar_base.proofs.Standing.{stands_map, stands_map_back}
-use Rattle.eq_build.specs.Builds.{most_gates}
+use Rattle.eq_build.specs.BuildsInside.{most_gates}
 use Rattle.eq_build.specs.Views.{entry_of, lists_in}
 use Rattle.mode_trees.specs.declared.forests.ModeTree.{ModeTree as TreeOfCode}
 use Rattle.mode_trees.specs.Views.{row_of}

@@ -11,9 +11,10 @@ use Rattle.std.proofs.Common.{◌++◌, append-nil, length-append}
 use Rattle.std.proofs.lemmas.Bool.{cases_lt}
 use Rattle.std.proofs.lemmas.List.{nil_from_length}
 use Rattle.eq_core.specs.Gates.{Operand, Gate}
-use Rattle.eq_core.specs.Values.{Grows}
+use Rattle.eq_core.specs.ValuesInside.{Grows}
 use Rattle.eq_build.specs.Entries.{Entry, entries_for}
-use Rattle.eq_build.specs.Builds.{Builds, most_gates}
+use Rattle.eq_build.specs.Builds.{Builds}
+use Rattle.eq_build.specs.BuildsInside.{most_gates}
 use Rattle.eq_build.proofs.Growing.{longer_on, builds_more, terms_more}
 use Rattle.gts_core.specs.View.{net_of, variable_of, assign_of}
 use Rattle.gts_core.proofs.Viewing.{variable_there}

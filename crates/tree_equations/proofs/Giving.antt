@@ -5,17 +5,18 @@ use Rattle.ar_base.specs.Lists.{Along}
 use Rattle.ar_base.specs.Lists as l
 use Rattle.ar_base.specs.Numbers.{VarId}
 use Rattle.domains.specs.declared.Value.TheVariants.{Truth}
-use Rattle.typed_expr.specs.Pairs.{turned}
+use Rattle.typed_expr.specs.PairsInside.{turned}
 use Rattle.typed_expr.proofs.Renaming.{renames_turned}
 use Rattle.typed_expr.specs.declared.expr.Expr.{Expr, out-Expr}
 use Rattle.ar_meaning.specs.Systems.{Assign}
 use Rattle.eq_core.specs.Gates.{Operand, Gate, Made}
-use Rattle.eq_core.specs.Values.{Grows}
+use Rattle.eq_core.specs.ValuesInside.{Grows}
 use Rattle.eq_core.specs.Views.{operand_of}
 use Rattle.eq_core.specs.declared.joints.Operand as sign
 use Rattle.eq_core.specs.declared.joints.Gate as flat
 use Rattle.eq_build.specs.Entries.{Entry, Built, operand_for}
-use Rattle.eq_build.specs.Builds.{Builds, NeedsMore, most_gates}
+use Rattle.eq_build.specs.Builds.{Builds}
+use Rattle.eq_build.specs.BuildsInside.{NeedsMore, most_gates}
 use Rattle.eq_build.specs.Views.{row_of, row_at, built_of, Stops, MakesEntries, MakesOperand}
 use Rattle.eq_build.specs.declared.entries.BuildFault.{BuildFault}
 use Rattle.eq_build.proofs.Growing.{builds_more}

@@ -5,7 +5,7 @@ use Rattle.typed_expr.specs.declared.expr.Expr.{Expr}
 use Rattle.ar_meaning.specs.Systems.{Assign, Variable, Net}
 use Rattle.ar_firing.specs.Forest.{Row, ModeTree}
 use Rattle.eq_core.specs.Gates.{Operand, EventIs, Gate, all_of}
-use Rattle.eq_core.specs.Values.{Grows}
+use Rattle.eq_core.specs.ValuesInside.{Grows}
 use Rattle.eq_core.proofs.Telling.{grows_self, grows_on, all_more}
 use Rattle.eq_build.specs.Entries.{Entry}
 use Rattle.eq_build.proofs.Growing.{longer_on, builds_more, terms_more, one_more}

@@ -2,7 +2,7 @@
 use Rattle.std.proofs.Common.{ℕ, ◌<◌, List, length}
 use Rattle.ar_meaning.specs.Systems as s
 use Rattle.eq_core.specs.Gates.{Operand, Gate}
-use Rattle.eq_build.specs.Builds.{most_gates}
+use Rattle.eq_build.specs.BuildsInside.{most_gates}
 use Rattle.eq_build.proofs.Growing.{longer_on, one_more}
 use Rattle.table_steps.specs.Steps.{Reading, Sees_outside, Sees_broken, outside_terms, broken_terms}
 use Rattle.table_steps.specs.Steps as t

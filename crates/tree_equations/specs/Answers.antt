@@ -9,7 +9,8 @@ use Rattle.eq_core.specs.Views.{operand_of}
 use Rattle.eq_core.specs.declared.joints.Gate as flat
 use Rattle.eq_core.specs.declared.joints.Operand as sign
 use Rattle.eq_build.specs.Entries as e
-use Rattle.eq_build.specs.Builds.{Builds, most_gates}
+use Rattle.eq_build.specs.Builds.{Builds}
+use Rattle.eq_build.specs.BuildsInside.{most_gates}
 use Rattle.eq_build.specs.Views.{entries_in, lists_in, operands_in, row_at, Makes}
 use Rattle.eq_build.specs.declared.entries.Entry.{Entry}
 use Rattle.eq_build.specs.declared.entries.BuildFault.{BuildFault}

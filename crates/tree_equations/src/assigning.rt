@@ -4,7 +4,7 @@ ghost use Rattle.std.specs.Prelude.{◌≡◌, ◌≤◌, ◌++◌, OnOk, IfOk, 
 ghost use Rattle.domains.specs.Domains.{IsDomain, values_of};
 ghost use Rattle.eq_core.specs.Views.{operand_of};
 ghost use Rattle.eq_build.specs.Entries.{with_terms};
-ghost use Rattle.eq_build.specs.Builds.{most_gates};
+ghost use Rattle.eq_build.specs.BuildsInside.{most_gates};
 ghost use Rattle.eq_build.specs.Views.{entries_in, lists_in, operands_in, gates_in, row_at};
 ghost use Rattle.gts_core.specs.View.{numbered, condition_of, assign_of};
 ghost use Rattle.table_steps.specs.Steps.{as_terms, together, given_terms, Builds_conditions, Gives_target};

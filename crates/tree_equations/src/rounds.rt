@@ -3,7 +3,7 @@
 ghost use Rattle.std.specs.Prelude.{◌≡◌, ◌≤◌, ◌<◌, ℕ, OnOk, List, length};
 ghost use Rattle.ar_base.specs.Lists.{IsOneOf};
 ghost use Rattle.domains.specs.Domains.{IsDomain, values_of};
-ghost use Rattle.eq_build.specs.Builds.{most_gates};
+ghost use Rattle.eq_build.specs.BuildsInside.{most_gates};
 ghost use Rattle.eq_build.specs.Views.{gates_in, row_at};
 ghost use Rattle.gts_core.specs.Sound.{IsSound};
 ghost use Rattle.gts_core.specs.View.{net_of, assign_of};

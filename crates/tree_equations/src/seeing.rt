@@ -5,7 +5,7 @@ ghost use Rattle.ar_base.specs.Lists.{Along, IsOneOf};
 ghost use Rattle.gts_core.specs.declared.system.Assign.{Assign as FlatAssign};
 ghost use Rattle.ar_meaning.specs.Systems as system;
 ghost use Rattle.domains.specs.Domains.{IsDomain, values_of};
-ghost use Rattle.eq_build.specs.Builds.{most_gates};
+ghost use Rattle.eq_build.specs.BuildsInside.{most_gates};
 ghost use Rattle.eq_build.specs.Views.{entry_of, entries_in, operands_in, terms_in, gates_in, row_at};
 ghost use Rattle.gts_core.specs.Sound.{IsSound};
 ghost use Rattle.gts_core.specs.View.{variable_of, assign_of};

@@ -4,7 +4,7 @@ ghost use Rattle.std.specs.Prelude.{◌≡◌, ◌≤◌, ◌<◌, ℕ, IfOk, If
 ghost use Rattle.ar_base.specs.Lists.{IsOneOf};
 ghost use Rattle.eq_core.specs.Gates.{Table};
 ghost use Rattle.eq_core.specs.Views.{table_of};
-ghost use Rattle.eq_build.specs.Builds.{most_gates};
+ghost use Rattle.eq_build.specs.BuildsInside.{most_gates};
 ghost use Rattle.eq_build.specs.Views.{gates_in, row_at, Stops};
 ghost use Rattle.gts_core.specs.Sound.{IsSound};
 ghost use Rattle.gts_core.specs.View.{net_of};

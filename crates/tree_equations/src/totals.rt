@@ -1,7 +1,7 @@
 //! The total values of flows.
 
 ghost use Rattle.std.specs.Prelude.{◌≡◌, ◌≤◌, ◌<◌, IfOk, List, length};
-ghost use Rattle.eq_build.specs.Builds.{most_gates};
+ghost use Rattle.eq_build.specs.BuildsInside.{most_gates};
 ghost use Rattle.eq_build.specs.Views.{entries_in, operands_in, gates_in, row_at, MakesEntries};
 ghost use Rattle.ar_meaning.specs.Systems.{Variable as SystemVariable};
 ghost use Rattle.table_steps.specs.Steps.{Threads, Totals_of, total_of, opposites, flows_from};

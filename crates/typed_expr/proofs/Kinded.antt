@@ -6,7 +6,8 @@ use Rattle.ar_base.proofs.Items.{take_item}
 use Rattle.domains.specs.declared.Value.{Value}
 use Rattle.domains.proofs.Members.{contains-cases, nothing-in}
 use Rattle.typed_expr.specs.Yields.{Level}
-use Rattle.typed_expr.specs.Kinds.{kind_of, Compares, HasKind, Each, Each_part, Each_case, IsKindOf}
+use Rattle.typed_expr.specs.Kinds.{kind_of, Compares, HasKind, Each, Each_part, Each_case}
+use Rattle.typed_expr.specs.KindsInside.{IsKindOf}
 use Rattle.typed_expr.specs.Kinds as k
 use Rattle.typed_expr.specs.declared.expr.Relation.{Relation}
 use Rattle.typed_expr.specs.declared.expr.Relation.TheVariants.{Equal, Differs, Less, AtMost, More, AtLeast}

@@ -1,7 +1,7 @@
 -- Expressions that differ in their variables alone.
 use Rattle.std.proofs.Common.{Bool, List}
 use Rattle.domains.specs.declared.Value.{Value}
-use Rattle.typed_expr.specs.Pairs.{turned}
+use Rattle.typed_expr.specs.PairsInside.{turned}
 use Rattle.typed_expr.specs.Yields.{Level, Yields, Some_yields, All_yield, Picks, Picks_parts, Takes}
 use Rattle.typed_expr.specs.Yields as y
 use Rattle.typed_expr.specs.Mentions.{Mentions, Some_mentions, Parts_mention, Cases_mention}

@@ -9,7 +9,8 @@ use Rattle.domains.specs.declared.Value.TheVariants as val
 use Rattle.domains.proofs.Members.{contains-head, contains-cases, nothing-in}
 use Rattle.domains.specs.Values.{truth_of}
 use Rattle.typed_expr.specs.Values.{is_related, sum_of, product_of, least_of, greatest_of, count_of, counted}
-use Rattle.typed_expr.specs.Yields.{Level, facts_of, Yields, Some_yields, All_yield, Picks, Picks_parts, Takes}
+use Rattle.typed_expr.specs.Yields.{Level, Yields, Some_yields, All_yield, Picks, Picks_parts, Takes}
+use Rattle.typed_expr.specs.YieldsInside.{facts_of}
 use Rattle.typed_expr.specs.Yields as y
 use Rattle.typed_expr.specs.Kinds.{kind_of, HasKind, Each, Each_part, Each_case}
 use Rattle.typed_expr.specs.Kinds as k

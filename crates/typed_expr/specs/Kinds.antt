@@ -1,9 +1,9 @@
 -- The kinds of expressions.
-use Rattle.std.specs.Prelude.{◌≡◌, ◌<◌, Bool, List, [], ◌∷◌, length, Contains, Box, Vec, Option, Some, None}
+use Rattle.std.specs.Prelude.{◌<◌, Bool, List, [], ◌∷◌, length, Box, Vec}
 use Rattle.std.specs.Global.{Global}
 use Rattle.domains.specs.declared.Value.{Value}
 use Rattle.domains.specs.declared.Value.TheVariants as value
-use Rattle.typed_expr.specs.Yields.{Level, Yields, facts_of}
+use Rattle.typed_expr.specs.Yields.{Level}
 use Rattle.typed_expr.specs.declared.expr.Relation.{Relation}
 use Rattle.typed_expr.specs.declared.expr.Relation.TheVariants.{Equal, Differs, Less, AtMost, More, AtLeast}
 use Rattle.typed_expr.specs.declared.expr.ValueKind.{ValueKind}
@@ -69,18 +69,3 @@ mutual
     case_and : {test value : Expr V} {cs : List (Expr V × Expr V)} {k : ValueKind}
         → HasKind kinds (out-Expr V test) Truth → HasKind kinds (out-Expr V value) k
         → Each_case kinds cs k → Each_case kinds ((test, value) ∷ cs) k
-
--- the answer is the kind of the expression, or there is none
-abbrev pub IsKindOf : {V : Type 0} → (V → ValueKind) → Level V → Option ValueKind → Type 0
-IsKindOf kinds e None = (k : ValueKind) → HasKind kinds e k → ⊥
-IsKindOf kinds e (Some k) = HasKind kinds e k
-
--- the facts give each variable values of its kind alone
-abbrev pub AreOfKinds : {V : Type 0} → (V → List Value) → (V → ValueKind) → Type 0
-AreOfKinds {V} facts kinds = (x : V) (v : Value) → Contains (facts x) v → kind_of v ≡ kinds x
-
--- what an expression of a kind yields from such facts is of the kind
-abbrev pub YieldsItsKind : Type 0 → Type 0
-YieldsItsKind V = (facts : V → List Value) (kinds : V → ValueKind) → AreOfKinds facts kinds
-    → (e : Level V) (kind : ValueKind) → HasKind kinds e kind
-    → (v : Value) → Yields (facts_of facts) e v → kind_of v ≡ kind

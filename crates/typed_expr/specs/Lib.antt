@@ -2,8 +2,11 @@ pub mod Values
 pub mod Sets
 pub mod Sizes
 pub mod Yields
+pub mod YieldsInside
 pub mod Pairs
+pub mod PairsInside
 pub mod Kinds
+pub mod KindsInside
 pub mod Total
 pub mod Renames
 pub mod Mentions

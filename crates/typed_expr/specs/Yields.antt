@@ -1,5 +1,5 @@
 -- What an expression yields from facts.
-use Rattle.std.specs.Prelude.{Bool, true, false, not, List, [], ◌∷◌, Contains, Box, Vec}
+use Rattle.std.specs.Prelude.{Bool, true, false, not, List, [], ◌∷◌, Box, Vec}
 use Rattle.std.specs.Global.{Global}
 use Rattle.domains.specs.declared.Value.{Value}
 use Rattle.domains.specs.declared.Value.TheVariants.{Truth, Whole}
@@ -7,10 +7,6 @@ use Rattle.typed_expr.specs.Values.{is_related, sum_of, product_of, least_of, gr
 use Rattle.typed_expr.specs.declared.expr.Relation.{Relation}
 use Rattle.typed_expr.specs.declared.expr.Expr.{Expr, out-Expr}
 use Rattle.typed_expr.specs.declared.expr.Expr.TheOpen.{Expr-F, Constant, Variable, Not, All, Any, Compare, Sum, Product, Least, Greatest, Count, Choose}
-
--- the facts are these values of each variable
-abbrev pub facts_of : {V : Type 0} → (V → List Value) → V → Value → Type 0
-facts_of values x v = Contains (values x) v
 
 -- an expression with its outermost form in view
 abbrev pub Level : Type 0 → Type 0

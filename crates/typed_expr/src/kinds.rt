@@ -3,7 +3,8 @@
 ghost use Rattle.std.specs.Prelude.{◌≡◌, ◌<◌, ◌↔◌, IsTrue, Some, None, if◌then◌else◌, length};
 ghost use Rattle.typed_expr.specs.declared.expr.Expr.{out-Expr};
 ghost use Rattle.typed_expr.specs.declared.expr.ValueKind.{ValueKind};
-ghost use Rattle.typed_expr.specs.Kinds.{kind_of as kind_of_value, Compares, IsKindOf, Each, Each_part, Each_case};
+ghost use Rattle.typed_expr.specs.Kinds.{kind_of as kind_of_value, Compares, Each, Each_part, Each_case};
+ghost use Rattle.typed_expr.specs.KindsInside.{IsKindOf};
 
 use crate::env::Env;
 use crate::expr::{Expr, Relation, ValueKind};

@@ -7,8 +7,10 @@ ghost use Rattle.typed_expr.specs.declared.expr.Expr.{Expr, out-Expr};
 ghost use Rattle.domains.specs.Values.{truth_of};
 ghost use Rattle.typed_expr.specs.Values.{count_of};
 ghost use Rattle.typed_expr.specs.Sets.{HasExactly};
-ghost use Rattle.typed_expr.specs.Yields.{Level, Yields, facts_of};
-ghost use Rattle.typed_expr.specs.Kinds.{kind_of, HasKind, YieldsItsKind};
+ghost use Rattle.typed_expr.specs.Yields.{Level, Yields};
+ghost use Rattle.typed_expr.specs.YieldsInside.{facts_of};
+ghost use Rattle.typed_expr.specs.Kinds.{kind_of, HasKind};
+ghost use Rattle.typed_expr.specs.KindsInside.{YieldsItsKind};
 ghost use Rattle.typed_expr.specs.Total.{value_of};
 ghost use Rattle.typed_expr.specs.Renames.{Renames};
 

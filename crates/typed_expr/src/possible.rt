@@ -4,7 +4,8 @@ ghost use Rattle.std.specs.Prelude.{◌≡◌, IfOk, Contains, MatchOption, ⊤}
 ghost use Rattle.domains.specs.Values.{IsAscending};
 ghost use Rattle.typed_expr.specs.declared.expr.Expr.{out-Expr};
 ghost use Rattle.typed_expr.specs.Sets.{HasExactly, KeepsLimit};
-ghost use Rattle.typed_expr.specs.Yields.{Yields, facts_of};
+ghost use Rattle.typed_expr.specs.Yields.{Yields};
+ghost use Rattle.typed_expr.specs.YieldsInside.{facts_of};
 ghost use Rattle.typed_expr.specs.Possible.{IsWide};
 ghost use Rattle.typed_expr.specs.Evaluating.{Evaluates, Tells, Tallies, Steps, Folds, Sums, Chooses, Joins};
 

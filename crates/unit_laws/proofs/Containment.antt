@@ -4,7 +4,8 @@ use Rattle.ar_base.specs.declared.places.Place.{Place}
 use Rattle.ar_syntax.specs.declared.members.Member.{Member, out-Member}
 use Rattle.class_table.specs.Declaring.{Declared}
 use Rattle.class_table.specs.Rules.{NamesClass, HasInside, class, block, IsWithin, itself, further, BreaksContainment, StandsIn, l3}
-use Rattle.hierarchy.specs.Models.{RootedModel, KeepsTextRules}
+use Rattle.hierarchy.specs.Models.{RootedModel}
+use Rattle.hierarchy.specs.ModelsInside.{KeepsTextRules}
 use Rattle.unit_laws.proofs.Nesting.{block_later}
 
 -- inside what is inside

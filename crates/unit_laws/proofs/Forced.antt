@@ -28,7 +28,8 @@ use Rattle.hierarchy.specs.Models.{RootedModel}
 use Rattle.hierarchy.specs.Units.{UnitPath, Thing, numbers}
 use Rattle.hierarchy.specs.Walks.{LeadsTo, IsThingAt, Finds}
 use Rattle.hierarchy.specs.Listing.{all_in, asserted, hidden, found, forms_at, is_way_of, ways_declared}
-use Rattle.hierarchy.specs.Paths.{name_text, prefix, thing_path, unit_path, dotted}
+use Rattle.hierarchy.specs.Paths.{name_text, prefix, thing_path, unit_path}
+use Rattle.hierarchy.specs.PathsInside.{dotted}
 use Rattle.hierarchy.specs.Settings.{TargetWord, Named, target_of, same_target, settings_at, Attribute, setting_for, set_by, outermost, target_in, declared_in, in_force_by, in_force_given, in_force}
 use Rattle.hierarchy.specs.TypeDomains.{HasDomain, boolean, named}
 use Rattle.unit_laws.specs.Named.{SameMeant, SameNamed}

@@ -5,7 +5,8 @@ use Rattle.ar_base.specs.Lists.{IsOneOf}
 use Rattle.ar_base.proofs.Standing.{one_none, one_cases, one_first, one_rest, one_left, one_right, stands_map}
 use Rattle.class_table.specs.Members.{Site, NamedMember, MemberKind, Inner, named_at}
 use Rattle.class_table.specs.Rules.{IsWithin, itself as here}
-use Rattle.hierarchy.specs.Models.{RootedModel, KeepsTextRules}
+use Rattle.hierarchy.specs.Models.{RootedModel}
+use Rattle.hierarchy.specs.ModelsInside.{KeepsTextRules}
 use Rattle.hierarchy.specs.Units.{UnitLevel, UnitPath, body_of, bodies_of, has_number, names_at}
 use Rattle.hierarchy.proofs.Finding.{same_or_not}
 use Rattle.hierarchy.proofs.Things.{flat_one}

@@ -193,18 +193,21 @@ module _ (opens : (m n : Member) → SameMember m n → SameKind (out-Member m) 
 
     walk_ends_there : (units : List UnitPath) (o : WalkOutcome) (p : Place) → WalkEnds m units o p → WalkEnds n units o p
     walk_ends_there units o p h =
-        let g = along_on (names_at m h.unit) (names_at n h.unit) (names_same opens m n agree h.unit) h.is_given.place h.given
-        h.is_given.stands in
-        let q = path_there g.2.kind h.has_path in
+        let e = h.ends in
+        let g = along_on (names_at m h.unit) (names_at n h.unit) (names_same opens m n agree h.unit) e.is_given.place e.given
+        e.is_given.stands in
+        let q = path_there g.2.kind e.has_path in
         record {
           unit = h.unit;
           is_unit = h.is_unit;
-          given = g.0;
-          is_given = record { place = h.is_given.place; stands = g.1 };
-          path = q.path;
-          has_path = q.has;
-          comes = given_there opens m n agree g.2 h.comes;
-          place = h.place ∙ q.agree.place;
+          ends = record {
+            given = g.0;
+            is_given = record { place = e.is_given.place; stands = g.1 };
+            path = q.path;
+            has_path = q.has;
+            comes = given_there opens m n agree g.2 e.comes;
+            place = e.place ∙ q.agree.place;
+          };
         }
 
     declaration_there : (units : List UnitPath) (p : Place) → BreaksDeclaration m units p → BreaksDeclaration n units p

@@ -3,7 +3,8 @@ use Rattle.std.proofs.Common.{◌≡◌, ℕ, zero, suc, ◌+◌, ◌<◌, Bool,
 use Rattle.ar_base.specs.Lists.{IsOneOf}
 use Rattle.ar_base.proofs.Standing.{one_first, one_rest}
 use Rattle.class_table.specs.Members.{NamedMember, MemberKind}
-use Rattle.hierarchy.specs.Models.{RootedModel, KeepsTextRules}
+use Rattle.hierarchy.specs.Models.{RootedModel}
+use Rattle.hierarchy.specs.ModelsInside.{KeepsTextRules}
 use Rattle.hierarchy.specs.Units.{UnitPath, Thing, body_of, set_at_of, bodies_of, has_number, names_at}
 use Rattle.hierarchy.specs.Walks.{WalkOutcome, Reaches, Nothing, Loops, cloned, NameLeads, inner, clones, embeds}
 use Rattle.hierarchy.specs.Listing.{is_inner, no_inner, nothing, loops, ListsUnits, unit, Insides, none, makes, passes, AreUnits}

@@ -4,7 +4,8 @@ use Rattle.ar_base.specs.Lists.{IsOneOf}
 use Rattle.ar_syntax.specs.declared.paths.PathStart.{PathStart}
 use Rattle.ar_syntax.specs.declared.paths.PathStart.TheVariants.{Here, Owner, Main}
 use Rattle.class_table.specs.Members.{NamedMember, MemberKind, Inner, Clone, Alias, Variable, Parameter, Kept, Event, Observer}
-use Rattle.hierarchy.specs.Models.{RootedModel, KeepsTextRules}
+use Rattle.hierarchy.specs.Models.{RootedModel}
+use Rattle.hierarchy.specs.ModelsInside.{KeepsTextRules}
 use Rattle.hierarchy.specs.Units.{UnitLevel, UnitPath, Thing, body_of, set_at_of, bodies_of, has_number, is_among, names_at, name_at, kind_at, start_of, numbers}
 use Rattle.hierarchy.specs.Walks.{WalkOutcome, Reaches, Nothing, Loops, thing, cloned, NameLeads, NamesLead, inner, clones, embeds, clones_again, embeds_again, no_unit, absent, nowhere, arrives, on, stops, loops}
 use Rattle.hierarchy.proofs.Apart.{named_back}

@@ -3,7 +3,8 @@
 //! Each function here has an empty body and states a law.
 
 ghost use Rattle.std.specs.Prelude.{ℕ, List, Option};
-ghost use Rattle.hierarchy.specs.Models.{RootedModel, KeepsTextRules};
+ghost use Rattle.hierarchy.specs.Models.{RootedModel};
+ghost use Rattle.hierarchy.specs.ModelsInside.{KeepsTextRules};
 ghost use Rattle.hierarchy.specs.Units.{UnitPath, Thing, kind_at};
 ghost use Rattle.hierarchy.specs.Walks.{WalkOutcome, NameLeads, NamesLead};
 ghost use Rattle.hierarchy.specs.Listing.{AreUnits};

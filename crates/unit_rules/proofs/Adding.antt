@@ -7,7 +7,8 @@ use Rattle.hierarchy.specs.Units.{UnitPath}
 use Rattle.class_table.specs.Declaring.{Declared}
 use Rattle.class_table.specs.Members.{Site, owned_at}
 use Rattle.class_table.specs.declared.tables.Owned.{Owned}
-use Rattle.hierarchy.specs.Walks.{Reaches, Nothing, Loops, LeadsFrom}
+use Rattle.hierarchy.specs.Walks.{Reaches, Nothing, Loops}
+use Rattle.hierarchy.specs.WalksInside.{LeadsFrom}
 use Rattle.hierarchy.proofs.Outcomes.{leads_same}
 use Rattle.unit_rules.specs.Naming.{Entry, added, nothing, AddsNames, none, one_more, names_if, names_at_sites}
 

@@ -13,15 +13,17 @@ use Rattle.ar_syntax.specs.declared.paths.Path.{Path}
 use Rattle.class_table.specs.Declaring.{Declared, MemberForm}
 use Rattle.class_table.specs.Earliest.{IsEarliest, nowhere, there}
 use Rattle.class_table.specs.Members.{Site, owned_at, names_of, names_of_form, NamedMember, Clone, Alias}
-use Rattle.class_table.specs.Tables.{site_of}
+use Rattle.class_table.specs.TablesInside.{site_of}
 use Rattle.class_table.specs.declared.tables.Classes.{Classes}
 use Rattle.class_table.specs.declared.tables.Owned.{Owned}
 use Rattle.class_table.specs.declared.tables.Owned.TheVariants.{Plain, Nested}
 use Rattle.class_table.proofs.FirstPlaces.{earliest_same}
 use Rattle.class_table.proofs.Looping.{AtItem}
-use Rattle.hierarchy.specs.Models.{RootedModel, KeepsTextRules, IsKeptTable, sites_kept}
+use Rattle.hierarchy.specs.Models.{RootedModel}
+use Rattle.hierarchy.specs.ModelsInside.{KeepsTextRules, IsKeptTable, sites_kept}
 use Rattle.hierarchy.specs.Units.{UnitPath, body_of, members_at, names_at, kind_at}
-use Rattle.hierarchy.specs.Walks.{WalkOutcome, Reaches, Nothing, Loops, NameLeads, LeadsFrom}
+use Rattle.hierarchy.specs.Walks.{WalkOutcome, Reaches, Nothing, Loops, NameLeads}
+use Rattle.hierarchy.specs.WalksInside.{LeadsFrom}
 use Rattle.hierarchy.specs.Tie.{AreOutlines}
 use Rattle.hierarchy.specs.declared.outline.Outline.{Outline}
 use Rattle.hierarchy.proofs.Apart.{members_apart, named_here}
@@ -270,13 +272,7 @@ pub all_to : {m : RootedModel} {units : List UnitPath} {o : WalkOutcome} (k : â„
 all_to k d p h = record {
   unit = h.unit;
   is_unit = record { place = k; stands = h.stands };
-  given = h.ends.given;
-  is_given = h.ends.is_given;
-  path = h.ends.path;
-  has_path = h.ends.has_path;
-  comes = h.ends.comes;
-  place =
-      h.ends.place;
+  ends = h.ends;
 }
 
 pub all_back : {m : RootedModel} {units : List UnitPath} {c : Classes} {outlines : List Outline} {o : WalkOutcome}
@@ -291,14 +287,7 @@ all_back {units = units} {outlines = outlines} a p h =
         has = record {
           unit = h.unit;
           stands = h.is_unit.stands;
-          ends = record {
-            given = h.given;
-            is_given = h.is_given;
-            path = h.path;
-            has_path = h.has_path;
-            comes = h.comes;
-            place = h.place;
-          };
+          ends = h.ends;
         };
       },
     )

@@ -14,12 +14,13 @@ use Rattle.domains.specs.declared.Domain.{Domain}
 use Rattle.class_table.specs.Declaring.{Declared, NamedType}
 use Rattle.class_table.specs.Members.{Site, NamedMember, MemberKind, member_kind_of, all_named, named_at, names_of, owned_at}
 use Rattle.class_table.proofs.Taken.{take_next}
-use Rattle.class_table.specs.Tables.{domain, class}
+use Rattle.class_table.specs.TablesInside.{domain, class}
 use Rattle.class_table.specs.declared.tables.TypeBody.TheVariants as types
 use Rattle.class_table.specs.declared.tables.Body.{Body}
 use Rattle.class_table.specs.declared.tables.Classes.{Classes}
-use Rattle.hierarchy.specs.Models.{RootedModel, IsRootedTable, sites_kept}
-use Rattle.unit_rules.specs.Typing.{IsFound, none, some}
+use Rattle.hierarchy.specs.Models.{RootedModel}
+use Rattle.hierarchy.specs.ModelsInside.{IsRootedTable, sites_kept}
+use Rattle.unit_rules.specs.TypingInside.{IsFound, none, some}
 use Rattle.unit_rules.specs.declared.settables.Settable.{Settable}
 use Rattle.unit_rules.specs.declared.settables.Settable.TheVariants as settable
 use Rattle.unit_rules.specs.Settables.{settable_of, variable_of, one_entry, entries_of}

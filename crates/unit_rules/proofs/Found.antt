@@ -6,12 +6,12 @@ use Rattle.ar_base.specs.Lists.Along.{none as along_none, one_and as along_and}
 use Rattle.ar_base.specs.Numbers.{NameId, BodyId}
 use Rattle.class_table.specs.Declaring.{NamedType, Declared}
 use Rattle.class_table.specs.Members.{type_in, type_named, domain_body}
-use Rattle.class_table.specs.Tables.{IsNamedType, IsTypeOf}
-use Rattle.class_table.specs.Tables.IsTypeOf.{domain as domain_type, class as class_type}
+use Rattle.class_table.specs.TablesInside.{IsNamedType, IsTypeOf}
+use Rattle.class_table.specs.TablesInside.IsTypeOf.{domain as domain_type, class as class_type}
 use Rattle.class_table.specs.declared.tables.TypeBody.TheVariants as types
 use Rattle.domains.specs.declared.Domain.{Domain}
 use Rattle.class_table.specs.declared.tables.TypeBody.{TypeBody}
-use Rattle.unit_rules.specs.Typing.{type_place_in, IsFound, none, some}
+use Rattle.unit_rules.specs.TypingInside.{type_place_in, IsFound, none, some}
 
 -- one type more, of another name
 place_apart : (ts : List (NameId × TypeBody)) (t : NameId × TypeBody) (x : ℕ) → (t.0.n ≡ x → ⊥)

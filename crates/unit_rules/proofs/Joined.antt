@@ -9,14 +9,15 @@ use Rattle.ar_base.specs.Numbers.{BodyId}
 use Rattle.ar_base.proofs.Standing.{along_back, along_length, stands_map}
 use Rattle.class_table.specs.Declaring.{Declared}
 use Rattle.class_table.specs.Members.{Site, NamedMember, named_at, names_of, owned_at}
-use Rattle.class_table.specs.Tables.{IsBodyOf, site_of}
+use Rattle.class_table.specs.TablesInside.{IsBodyOf, site_of}
 use Rattle.class_table.specs.declared.tables.Classes.{Classes}
 use Rattle.class_table.specs.declared.tables.Body.{Body}
 use Rattle.class_table.specs.declared.tables.Owned.{Owned}
 use Rattle.class_table.proofs.OwnAt.{own_shown}
 use Rattle.class_table.proofs.MemberNames.{site_past}
 use Rattle.class_table.proofs.Taken.{take_next}
-use Rattle.hierarchy.specs.Models.{RootedModel, IsRootedTable, sites_kept}
+use Rattle.hierarchy.specs.Models.{RootedModel}
+use Rattle.hierarchy.specs.ModelsInside.{IsRootedTable, sites_kept}
 use Rattle.hierarchy.specs.Units.{UnitPath, names_at}
 use Rattle.hierarchy.specs.Tie.{IsOutline}
 use Rattle.hierarchy.specs.declared.outline.Outline.{Outline}

@@ -5,8 +5,10 @@ use Rattle.std.proofs.lemmas.Bool.{cases_eq}
 use Rattle.ar_base.specs.Lists.{Stands, IsOneOf}
 use Rattle.ar_base.proofs.Standing.{one_none, one_first, one_split, one_left, one_right, one_cases, stands_one}
 use Rattle.class_table.specs.Members.{NamedMember}
-use Rattle.hierarchy.specs.Models.{RootedModel, KeepsTextRules}
-use Rattle.hierarchy.specs.Units.{UnitPath, body_of, names_at, name_at, names_in}
+use Rattle.hierarchy.specs.Models.{RootedModel}
+use Rattle.hierarchy.specs.ModelsInside.{KeepsTextRules}
+use Rattle.hierarchy.specs.Units.{UnitPath, body_of, names_at, name_at}
+use Rattle.hierarchy.specs.UnitsInside.{names_in}
 use Rattle.hierarchy.proofs.Apart.{members_apart, named_here, named_back}
 use Rattle.unit_rules.proofs.Sited.{flat_one, one_flat}
 use Rattle.unit_walks.specs.Forms.{same_pair}

@@ -9,7 +9,8 @@ use Rattle.ar_syntax.specs.declared.members.Word.TheVariants as word
 use Rattle.class_table.specs.Members.{NamedMember, MemberKind, Inner, Clone, Alias, Variable, Parameter, Kept, Event, Observer}
 use Rattle.hierarchy.specs.Models.{RootedModel}
 use Rattle.hierarchy.specs.Units.{UnitPath, body_of, names_at, name_at, kind_at}
-use Rattle.hierarchy.specs.Walks.{thing, PassesTest, is_parameter, Reaches, LeadsFrom, WalkOutcome, NameLeads}
+use Rattle.hierarchy.specs.Walks.{thing, PassesTest, is_parameter, Reaches, WalkOutcome, NameLeads}
+use Rattle.hierarchy.specs.WalksInside.{LeadsFrom}
 use Rattle.hierarchy.specs.Listing.{is_inner}
 use Rattle.hierarchy.specs.Settings.{TargetWord, Named, Init, Reset, target_word_of, is_init, is_reset, is_state, is_flow, is_state_variable, is_flow_variable}
 use Rattle.hierarchy.specs.Tie.{AreOutlines}

@@ -4,7 +4,8 @@ use Rattle.std.specs.List.{flat_map}
 use Rattle.std.proofs.lemmas.List.{length-map}
 use Rattle.std.proofs.lemmas.List.Elements.{filter-append}
 use Rattle.ar_base.specs.Counts.{limit_of}
-use Rattle.ar_base.specs.Stages.{Fits, fits, passes_it, Meets}
+use Rattle.ar_base.specs.Stages.{Fits, fits, passes_it}
+use Rattle.ar_base.specs.StagesInside.{Meets}
 use Rattle.ar_base.specs.declared.counts.Count.{Count}
 use Rattle.ar_base.specs.declared.faults.RuleFault.{RuleFault}
 use Rattle.ar_base.specs.declared.faults.RuleFault.TheVariants.{Limit}

@@ -17,9 +17,11 @@ use Rattle.class_table.specs.Members.{Site, owned_at, names_of, names_of_form, N
 use Rattle.class_table.specs.Rules.{l2, Misnames, declares, IsNoType, named}
 use Rattle.class_table.specs.declared.tables.Owned.{Owned}
 use Rattle.class_table.specs.declared.tables.Owned.TheVariants.{Plain, Nested}
-use Rattle.hierarchy.specs.Models.{RootedModel, KeepsTextRules}
+use Rattle.hierarchy.specs.Models.{RootedModel}
+use Rattle.hierarchy.specs.ModelsInside.{KeepsTextRules}
 use Rattle.hierarchy.specs.Units.{UnitPath, members_at, names_at, name_at, kind_at}
-use Rattle.hierarchy.specs.Walks.{Reaches, LeadsFrom}
+use Rattle.hierarchy.specs.Walks.{Reaches}
+use Rattle.hierarchy.specs.WalksInside.{LeadsFrom}
 use Rattle.hierarchy.specs.Listing.{is_inner}
 use Rattle.hierarchy.specs.Tie.{entry_in, AreNames, IsUnitIn, is_alias}
 use Rattle.hierarchy.proofs.Apart.{members_apart, named_here, named_back}

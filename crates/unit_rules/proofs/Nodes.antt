@@ -10,13 +10,14 @@ use Rattle.hierarchy.specs.Tie.{IsOutline, IsUnitNode, AreOutlines}
 use Rattle.hierarchy.specs.declared.outline.Outline.{Outline}
 use Rattle.hierarchy.specs.declared.tree.UnitNode.{UnitNode}
 use Rattle.class_table.specs.Members.{Site}
-use Rattle.class_table.specs.Tables.{site_of}
+use Rattle.class_table.specs.TablesInside.{site_of}
 use Rattle.ar_base.specs.Numbers.{BodyId}
 use Rattle.class_table.specs.declared.tables.Owned.{Owned}
 use Rattle.unit_rules.specs.Naming.{Entry, AddsNames, names_at_sites}
 use Rattle.class_table.specs.declared.tables.Body.{Body}
 use Rattle.class_table.specs.declared.tables.Classes.{Classes}
-use Rattle.hierarchy.specs.Models.{RootedModel, IsKeptTable, sites_kept}
+use Rattle.hierarchy.specs.Models.{RootedModel}
+use Rattle.hierarchy.specs.ModelsInside.{IsKeptTable, sites_kept}
 use Rattle.hierarchy.specs.Units.{UnitPath, body_of, members_at}
 
 along_push : {A B : Type 0} {R : A → B → Type 0} {xs : List A} {ys : List B} {a : A} {b : B} → Along R xs ys → R a b

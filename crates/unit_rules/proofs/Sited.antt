@@ -11,10 +11,11 @@ use Rattle.ar_base.proofs.Standing.{along_on, along_back, along_length, stands_m
 use Rattle.class_table.specs.Declaring.{Declared}
 use Rattle.class_table.specs.Earliest.{IsEarliest}
 use Rattle.class_table.specs.Members.{Site, owned_at}
-use Rattle.class_table.specs.Tables.{site_of}
+use Rattle.class_table.specs.TablesInside.{site_of}
 use Rattle.class_table.specs.declared.tables.Classes.{Classes}
 use Rattle.class_table.proofs.Looping.{AtItem}
-use Rattle.hierarchy.specs.Models.{RootedModel, IsRootedTable, sites_kept}
+use Rattle.hierarchy.specs.Models.{RootedModel}
+use Rattle.hierarchy.specs.ModelsInside.{IsRootedTable, sites_kept}
 use Rattle.hierarchy.specs.Units.{UnitPath}
 use Rattle.hierarchy.specs.Listing.{form_of}
 use Rattle.hierarchy.specs.Tie.{IsOutline}

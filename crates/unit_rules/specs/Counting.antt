@@ -6,7 +6,7 @@ use Rattle.class_table.specs.Declaring.{Declared}
 use Rattle.class_table.specs.Members.{Site, NamedMember, MemberKind, names_of, named_at, owned_at}
 use Rattle.class_table.specs.declared.tables.Owned.{Owned}
 use Rattle.class_table.specs.declared.tables.Body.{Body}
-use Rattle.hierarchy.specs.Models.{sites_kept}
+use Rattle.hierarchy.specs.ModelsInside.{sites_kept}
 use Rattle.hierarchy.specs.Walks.{is_variable, is_event}
 use Rattle.unit_rules.specs.Sizes.{owned_size}
 use Rattle.unit_rules.specs.declared.counts.Counts.{Counts}

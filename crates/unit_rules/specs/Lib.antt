@@ -1,5 +1,6 @@
 pub mod Counting
 pub mod Limits
+pub mod LimitsInside
 pub mod Naming
 pub mod Repeats
 pub mod Rules
@@ -8,4 +9,5 @@ pub mod Settables
 pub mod Sizes
 pub mod Statements
 pub mod Typing
+pub mod TypingInside
 pub mod Wrong

@@ -1,10 +1,8 @@
 -- The limits of a tree of units: its variables, its events, and its nodes, tested in this order.
-use Rattle.std.specs.Prelude.{◌≡◌, ℕ, List, length, Result}
-use Rattle.ar_base.specs.Stages.{Then, Fits, Meets}
+use Rattle.std.specs.Prelude.{ℕ, length, Result}
+use Rattle.ar_base.specs.Stages.{Then, Fits}
 use Rattle.ar_base.specs.declared.counts.Count.TheVariants.{Variables, Events, TreeNodes}
 use Rattle.ar_base.specs.declared.faults.RuleFault.{RuleFault}
-use Rattle.hierarchy.specs.Models.{RootedModel}
-use Rattle.hierarchy.specs.Units.{UnitPath}
 use Rattle.hierarchy.specs.Listing.{Unfolded, variables, events}
 use Rattle.unit_rules.specs.Sizes.{tree_nodes}
 
@@ -23,7 +21,3 @@ unfolded_nodes t = tree_nodes t.model t.units
 -- the limit of variables, then that of events, then that of nodes
 abbrev pub FitsLimits : Unfolded → Result Unfolded RuleFault → Type 0
 FitsLimits = Then (Fits Variables variables_counted) (Then (Fits Events events_counted) (Fits TreeNodes unfolded_nodes))
-
--- the answer of a call that tests the limits
-abbrev pub AnswersLimits : {X : Type 0} → RootedModel → List UnitPath → Result X RuleFault → Type 0
-AnswersLimits m units answer = let t : Unfolded = record { model = m; units = units } in Meets FitsLimits (λ u x. u ≡ t) t answer

@@ -3,7 +3,8 @@ use Rattle.std.specs.Prelude.{◌≡◌, ℕ, List, [], ◌∷◌, ◌++◌, map
 use Rattle.std.specs.Borrow.{Bor}
 use Rattle.std.specs.List.{flat_map}
 use Rattle.ar_base.specs.Lists.{Stands, IsOneOf}
-use Rattle.ar_base.specs.Numbers.{NameId, UnitId}
+use Rattle.ar_base.specs.Numbers.{NameId}
+use Rattle.ar_base.specs.NumbersInside.{UnitId}
 use Rattle.ar_base.specs.declared.places.Place.{Place}
 use Rattle.ar_syntax.specs.declared.members.Member.{out-Member}
 use Rattle.ar_syntax.specs.declared.members.Member.TheOpen as member
@@ -16,7 +17,8 @@ use Rattle.class_table.specs.declared.tables.Owned.{Owned}
 use Rattle.class_table.specs.declared.tables.Owned.TheVariants.{Plain, Nested}
 use Rattle.hierarchy.specs.Models.{RootedModel}
 use Rattle.hierarchy.specs.Units.{UnitPath}
-use Rattle.hierarchy.specs.Walks.{WalkOutcome, Reaches, Nothing, Loops, LeadsFrom}
+use Rattle.hierarchy.specs.Walks.{WalkOutcome, Reaches, Nothing, Loops}
+use Rattle.hierarchy.specs.WalksInside.{LeadsFrom}
 
 -- an entry of a unit's names
 abbrev pub Entry : Type 0

@@ -7,7 +7,7 @@ use Rattle.class_table.specs.Declaring.{MemberForm, Declared}
 use Rattle.class_table.specs.Earliest.{IsEarliest}
 use Rattle.class_table.specs.Members.{Site, owned_at}
 use Rattle.class_table.specs.declared.tables.Body.{Body}
-use Rattle.hierarchy.specs.Models.{sites_kept}
+use Rattle.hierarchy.specs.ModelsInside.{sites_kept}
 use Rattle.hierarchy.specs.Listing.{form_of}
 use Rattle.unit_rules.specs.Rules.{BreaksForm}
 

@@ -6,7 +6,8 @@ use Rattle.ar_base.specs.Lists.{Stands, IsOneOf}
 use Rattle.ar_syntax.specs.declared.members.Setting.{Setting}
 use Rattle.class_table.specs.Members.{NamedMember, MemberKind, Inner, Clone, Alias, Variable, Parameter, Kept, Event, Observer}
 use Rattle.hierarchy.specs.Models.{RootedModel}
-use Rattle.hierarchy.specs.Units.{UnitPath, body_of, names_at, kind_at, names_in}
+use Rattle.hierarchy.specs.Units.{UnitPath, body_of, names_at, kind_at}
+use Rattle.hierarchy.specs.UnitsInside.{names_in}
 use Rattle.hierarchy.specs.Settings.{is_state, is_flow}
 use Rattle.unit_walks.specs.Forms.{same_pair}
 use Rattle.unit_rules.specs.declared.settables.Settable.{Settable}

@@ -13,18 +13,7 @@ pub data HasPath : MemberKind → Path → Type 0 where
   clones : {p : Path} → HasPath (Clone p) p
   embeds : {p : Path} → HasPath (Alias p) p
 
--- the walk of a clone or an alias of some unit, whose path stands here, comes to this
-pub record WalkEnds (m : RootedModel) (units : List UnitPath) (o : WalkOutcome) (at : Place) : Type 0 where
-  pub unit : UnitPath
-  pub is_unit : IsOneOf units unit
-  pub given : NamedMember
-  pub is_given : IsOneOf (names_at m unit) given
-  pub path : Path
-  pub has_path : HasPath given.kind path
-  pub comes : NameLeads m [] unit given.name (Some given.kind) o
-  pub place : at ≡ path.at
-
--- the same of one unit
+-- the walk of a clone or an alias of this unit, whose path stands here, comes to this
 pub record EndsIn (m : RootedModel) (u : UnitPath) (o : WalkOutcome) (at : Place) : Type 0 where
   pub given : NamedMember
   pub is_given : IsOneOf (names_at m u) given
@@ -32,3 +21,9 @@ pub record EndsIn (m : RootedModel) (u : UnitPath) (o : WalkOutcome) (at : Place
   pub has_path : HasPath given.kind path
   pub comes : NameLeads m [] u given.name (Some given.kind) o
   pub place : at ≡ path.at
+
+-- the same of some unit
+pub record WalkEnds (m : RootedModel) (units : List UnitPath) (o : WalkOutcome) (at : Place) : Type 0 where
+  pub unit : UnitPath
+  pub is_unit : IsOneOf units unit
+  pub ends : EndsIn m unit o at

@@ -4,14 +4,14 @@ ghost use Rattle.std.specs.Prelude.{◌≡◌, List, map, IfOk, Some, Option};
 ghost use Rattle.ar_base.specs.Lists.{Along};
 ghost use Rattle.class_table.specs.Declaring.{Declared};
 ghost use Rattle.class_table.specs.Earliest.{IsEarliest};
-ghost use Rattle.class_table.specs.Tables.{HoldsDeclared, site_of};
+ghost use Rattle.class_table.specs.TablesInside.{HoldsDeclared, site_of};
 ghost use Rattle.class_table.specs.declared.tables.Classes.{Classes as Table};
 ghost use Rattle.hierarchy.specs.Models.{RootedModel};
 ghost use Rattle.hierarchy.specs.Units.{UnitPath};
 ghost use Rattle.hierarchy.specs.Listing.{form_of};
 ghost use Rattle.hierarchy.specs.Settings.{is_state as says_state, is_flow as says_flow};
 ghost use Rattle.hierarchy.specs.Tie.{AreOutlines};
-ghost use Rattle.unit_rules.specs.Typing.{KnowsPlaces};
+ghost use Rattle.unit_rules.specs.TypingInside.{KnowsPlaces};
 ghost use Rattle.unit_rules.specs.Rules.{BreaksDeclaration};
 ghost use Rattle.unit_rules.specs.Searched.{BreaksOne, forms_of, IsFirstIn};
 

@@ -7,7 +7,7 @@ ghost use Rattle.hierarchy.specs.Models.{RootedModel};
 ghost use Rattle.hierarchy.specs.Units.{UnitPath};
 ghost use Rattle.unit_rules.specs.Counting.{capped};
 ghost use Rattle.hierarchy.specs.Tie.{AreOutlines};
-ghost use Rattle.unit_rules.specs.Limits.{AnswersLimits};
+ghost use Rattle.unit_rules.specs.LimitsInside.{AnswersLimits};
 
 use crate::totals::totals;
 use ar_base::{Count, RuleFault};

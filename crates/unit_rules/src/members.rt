@@ -5,11 +5,11 @@ ghost use Rattle.ar_base.specs.Lists.{Along};
 ghost use Rattle.ar_syntax.specs.declared.members.Member.{out-Member};
 ghost use Rattle.class_table.specs.Declaring.{Declared};
 ghost use Rattle.class_table.specs.Members.{Site, names_of_form};
-ghost use Rattle.class_table.specs.Tables.{IsNamedType};
+ghost use Rattle.class_table.specs.TablesInside.{IsNamedType};
 ghost use Rattle.hierarchy.specs.Walks.{is_variable, is_event};
 ghost use Rattle.unit_rules.specs.Sizes.{member_size as size_of, setting_size};
 ghost use Rattle.unit_rules.specs.Counting.{capped, named_so, AreOf};
-ghost use Rattle.unit_rules.specs.Typing.{KnowsPlaces};
+ghost use Rattle.unit_rules.specs.TypingInside.{KnowsPlaces};
 
 use crate::counts::{Counts, both};
 use crate::expressions::{expr_size, instr_size};

@@ -6,11 +6,11 @@ ghost use Rattle.ar_base.specs.Numbers.{NameId as Name};
 ghost use Rattle.ar_base.specs.declared.places.Place.{Place as PlaceOf};
 ghost use Rattle.class_table.specs.Declaring.{Declared};
 ghost use Rattle.class_table.specs.Members.{Site, names_of, named_at, declared_kind};
-ghost use Rattle.class_table.specs.Tables.{HoldsDeclared, site_of};
+ghost use Rattle.class_table.specs.TablesInside.{HoldsDeclared, site_of};
 ghost use Rattle.hierarchy.specs.Models.{RootedModel};
 ghost use Rattle.hierarchy.specs.Units.{UnitPath};
 ghost use Rattle.hierarchy.specs.Tie.{AreOutlines};
-ghost use Rattle.unit_rules.specs.Typing.{KnowsPlaces};
+ghost use Rattle.unit_rules.specs.TypingInside.{KnowsPlaces};
 ghost use Rattle.unit_rules.specs.Settables.{settable_of, variable_of, one_entry, entries_of, kept_at, Adds, AreSettables};
 
 use crate::{TypePlaces, is_flow, is_state};

@@ -3,8 +3,9 @@
 ghost use Rattle.std.specs.Prelude.{◌≡◌, ◌<◌, ◌^◌, List, length, map};
 ghost use Rattle.ar_base.specs.Lists.{Stands, Along};
 ghost use Rattle.class_table.specs.Earliest.{IsEarliest};
-ghost use Rattle.class_table.specs.Tables.{IsBodyOf, site_of};
-ghost use Rattle.hierarchy.specs.Models.{RootedModel, IsKeptTable};
+ghost use Rattle.class_table.specs.TablesInside.{IsBodyOf, site_of};
+ghost use Rattle.hierarchy.specs.Models.{RootedModel};
+ghost use Rattle.hierarchy.specs.ModelsInside.{IsKeptTable};
 ghost use Rattle.hierarchy.specs.Units.{UnitPath, body_of};
 ghost use Rattle.hierarchy.specs.Walks.{Nothing, Loops};
 ghost use Rattle.hierarchy.specs.Tie.{AreOutlines};

@@ -6,13 +6,13 @@ ghost use Rattle.ar_base.specs.Lists.{Along};
 ghost use Rattle.class_table.specs.Declaring.{Declared};
 ghost use Rattle.class_table.specs.declared.tables.Body.{Body as BodyOf};
 ghost use Rattle.class_table.specs.declared.tables.Classes.{Classes as Table};
-ghost use Rattle.class_table.specs.Tables.{IsBodyOf, IsNamedType, site_of};
+ghost use Rattle.class_table.specs.TablesInside.{IsBodyOf, IsNamedType, site_of};
 ghost use Rattle.hierarchy.specs.Models.{RootedModel};
 ghost use Rattle.hierarchy.specs.Units.{UnitPath, names_at};
 ghost use Rattle.unit_rules.specs.Sizes.{tree_nodes};
 ghost use Rattle.hierarchy.specs.Tie.{AreOutlines};
 ghost use Rattle.unit_rules.specs.Counting.{AreCounts, AreOf, AreOwn, AreAt, AreOfBody};
-ghost use Rattle.unit_rules.specs.Typing.{KnowsPlaces};
+ghost use Rattle.unit_rules.specs.TypingInside.{KnowsPlaces};
 
 use crate::counts::Counts;
 use crate::members::counts_of;

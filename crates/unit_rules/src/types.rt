@@ -5,8 +5,9 @@ ghost use Rattle.std.specs.HashMap as hash;
 ghost use Rattle.ar_base.specs.Lists.{Along};
 ghost use Rattle.class_table.specs.Declaring.{Declared};
 ghost use Rattle.class_table.specs.Members.{type_named};
-ghost use Rattle.class_table.specs.Tables.{IsNamedType};
-ghost use Rattle.unit_rules.specs.Typing.{KnowsPlaces, IsFound, bounds_variables};
+ghost use Rattle.class_table.specs.TablesInside.{IsNamedType};
+ghost use Rattle.unit_rules.specs.Typing.{bounds_variables};
+ghost use Rattle.unit_rules.specs.TypingInside.{KnowsPlaces, IsFound};
 
 use ar_base::{Memory, NameId};
 use ar_syntax::TypeForm;

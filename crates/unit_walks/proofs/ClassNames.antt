@@ -6,8 +6,8 @@ use Rattle.ar_base.specs.Lists.Along.{none as along_none, one_and as along_and}
 use Rattle.ar_base.specs.Numbers.{NameId, BodyId}
 use Rattle.class_table.specs.Declaring.{NamedType, Declared}
 use Rattle.class_table.specs.Members.{type_in, class_body}
-use Rattle.class_table.specs.Tables.{IsNamedType, IsTypeOf}
-use Rattle.class_table.specs.Tables.IsTypeOf.{domain, class}
+use Rattle.class_table.specs.TablesInside.{IsNamedType, IsTypeOf}
+use Rattle.class_table.specs.TablesInside.IsTypeOf.{domain, class}
 use Rattle.class_table.specs.declared.tables.TypeBody.{TypeBody}
 use Rattle.unit_walks.specs.Classes.{ClassBodies, class_by, class_in, class_at, flat, AreClasses}
 

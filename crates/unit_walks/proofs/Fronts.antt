@@ -4,14 +4,15 @@ use Rattle.std.proofs.lemmas.List.{drop_all, append-nil}
 use Rattle.ar_base.specs.Counts.{limit_of}
 use Rattle.ar_base.specs.Lists.{Stands, Along, one_and}
 use Rattle.ar_base.specs.Lists as l
-use Rattle.ar_base.specs.Numbers.{UnitId}
+use Rattle.ar_base.specs.NumbersInside.{UnitId}
 use Rattle.ar_base.specs.declared.counts.Count.TheVariants.{Depth, Units}
 use Rattle.ar_base.specs.declared.faults.RuleFault.{RuleFault}
 use Rattle.ar_base.specs.declared.faults.RuleFault.TheVariants.{Rule, Limit, Memory}
 use Rattle.ar_base.proofs.Standing.{stands_left, stands_one, stands_none, stands_get, along_on, along_length}
 use Rattle.class_table.specs.Members.{MemberKind, NamedMember, Inner, Clone, Alias}
 use Rattle.hierarchy.specs.Models.{RootedModel}
-use Rattle.hierarchy.specs.Units.{UnitPath, UnitLevel, Thing, body_of, set_at_of, bodies_of, has_number, kind_at, names_at, names_in}
+use Rattle.hierarchy.specs.Units.{UnitPath, UnitLevel, Thing, body_of, set_at_of, bodies_of, has_number, kind_at, names_at}
+use Rattle.hierarchy.specs.UnitsInside.{names_in}
 use Rattle.hierarchy.specs.Walks.{WalkOutcome, Reaches, NameLeads, clones, inner, cloned}
 use Rattle.hierarchy.specs.Walks as g
 use Rattle.hierarchy.specs.Listing.{ListsUnits, Insides, MakesUnit, MakesNone, is_inner, unit, none, cut, makes, makes_cut, passes}
@@ -23,8 +24,10 @@ use Rattle.unit_walks.specs.Forms.{may_be_unit, only_units, IsUnitName, IsFormOf
 use Rattle.unit_walks.specs.Forms as f
 use Rattle.unit_walks.specs.Tables.{paths_of, IsTable, Means, EndsAt, EndsNowhere}
 use Rattle.unit_walks.specs.Walking.{IsRun, IsKnown}
-use Rattle.unit_walks.specs.Unfolding.{AreShallow, deep, many, RefusesUnits, depth}
+use Rattle.unit_walks.specs.Unfolding.{AreShallow, deep, many, depth}
+use Rattle.unit_walks.specs.UnfoldingInside.{RefusesUnits}
 use Rattle.unit_walks.specs.Unfolding as o
+use Rattle.unit_walks.specs.UnfoldingInside as refuses
 use Rattle.unit_walks.specs.Growing.{IsMade, IsMadeBy, IsNodeOf, Tied, AllShallow, Grows, Over, OnLimit, HasGrown, HasGrownInside, HasPassed, HasPassedInside, IsUnfolded}
 use Rattle.unit_walks.specs.declared.forms.Forms.{Forms}
 use Rattle.unit_walks.specs.declared.forms.UnitForm.TheVariants as form
@@ -527,9 +530,9 @@ depth_first s first k path p = let h = ap length (stands_one (paths_of first) 0 
 
 pub refused : (m : RootedModel) (e : RuleFault) (old : List Node) → old ≡ [] → HasPassed m [] None old e
     → RefusesUnits m e
-refused m (Limit c) old z w = let p = w [] (ap length (sym z)) tt of_main in o.limit (o.over p.are p.over)
+refused m (Limit c) old z w = let p = w [] (ap length (sym z)) tt of_main in refuses.limit (o.over p.are p.over)
 refused m (Rule r p) old z w = absurd w
-refused m Memory old z w = o.memory
+refused m Memory old z w = refuses.memory
 
 outlines_along : (m : RootedModel) (all paths us : List UnitPath) (ds : List Node) → Tied m all paths us ds
     → Along (IsOutline m all) us (map (λ (n : Node). n.outline) ds)

@@ -8,7 +8,7 @@ use Rattle.ar_base.specs.Lists as a
 use Rattle.ar_base.proofs.Standing.{stands_one, along_on, along_back, stands_none}
 use Rattle.class_table.specs.Members.{Site, NamedMember, named_at, member_named}
 use Rattle.hierarchy.specs.Models.{RootedModel}
-use Rattle.hierarchy.specs.Units.{names_in}
+use Rattle.hierarchy.specs.UnitsInside.{names_in}
 use Rattle.unit_walks.specs.Forms.{kind_in, may_be_unit, only_units, IsUnitName, IsLookedUp, is, no_unit, absent, items_of, list_at, place_at, form_from, form_at, HasName, IsFormsFor}
 use Rattle.unit_walks.specs.declared.forms.Forms.{Forms}
 use Rattle.unit_walks.specs.declared.forms.UnitName.{UnitName}

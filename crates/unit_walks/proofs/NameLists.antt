@@ -17,10 +17,11 @@ use Rattle.class_table.specs.Declaring.{Declared, NamedType, DomainType, ClassTy
 use Rattle.class_table.specs.Members.{Site, MemberKind, Inner, Variable, NamedMember, named_at, names_of, owned_at, all_named, declared_kind, member_kind_of, class_body, type_named}
 use Rattle.class_table.specs.Rules.{l4}
 use Rattle.class_table.specs.declared.tables.Body.{Body}
-use Rattle.class_table.specs.Tables.{site_of}
+use Rattle.class_table.specs.TablesInside.{site_of}
 use Rattle.class_table.proofs.Taken.{map_next, item_stands}
-use Rattle.hierarchy.specs.Models.{RootedModel, KeepsTextRules, sites_kept}
-use Rattle.hierarchy.specs.Units.{names_in}
+use Rattle.hierarchy.specs.Models.{RootedModel}
+use Rattle.hierarchy.specs.ModelsInside.{KeepsTextRules, sites_kept}
+use Rattle.hierarchy.specs.UnitsInside.{names_in}
 use Rattle.unit_walks.specs.Classes.{ClassBodies, instance_in, AreClasses}
 use Rattle.unit_walks.specs.Forms.{may_be_unit, only_units, instances, IsUnitName, IsUnitList, same_pair, HasName, AreIndexed, AreOnce, IsFormsFor, inner}
 use Rattle.unit_walks.specs.declared.forms.Forms.{Forms}

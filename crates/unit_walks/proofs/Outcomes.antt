@@ -4,7 +4,8 @@ use Rattle.std.proofs.lemmas.Bool.{cases_eq}
 use Rattle.std.proofs.lemmas.Option.{same_Some}
 use Rattle.std.specs.HashMap.{get, HashMap}
 use Rattle.ar_base.specs.Lists.{Stands, IsOneOf, AreDifferent}
-use Rattle.ar_base.specs.Numbers.{UnitId, NameId}
+use Rattle.ar_base.specs.Numbers.{NameId}
+use Rattle.ar_base.specs.NumbersInside.{UnitId}
 use Rattle.ar_base.proofs.Standing.{stands_one, stands_within, stands_get, along_back, one_here, at_most}
 use Rattle.class_table.specs.Members.{NamedMember}
 use Rattle.hierarchy.specs.Models.{RootedModel}

@@ -4,7 +4,7 @@ use Rattle.std.specs.Borrow.{Bor}
 use Rattle.ar_base.specs.Lists.{Stands}
 use Rattle.ar_base.specs.Numbers.{NameId, BodyId}
 use Rattle.ar_syntax.specs.declared.paths.Path.{Path}
-use Rattle.class_table.specs.Tables.{site_of}
+use Rattle.class_table.specs.TablesInside.{site_of}
 use Rattle.hierarchy.specs.Models.{RootedModel}
 use Rattle.hierarchy.specs.Units.{UnitPath, start_of, kind_at, numbers}
 use Rattle.unit_walks.specs.Ends.{NameEnds, NamesEnd, IsStatement, nowhere}

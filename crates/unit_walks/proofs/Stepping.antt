@@ -7,7 +7,7 @@ use Rattle.ar_base.specs.Numbers.{NameId, BodyId}
 use Rattle.ar_base.proofs.Standing.{stands_one}
 use Rattle.ar_syntax.specs.declared.paths.Path.{Path}
 use Rattle.class_table.specs.Members.{Site, MemberKind, Inner, Clone, Alias, Variable, Parameter, Kept, Event, Observer}
-use Rattle.class_table.specs.Tables.{site_of}
+use Rattle.class_table.specs.TablesInside.{site_of}
 use Rattle.hierarchy.specs.Models.{RootedModel}
 use Rattle.hierarchy.specs.Units.{UnitPath, UnitLevel, start_of, body_of, set_at_of, bodies_of, has_number, kind_at, numbers}
 use Rattle.hierarchy.specs.Walks.{is_unitless}

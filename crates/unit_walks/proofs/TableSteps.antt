@@ -8,7 +8,7 @@ use Rattle.ar_base.specs.Lists.{Stands}
 use Rattle.ar_base.specs.Numbers.{BodyId}
 use Rattle.ar_base.proofs.Standing.{stands_left, stands_one, stands_within, stands_some, stands_none}
 use Rattle.ar_syntax.specs.declared.paths.PathStart.TheVariants.{Owner}
-use Rattle.class_table.specs.Tables.{site_of}
+use Rattle.class_table.specs.TablesInside.{site_of}
 use Rattle.hierarchy.specs.Models.{RootedModel}
 use Rattle.hierarchy.specs.Units.{UnitPath, UnitLevel, body_of, bodies_of, has_number, start_of}
 use Rattle.hierarchy.specs.Tie.{IsSetAt, none, some}

@@ -9,9 +9,9 @@ use Rattle.ar_base.specs.declared.places.Place.{Place}
 use Rattle.ar_syntax.specs.declared.paths.Path.{Path}
 use Rattle.class_table.specs.Declaring.{Declared}
 use Rattle.class_table.specs.Members.{Site, MemberKind, Inner, Clone, Alias, NamedMember, named_at, member_named, all_named}
-use Rattle.class_table.specs.Tables.{site_of}
+use Rattle.class_table.specs.TablesInside.{site_of}
 use Rattle.hierarchy.specs.Models.{RootedModel}
-use Rattle.hierarchy.specs.Units.{names_in}
+use Rattle.hierarchy.specs.UnitsInside.{names_in}
 use Rattle.unit_walks.specs.declared.forms.UnitForm.{UnitForm}
 use Rattle.unit_walks.specs.declared.forms.UnitForm.TheVariants as form
 use Rattle.unit_walks.specs.declared.forms.UnitName.{UnitName}

@@ -4,5 +4,6 @@ pub mod Ends
 pub mod Tables
 pub mod Walking
 pub mod Unfolding
+pub mod UnfoldingInside
 pub mod Growing
 pub mod Settling

@@ -2,11 +2,12 @@
 use Rattle.std.specs.Prelude.{◌≡◌, ◌<◌, ◌⊎◌, ℕ, List, ◌∷◌, length, Option, Some, None, unwrap_or}
 use Rattle.std.specs.HashMap.{get, HashMap}
 use Rattle.ar_base.specs.Lists.{Stands}
-use Rattle.ar_base.specs.Numbers.{UnitId}
+use Rattle.ar_base.specs.NumbersInside.{UnitId}
 use Rattle.class_table.specs.Members.{NamedMember}
 use Rattle.hierarchy.specs.Models.{RootedModel}
 use Rattle.hierarchy.specs.Units.{UnitPath, UnitLevel, names_at}
-use Rattle.hierarchy.specs.Walks.{Reaches, Nothing, Loops, LeadsFrom}
+use Rattle.hierarchy.specs.Walks.{Reaches, Nothing, Loops}
+use Rattle.hierarchy.specs.WalksInside.{LeadsFrom}
 use Rattle.unit_walks.specs.Forms.{same_pair, only_units}
 use Rattle.unit_walks.specs.Walking.{IsRun}
 use Rattle.unit_walks.specs.declared.tables.Table.{Table}

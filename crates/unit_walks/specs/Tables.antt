@@ -3,7 +3,7 @@ use Rattle.std.specs.Prelude.{◌≡◌, ◌<◌, ◌+◌, ◌++◌, ◌⊎◌, 
 use Rattle.std.specs.HashMap.{get}
 use Rattle.ar_base.specs.Lists.{Stands}
 use Rattle.ar_syntax.specs.declared.paths.Path.{Path}
-use Rattle.class_table.specs.Tables.{site_of}
+use Rattle.class_table.specs.TablesInside.{site_of}
 use Rattle.hierarchy.specs.Models.{RootedModel}
 use Rattle.hierarchy.specs.Units.{UnitPath, UnitLevel, body_of, set_at_of, kind_at, numbers}
 use Rattle.hierarchy.specs.Tie.{IsNameOfUnit, IsSetAt}

@@ -5,7 +5,7 @@ use Rattle.ar_base.specs.Lists.{IsOneOf}
 use Rattle.ar_base.specs.declared.counts.Count.{Count}
 use Rattle.ar_base.specs.declared.counts.Count.TheVariants.{Depth, Units}
 use Rattle.ar_base.specs.declared.faults.RuleFault.{RuleFault}
-use Rattle.ar_base.specs.declared.faults.RuleFault.TheVariants.{Limit, Memory}
+use Rattle.ar_base.specs.declared.faults.RuleFault.TheVariants.{Limit}
 use Rattle.hierarchy.specs.Models.{RootedModel}
 use Rattle.hierarchy.specs.Units.{UnitPath}
 use Rattle.hierarchy.specs.Listing.{Unfolded, AreUnits, AreFirstUnits}
@@ -31,8 +31,3 @@ pub data Unfolds (m : RootedModel) : Result Unfolded RuleFault → Type 0 where
       → Unfolds m (Ok (record { model = m; units = units }))
   over : {units : List UnitPath} {count : Count} → AreFirstUnits m units → IsFirstOver count units
       → Unfolds m (Err (Limit count))
-
--- the units pass this limit, or memory was refused
-pub data RefusesUnits (m : RootedModel) : RuleFault → Type 0 where
-  limit : {count : Count} → Unfolds m (Err (Limit count)) → RefusesUnits m (Limit count)
-  memory : RefusesUnits m Memory

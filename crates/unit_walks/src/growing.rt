@@ -3,12 +3,13 @@
 ghost use Rattle.std.specs.Prelude.{◌≡◌, ◌+◌, ◌≤◌, ◌++◌, ◌∷◌, ℕ, length, List, [], map, true, Some, IfOk, IfErr, OnOk};
 ghost use Rattle.ar_base.specs.Lists.{Stands};
 ghost use Rattle.class_table.specs.Members.{NamedMember, Clone};
-ghost use Rattle.hierarchy.specs.Models.{RootedModel, IsKeptTable};
+ghost use Rattle.hierarchy.specs.Models.{RootedModel};
+ghost use Rattle.hierarchy.specs.ModelsInside.{IsKeptTable};
 ghost use Rattle.hierarchy.specs.Units.{UnitPath, body_of, kind_at};
 ghost use Rattle.hierarchy.specs.Listing.{is_inner};
 ghost use Rattle.unit_walks.specs.Forms.{IsFormsFor, IsUnitName};
 ghost use Rattle.unit_walks.specs.Tables.{paths_of, IsTable, EndsNowhere};
-ghost use Rattle.unit_walks.specs.Unfolding.{RefusesUnits};
+ghost use Rattle.unit_walks.specs.UnfoldingInside.{RefusesUnits};
 ghost use Rattle.unit_walks.specs.Growing.{IsMadeBy, HasGrown, HasGrownInside, HasPassed, HasPassedInside, IsUnfolded};
 ghost use Rattle.unit_walks.specs.declared.growing.Node.{Node as NodeOf};
 

@@ -7,7 +7,7 @@ use Rattle.class_table.specs.Earliest.{IsEarliest, nowhere, IsEarlierOf}
 use Rattle.class_table.proofs.FirstPlaces.{earliest_both, earliest_same}
 use Rattle.class_table.proofs.Looping.{AtItem}
 use Rattle.written_forms.specs.Operands.{OperandOfKind}
-use Rattle.written_forms.specs.Wrong.{Among}
+use Rattle.written_forms.specs.WrongInside.{Among}
 
 module _ (P : OperandOfKind → Place → Type 0) where
   pub none_among : IsEarliest (Among P []) None

@@ -5,9 +5,10 @@ use Rattle.ar_syntax.specs.declared.expressions.RawForm.TheOpen as raw
 use Rattle.ar_syntax.specs.declared.paths.Path.{Path}
 use Rattle.typed_expr.specs.declared.expr.ValueKind.{ValueKind}
 use Rattle.written_forms.specs.Operands.{RawLevel, level_of, first_branch}
-use Rattle.written_forms.specs.Forms.{own_kind, HasForm, IsFormOf}
+use Rattle.written_forms.specs.Forms.{own_kind, HasForm}
+use Rattle.written_forms.specs.FormsInside.{IsFormOf}
 use Rattle.written_forms.specs.Forms as form
-use Rattle.written_forms.specs.Wrong.{NamesKind}
+use Rattle.written_forms.specs.WrongInside.{NamesKind}
 
 -- an expression has one kind, where each path has
 module _ (names : Path → ValueKind → Type 0) (one : (p : Path) (j k : ValueKind) → names p j → names p k → j ≡ k) where

@@ -13,7 +13,8 @@ use Rattle.ar_syntax.specs.declared.expressions.RawRelation.{RawRelation}
 use Rattle.typed_expr.specs.declared.expr.ValueKind.TheVariants.{Whole}
 use Rattle.written_forms.specs.Operands.{RawLevel, level_of, AnyKind, OfKind, Like, OperandOfKind, wanting, is_equality, sides_by, operands_of, PathIn}
 use Rattle.written_forms.specs.Operands as in_form
-use Rattle.written_forms.specs.Wrong.{IsMisnamed, Among, MisnamedOperand}
+use Rattle.written_forms.specs.Wrong.{IsMisnamed}
+use Rattle.written_forms.specs.WrongInside.{Among, MisnamedOperand}
 use Rattle.written_forms.proofs.Gathering.{two_among}
 
 -- a path in a form that is no path stands in an operand

@@ -11,9 +11,12 @@ use Rattle.typed_expr.specs.declared.expr.ValueKind.TheVariants.{Whole}
 use Rattle.class_table.specs.Earliest.{IsEarliest, nowhere, there, IsEarlierOf, no_first, no_second}
 use Rattle.class_table.proofs.FirstPlaces.{earliest_both, earliest_same}
 use Rattle.written_forms.specs.Operands.{RawLevel, level_of, Demand, AnyKind, OfKind, Like, OperandOfKind, wanting, tests, branches, first_branch, sides_by, choice_operands, operands_of, HasOperands}
-use Rattle.written_forms.specs.Forms.{HasForm, IsFormOf}
-use Rattle.written_forms.specs.Wrong.{NamesKind, IsWantedKind, this, that_of, IsMistyped, demanding, AreTwoKinds, two, AreWanted, IsWrongItself, Among, MistypedOperand}
+use Rattle.written_forms.specs.Forms.{HasForm}
+use Rattle.written_forms.specs.FormsInside.{IsFormOf}
+use Rattle.written_forms.specs.Wrong.{IsWantedKind, this, that_of, IsMistyped}
+use Rattle.written_forms.specs.WrongInside.{NamesKind, demanding, AreTwoKinds, two, AreWanted, IsWrongItself, Among, MistypedOperand}
 use Rattle.written_forms.specs.Wrong as wrong
+use Rattle.written_forms.specs.WrongInside as wrongly
 use Rattle.written_forms.proofs.Gathering.{none_among, one_among, both_among, two_among}
 use Rattle.written_forms.proofs.KindsFound.{one_form, one_named, first_of_choice}
 
@@ -39,21 +42,21 @@ module _ (kinds : Path → Option ValueKind) where
   wanted_is (Some j) k w = ap (λ (z : ValueKind). Some z) (of_kind w)
 
   place_of : (d : Demand) (e : RawExpr) (p : Place) → IsWrongItself (NamesKind kinds) d e p → p ≡ e.at
-  place_of d e p (wrong.another k want h w n i) = i
-  place_of d e p (wrong.real h i) = i
-  place_of d e p (wrong.empty h i) = i
+  place_of d e p (wrongly.another k want h w n i) = i
+  place_of d e p (wrongly.real h i) = i
+  place_of d e p (wrongly.empty h i) = i
 
   pub wrong_real : (d : Demand) (e : RawExpr) → level_of e ≡ raw.Real
       → IsEarliest (IsWrongItself (NamesKind kinds) d e) (Some e.at)
-  wrong_real d e i = there (wrong.real i refl) (λ p b w. not_before p e.at b (place_of d e p w))
+  wrong_real d e i = there (wrongly.real i refl) (λ p b w. not_before p e.at b (place_of d e p w))
 
   pub wrong_empty : (d : Demand) (e : RawExpr) → (HasOperands (level_of e) → ⊥)
       → IsEarliest (IsWrongItself (NamesKind kinds) d e) (Some e.at)
-  wrong_empty d e n = there (wrong.empty n refl) (λ p b w. not_before p e.at b (place_of d e p w))
+  wrong_empty d e n = there (wrongly.empty n refl) (λ p b w. not_before p e.at b (place_of d e p w))
 
   two_wrong : (e : RawExpr) (found want : Option ValueKind) → IsFormOf (NamesKind kinds) (level_of e) found
       → AreTwoKinds found want → IsWrongItself (NamesKind kinds) (demanding want) e e.at
-  two_wrong e found want h (two {j = j} {k = k} n) = wrong.another j k h this n refl
+  two_wrong e found want h (two {j = j} {k = k} n) = wrongly.another j k h this n refl
 
   pub wrong_kind : (e : RawExpr) (found want : Option ValueKind) → IsFormOf (NamesKind kinds) (level_of e) found
       → AreTwoKinds found want
@@ -72,10 +75,10 @@ module _ (kinds : Path → Option ValueKind) where
       differs (Some i) k j h g d = two (λ q. d (one_of g h ∙ q))
 
       none : (p : Place) → IsWrongItself (NamesKind kinds) (demanding want) e p → ⊥
-      none p (wrong.another k j g w d i) =
+      none p (wrongly.another k j g w d i) =
           n (subst (AreTwoKinds found) (sym (wanted_is want j w)) (differs found k j h g d))
-      none p (wrong.real i j) = r i
-      none p (wrong.empty i j) = i some
+      none p (wrongly.real i j) = r i
+      none p (wrongly.empty i j) = i some
 
   -- The expression with its operands
 
@@ -90,17 +93,17 @@ module _ (kinds : Path → Option ValueKind) where
 
       to : (p : Place) → IsWrongItself (NamesKind kinds) d e p ⊎ Among (MistypedOperand (NamesKind kinds)) (operands_of
           l) p → IsMistyped (NamesKind kinds) d e p
-      to p (inl (wrong.another k want h w n q)) = here p q (wrong.itself k want h w n)
-      to p (inl (wrong.real h q)) = here p q (wrong.real h)
-      to p (inl (wrong.empty h q)) = here p q (wrong.empty h)
+      to p (inl (wrongly.another k want h w n q)) = here p q (wrong.itself k want h w n)
+      to p (inl (wrongly.real h q)) = here p q (wrong.real h)
+      to p (inl (wrongly.empty h q)) = here p q (wrong.empty h)
       to p (inr a) = wrong.inside a.operand
           (subst (λ (z : RawLevel). IsOneOf (operands_of z) a.operand) (sym i) a.is_operand) a.has
 
       from : (p : Place) → IsMistyped (NamesKind kinds) d e p
           → IsWrongItself (NamesKind kinds) d e p ⊎ Among (MistypedOperand (NamesKind kinds)) (operands_of l) p
-      from p (wrong.itself k want h w n) = inl (wrong.another k want h w n refl)
-      from p (wrong.real h) = inl (wrong.real h refl)
-      from p (wrong.empty h) = inl (wrong.empty h refl)
+      from p (wrong.itself k want h w n) = inl (wrongly.another k want h w n refl)
+      from p (wrong.real h) = inl (wrongly.real h refl)
+      from p (wrong.empty h) = inl (wrongly.empty h refl)
       from p (wrong.inside o q h) =
           inr (record { operand = o; is_operand = subst (λ (z : RawLevel). IsOneOf (operands_of z) o) i q; has = h })
 

@@ -10,7 +10,8 @@ use Rattle.ar_syntax.specs.declared.paths.Path.{Path}
 use Rattle.class_table.specs.Earliest.{IsEarliest, IsEarlierOf}
 use Rattle.class_table.proofs.FirstPlaces.{earliest_both, earliest_same}
 use Rattle.class_table.proofs.Looping.{AtItem}
-use Rattle.written_forms.specs.Parts.{InstrForm, IsPartOf, BreaksInside, BreaksInOne}
+use Rattle.written_forms.specs.Parts.{InstrForm, IsPartOf}
+use Rattle.written_forms.specs.PartsInside.{BreaksInside, BreaksInOne}
 use Rattle.written_forms.specs.Parts as part
 
 -- The parts of each form

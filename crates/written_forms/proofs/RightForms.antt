@@ -19,7 +19,8 @@ use Rattle.written_forms.specs.Operands.{RawLevel, level_of, AnyKind, OfKind, Li
 use Rattle.written_forms.specs.Operands as in_form
 use Rattle.written_forms.specs.Forms.{own_kind, HasForm}
 use Rattle.written_forms.specs.Forms as of_form
-use Rattle.written_forms.specs.Wrong.{NamesKind, IsNamedPath, IsWantedKind, this, that_of, IsMisnamed, IsMistyped}
+use Rattle.written_forms.specs.Wrong.{IsWantedKind, this, that_of, IsMisnamed, IsMistyped}
+use Rattle.written_forms.specs.WrongInside.{NamesKind, IsNamedPath}
 use Rattle.written_forms.specs.Wrong as wrong
 use Rattle.written_forms.specs.Translating.{Becomes, All_become, Parts_become, Cases_become}
 use Rattle.written_forms.specs.Relations.{relation_of}

@@ -12,9 +12,11 @@ use Rattle.typed_expr.specs.declared.expr.ValueKind.TheVariants.{Truth}
 use Rattle.class_table.specs.Earliest.{IsEarliest, nowhere, there, IsEarlierOf}
 use Rattle.class_table.proofs.FirstPlaces.{earliest_both, earliest_same}
 use Rattle.written_forms.specs.Operands.{level_of, OfKind}
-use Rattle.written_forms.specs.Wrong.{NamesKind, IsMisnamed, IsMistyped, AreTwoKinds, two}
+use Rattle.written_forms.specs.Wrong.{IsMisnamed, IsMistyped}
+use Rattle.written_forms.specs.WrongInside.{NamesKind, AreTwoKinds, two}
 use Rattle.written_forms.specs.Parts.{InstrForm}
-use Rattle.written_forms.specs.Breaches.{Targets, IsTarget, IsSort, IsNoTargetAt, IsSortAt, AreOtherKinds, other, MisnamesItself, MistypesItself, MisplacedInAction, MisplacedInAssertion}
+use Rattle.written_forms.specs.Breaches.{MisnamesItself, MistypesItself, MisplacedInAction, MisplacedInAssertion}
+use Rattle.written_forms.specs.BreachesInside.{Targets, IsTarget, IsSort, IsNoTargetAt, IsSortAt, AreOtherKinds, other}
 use Rattle.written_forms.specs.Breaches as breach
 
 module _ (P : InstrForm → Place → Type 0) where

@@ -1,7 +1,7 @@
 -- Two kinds that are told.
 use Rattle.std.proofs.Common.{◌≡◌, ◌↔◌, IsTrue, Bool, true, false, not, Option, Some, sym, subst}
 use Rattle.typed_expr.specs.declared.expr.ValueKind.{ValueKind}
-use Rattle.written_forms.specs.Wrong.{AreTwoKinds, two}
+use Rattle.written_forms.specs.WrongInside.{AreTwoKinds, two}
 
 differ_only : {j k : ValueKind} → AreTwoKinds (Some j) (Some k) → j ≡ k → ⊥
 differ_only (two n) = n

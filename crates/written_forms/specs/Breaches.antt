@@ -1,5 +1,5 @@
 -- What an instruction breaks by itself, apart from the instructions in it.
-use Rattle.std.specs.Prelude.{◌≡◌, Bool, Option, Some, None, Box}
+use Rattle.std.specs.Prelude.{◌≡◌, Option, Box}
 use Rattle.std.specs.Global.{Global}
 use Rattle.ar_base.specs.declared.places.Place.{Place}
 use Rattle.ar_syntax.specs.declared.expressions.RawExpr.{RawExpr}
@@ -34,14 +34,6 @@ pub data MistypesItself (names : Path → ValueKind → Type 0) : InstrForm → 
   tied : {p q : Path} (j k : ValueKind) → names p j → names q k → (k ≡ j → ⊥)
       → MistypesItself names (instr.Tie p q) q.at
 
--- what a path that is assigned or tied names: a state variable, a flow, or no variable
-abbrev pub Targets : Type 0
-Targets = Path → Option Bool
-
--- the path names a variable of this sort
-abbrev pub IsSort : Targets → Bool → Path → Type 0
-IsSort targets is_state p = targets p ≡ Some is_state
-
 -- in an action: it assigns a variable that is no state variable, or it is a `:=:`
 pub data MisplacedInAction (no_state : Path → Type 0) : InstrForm → Place → Type 0 where
   assigns : {p : Path} {e : RawExpr} → no_state p → MisplacedInAction no_state (instr.Assign p e) p.at
@@ -52,21 +44,3 @@ pub data MisplacedInAssertion (no_flow flow : Path → Type 0) : InstrForm → P
   assigns : {p : Path} {e : RawExpr} → no_flow p → MisplacedInAssertion no_flow flow (instr.Assign p e) p.at
   left : {p q : Path} → no_flow p → MisplacedInAssertion no_flow flow (instr.Tie p q) p.at
   right : {p q : Path} → flow p → no_flow q → MisplacedInAssertion no_flow flow (instr.Tie p q) q.at
-
--- the path names a variable
-abbrev pub IsTarget : Targets → Path → Type 0
-IsTarget targets p = (b : Bool) × (targets p ≡ Some b)
-
--- the path, which stands here, names no variable
-pub record IsNoTargetAt (targets : Targets) (p : Path) (at : Place) : Type 0 where
-  pub none : targets p ≡ None
-  pub place : at ≡ p.at
-
--- the right path has another kind than the left one, and stands here
-pub data AreOtherKinds (names : Path → ValueKind → Type 0) (p q : Path) : Place → Type 0 where
-  other : (j k : ValueKind) → names p j → names q k → (k ≡ j → ⊥) → AreOtherKinds names p q q.at
-
--- the path names a variable of this sort, and stands here
-pub record IsSortAt (targets : Targets) (is_state : Bool) (p : Path) (at : Place) : Type 0 where
-  pub names : targets p ≡ Some is_state
-  pub place : at ≡ p.at

@@ -33,8 +33,3 @@ pub data HasForm (names : Path → ValueKind → Type 0) : RawLevel → ValueKin
   path : {p : Path} {k : ValueKind} → names p k → HasForm names (raw.Path p) k
   choice : {cases : Vec (RawExpr × RawExpr) Global} {other : Box RawExpr Global} {k : ValueKind}
       → HasForm names (level_of (first_branch cases.items other.value)) k → HasForm names (raw.Choose cases other) k
-
--- the answer is the kind of the expression, or it has none
-abbrev pub IsFormOf : (Path → ValueKind → Type 0) → RawLevel → Option ValueKind → Type 0
-IsFormOf names l None = (k : ValueKind) → HasForm names l k → ⊥
-IsFormOf names l (Some k) = HasForm names l k

@@ -1,8 +1,12 @@
 pub mod Acting
 pub mod Breaches
+pub mod BreachesInside
 pub mod Forms
+pub mod FormsInside
 pub mod Operands
 pub mod Parts
+pub mod PartsInside
 pub mod Translating
 pub mod Relations
 pub mod Wrong
+pub mod WrongInside

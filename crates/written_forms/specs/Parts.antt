@@ -1,8 +1,7 @@
 -- The instructions that stand in an instruction.
-use Rattle.std.specs.Prelude.{List, Option, Some, Box, Vec}
+use Rattle.std.specs.Prelude.{Option, Some, Box, Vec}
 use Rattle.std.specs.Global.{Global}
 use Rattle.ar_base.specs.Lists.{IsOneOf}
-use Rattle.ar_base.specs.declared.places.Place.{Place}
 use Rattle.ar_syntax.specs.declared.expressions.RawExpr.{RawExpr}
 use Rattle.ar_syntax.specs.declared.instructions.Instr.{Instr, out-Instr}
 use Rattle.ar_syntax.specs.declared.instructions.Instr.TheOpen.{Instr-F}
@@ -19,15 +18,3 @@ pub data IsPartOf (i : InstrForm) : InstrForm → Type 0 where
       → IsPartOf i (instr.If r a b)
   second : {r : RawExpr} {a b : Box Instr Global} → IsPartOf i (out-Instr b.value) → IsPartOf i (instr.If r a (Some b))
   item : {is : Vec Instr Global} (j : Instr) → IsOneOf is.items j → IsPartOf i (out-Instr j) → IsPartOf i (instr.All is)
-
--- a part of the instruction breaks a rule by itself, at this place
-pub record BreaksInside (breaks : InstrForm → Place → Type 0) (whole : InstrForm) (at : Place) : Type 0 where
-  pub part : InstrForm
-  pub is_part : IsPartOf part whole
-  pub broken : breaks part at
-
--- one of the instructions does so
-pub record BreaksInOne (breaks : InstrForm → Place → Type 0) (instrs : List Instr) (at : Place) : Type 0 where
-  pub instr : Instr
-  pub is_one : IsOneOf instrs instr
-  pub inside : BreaksInside breaks (out-Instr instr) at

@@ -1,8 +1,9 @@
 //! The rules as they are tested in an instruction and in those that stand in it.
 
 ghost use Rattle.std.specs.Prelude.{true, false};
-ghost use Rattle.written_forms.specs.Wrong.{IsNamedPath, NamesKind};
-ghost use Rattle.written_forms.specs.Breaches.{IsSort, IsTarget, MisnamesItself, MistypesItself, MisplacedInAction, MisplacedInAssertion};
+ghost use Rattle.written_forms.specs.WrongInside.{IsNamedPath, NamesKind};
+ghost use Rattle.written_forms.specs.Breaches.{MisnamesItself, MistypesItself, MisplacedInAction, MisplacedInAssertion};
+ghost use Rattle.written_forms.specs.BreachesInside.{IsSort, IsTarget};
 
 use crate::parts::Rule;
 use crate::rules::{

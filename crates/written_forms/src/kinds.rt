@@ -1,8 +1,8 @@
 //! The kinds of expressions by their forms.
 
 ghost use Rattle.written_forms.specs.Operands.{level_of};
-ghost use Rattle.written_forms.specs.Forms.{IsFormOf};
-ghost use Rattle.written_forms.specs.Wrong.{NamesKind};
+ghost use Rattle.written_forms.specs.FormsInside.{IsFormOf};
+ghost use Rattle.written_forms.specs.WrongInside.{NamesKind};
 
 use crate::naming::Naming;
 use ar_syntax::{RawExpr, RawForm};

@@ -10,7 +10,8 @@ ghost use Rattle.typed_expr.specs.declared.expr.Expr.{Expr, out-Expr};
 ghost use Rattle.typed_expr.specs.declared.expr.ValueKind.{ValueKind};
 ghost use Rattle.written_forms.specs.Operands.{RawLevel, level_of, OfKind};
 ghost use Rattle.written_forms.specs.Forms.{HasForm};
-ghost use Rattle.written_forms.specs.Wrong.{NamesKind, IsNamedPath, IsMisnamed, IsMistyped};
+ghost use Rattle.written_forms.specs.Wrong.{IsMisnamed, IsMistyped};
+ghost use Rattle.written_forms.specs.WrongInside.{NamesKind, IsNamedPath};
 ghost use Rattle.written_forms.specs.Translating.{leaf_level, BecomesBy};
 ghost use Rattle.written_forms.specs.declared.naming.Leaf.{Leaf};
 

@@ -4,7 +4,8 @@ ghost use Rattle.std.specs.Prelude.{◌++◌};
 ghost use Rattle.ar_syntax.specs.declared.expressions.RawExpr.{RawExpr};
 ghost use Rattle.class_table.specs.Earliest.{IsEarliest};
 ghost use Rattle.written_forms.specs.Operands.{level_of, Demand, each_wanting, terms, tests, branches};
-ghost use Rattle.written_forms.specs.Wrong.{IsMisnamed, IsNamedPath, Among, MisnamedOperand};
+ghost use Rattle.written_forms.specs.Wrong.{IsMisnamed};
+ghost use Rattle.written_forms.specs.WrongInside.{IsNamedPath, Among, MisnamedOperand};
 
 use crate::naming::Naming;
 use ar_base::Place;

@@ -4,9 +4,10 @@ ghost use Rattle.std.specs.Prelude.{◌≡◌, ◌++◌, ◌↔◌, IsTrue};
 ghost use Rattle.ar_syntax.specs.declared.expressions.RawExpr.{RawExpr};
 ghost use Rattle.ar_syntax.specs.declared.expressions.RawForm.TheOpen.{Real as RealForm};
 ghost use Rattle.class_table.specs.Earliest.{IsEarliest};
-ghost use Rattle.written_forms.specs.Forms.{IsFormOf};
+ghost use Rattle.written_forms.specs.FormsInside.{IsFormOf};
 ghost use Rattle.written_forms.specs.Operands.{level_of, HasOperands, OfKind, each_wanting, terms, tests, branches, is_equality};
-ghost use Rattle.written_forms.specs.Wrong.{IsMistyped, NamesKind, Among, MistypedOperand, demanding, AreTwoKinds, AreWanted, IsWrongItself};
+ghost use Rattle.written_forms.specs.Wrong.{IsMistyped};
+ghost use Rattle.written_forms.specs.WrongInside.{NamesKind, Among, MistypedOperand, demanding, AreTwoKinds, AreWanted, IsWrongItself};
 
 use crate::kinds::form_kind;
 use crate::naming::Naming;

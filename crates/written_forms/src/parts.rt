@@ -3,7 +3,8 @@
 ghost use Rattle.ar_base.specs.declared.places.Place.{Place};
 ghost use Rattle.ar_syntax.specs.declared.instructions.Instr.{out-Instr};
 ghost use Rattle.class_table.specs.Earliest.{IsEarliest};
-ghost use Rattle.written_forms.specs.Parts.{InstrForm, BreaksInside, BreaksInOne};
+ghost use Rattle.written_forms.specs.Parts.{InstrForm};
+ghost use Rattle.written_forms.specs.PartsInside.{BreaksInside, BreaksInOne};
 
 use ar_base::Place;
 use ar_syntax::Instr;

@@ -4,8 +4,9 @@ ghost use Rattle.std.specs.Prelude.{◌≡◌, Bool, true, false, Option};
 ghost use Rattle.ar_syntax.specs.declared.instructions.Instr.{out-Instr};
 ghost use Rattle.ar_syntax.specs.declared.paths.Path.{Path};
 ghost use Rattle.class_table.specs.Earliest.{IsEarliest};
-ghost use Rattle.written_forms.specs.Wrong.{IsNamedPath, NamesKind};
-ghost use Rattle.written_forms.specs.Breaches.{IsSort, IsTarget, IsNoTargetAt, IsSortAt, MisnamesItself, MistypesItself, MisplacedInAction, MisplacedInAssertion};
+ghost use Rattle.written_forms.specs.WrongInside.{IsNamedPath, NamesKind};
+ghost use Rattle.written_forms.specs.Breaches.{MisnamesItself, MistypesItself, MisplacedInAction, MisplacedInAssertion};
+ghost use Rattle.written_forms.specs.BreachesInside.{IsSort, IsTarget, IsNoTargetAt, IsSortAt};
 
 use crate::{Naming, differ, first_misnamed, first_mistyped};
 use ar_base::Place;

@@ -1,7 +1,8 @@
 -- Families behind events that were taken before.
 use Rattle.std.proofs.Common.{◌≡◌, ℕ, List, [], ◌∷◌, ◌++◌, map, append_assoc, refl, sym, ap, ap₂, ◌∙◌}
 use Rattle.std.proofs.lemmas.List.{map-append}
-use Rattle.zdd_families.specs.Families.{Family, node}
+use Rattle.zdd_families.specs.Families.{Family}
+use Rattle.zdd_families.specs.FamiliesInside.{node}
 use Rattle.zdd_families.specs.Behind.{behind}
 
 -- the sets of a node behind p: those of its upper half behind p and the event, then those of its lower half behind p

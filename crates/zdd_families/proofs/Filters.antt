@@ -1,7 +1,8 @@
 -- Filters of a family.
 use Rattle.std.proofs.Common.{◌≡◌, ℕ, Bool, true, false, cond, not, List, [], ◌∷◌, filter, Less, refl, sym, ap, ◌∙◌}
 use Rattle.ar_base.specs.Sets.{Ascends}
-use Rattle.zdd_families.specs.Families.{Family, order, has, IsInOrder, IsFamily, minus}
+use Rattle.zdd_families.specs.Families.{Family, has}
+use Rattle.zdd_families.specs.FamiliesInside.{order, IsInOrder, IsFamily, minus}
 use Rattle.zdd_families.proofs.Laws.{filter_alike, each-filter, each_of, has_each, has-filter-yes, has-filter-no}
 
 pub minus-filter : (p : List ℕ → Bool) (f : Family) → minus f (filter p f) ≡ filter (λ s. not (p s)) f

@@ -3,7 +3,8 @@ use Rattle.std.proofs.Common.{◌≡◌, ◌≢◌, ℕ, ◌≤◌, Bool, true, 
 use Rattle.std.specs.List.{AllByRecursion, list_any}
 use Rattle.std.proofs.lemmas.Bool.{cases_lt}
 use Rattle.ar_base.proofs.Sets.{ascends_rest}
-use Rattle.zdd_families.specs.Families.{Family, holds, node, IsAbove, minimal}
+use Rattle.zdd_families.specs.Families.{Family, holds, minimal}
+use Rattle.zdd_families.specs.FamiliesInside.{node, IsAbove}
 use Rattle.zdd_families.specs.Sections.{section, IsCounted, IsPartOfBoth, IsFirstEvent, upper, lower, IsHalf, IsSetBelow}
 use Rattle.zdd_families.specs.Sections.IsHalf.{of_minimal, of_halves}
 use Rattle.zdd_families.proofs.Ascending.{ascends_nil, ascends_cons, ascends_head}

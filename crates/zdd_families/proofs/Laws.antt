@@ -6,7 +6,8 @@ use Rattle.std.proofs.lemmas.Bool.{and_parts}
 use Rattle.std.proofs.lemmas.Bool.Decides.{nat_tests}
 use Rattle.std.proofs.Math.Bool.{or-false}
 use Rattle.std.proofs.lemmas.List.Folds.{list_any-append}
-use Rattle.zdd_families.specs.Families.{Family, order, same, holds, within, has, node, IsAbove, meet, minus, having, without, minimal, place, union}
+use Rattle.zdd_families.specs.Families.{Family, same, holds, within, has, without, minimal}
+use Rattle.zdd_families.specs.FamiliesInside.{order, node, IsAbove, meet, minus, having, place, union}
 
 abbrev pub IsAbove_set : ℕ → List ℕ → Type 0
 IsAbove_set v s = AllByRecursion (λ x. v < x) s

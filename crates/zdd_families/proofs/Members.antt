@@ -9,7 +9,8 @@ use Rattle.ar_base.specs.Lists.{IsOneOf}
 use Rattle.ar_base.specs.Sets.{Ascends, IsBefore}
 use Rattle.ar_base.proofs.Standing.{one_none, one_first, one_rest, one_cases}
 use Rattle.ar_base.proofs.Comparing.{three}
-use Rattle.zdd_families.specs.Families.{Family, order, same, holds, within, has, union, place, meet, minus, having, without, minimal}
+use Rattle.zdd_families.specs.Families.{Family, same, holds, within, has, without, minimal}
+use Rattle.zdd_families.specs.FamiliesInside.{order, union, place, meet, minus, having}
 use Rattle.zdd_families.proofs.Ascending.{IsAscending, is_ascending}
 use Rattle.zdd_families.proofs.Laws.{same-true, same-refl}
 use Rattle.zdd_families.proofs.Gates.{flip, order-flip, placed}

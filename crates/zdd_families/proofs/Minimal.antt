@@ -5,7 +5,8 @@ use Rattle.std.proofs.lemmas.Bool.{and_parts}
 use Rattle.std.proofs.lemmas.List.Folds.{list_any-append}
 use Rattle.ar_base.specs.Sets.{Ascends}
 use Rattle.ar_base.proofs.Truths.{alike}
-use Rattle.zdd_families.specs.Families.{Family, same, holds, within, has, node, IsAbove, without, minimal}
+use Rattle.zdd_families.specs.Families.{Family, same, holds, within, has, without, minimal}
+use Rattle.zdd_families.specs.FamiliesInside.{node, IsAbove}
 use Rattle.zdd_families.proofs.Ascending.{IsAscending, is_ascending}
 use Rattle.zdd_families.proofs.Laws.{IsAbove_set, filter-node, filter_alike, every, each_of, same-refl, same-true, list_any-alike, list_any-map, within-more, within-both, within-not, same-with, same-under, any_more, has-filter-yes, within-refl, list_any-none}
 

@@ -1,7 +1,8 @@
 -- Families with the same sets are the same list.
 use Rattle.std.proofs.Common.{◌≡◌, ℕ, ◌⊎◌, inl, inr, Bool, true, false, ◌||◌, List, [], ◌∷◌, Less, Equal, Greater, refl, sym, ap, ap₂, ◌∙◌, true≢false}
 use Rattle.std.specs.List.{AllByRecursion}
-use Rattle.zdd_families.specs.Families.{Family, order, same, has, IsInOrder}
+use Rattle.zdd_families.specs.Families.{Family, same, has}
+use Rattle.zdd_families.specs.FamiliesInside.{order, IsInOrder}
 use Rattle.zdd_families.proofs.Laws.{has_each, same-true}
 use Rattle.zdd_families.proofs.Gates.{flip, order-flip, order-refl}
 use Rattle.zdd_families.proofs.Minimal.{member_of}

@@ -4,7 +4,8 @@ use Rattle.std.specs.List.{AllByRecursion}
 use Rattle.std.proofs.lemmas.Bool.Decides.{nat_tests}
 use Rattle.ar_base.specs.Sets.{Ascends}
 use Rattle.std.proofs.lemmas.List.Elements.{All-weaker}
-use Rattle.zdd_families.specs.Families.{Family, same, holds, node, IsAbove, without}
+use Rattle.zdd_families.specs.Families.{Family, same, holds, without}
+use Rattle.zdd_families.specs.FamiliesInside.{node, IsAbove}
 use Rattle.zdd_families.specs.Sections.{below, section, IsSetBelow, IsCounted, IsPartOfBoth, IsMoreThan}
 use Rattle.zdd_families.proofs.Ascending.{ascends_nil, ascends_cons}
 use Rattle.zdd_families.proofs.Laws.{IsAbove_set, filter-node, filter_alike, filter-none, filter-all, every, each_of, same-with, same-above, same-under}

@@ -1,6 +1,7 @@
 -- A family is its sets.
 use Rattle.std.specs.Prelude.{◌≡◌, ℕ, List}
-use Rattle.zdd_families.specs.Families.{Family, has, IsFamily}
+use Rattle.zdd_families.specs.Families.{Family, has}
+use Rattle.zdd_families.specs.FamiliesInside.{IsFamily}
 
 -- two families with the same sets are the same list
 abbrev pub OneListEach : Type 0

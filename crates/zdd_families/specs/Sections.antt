@@ -26,10 +26,6 @@ pub record IsCounted (f h : Family) : Type 0 where
   pub not_empty : h ≢ []
   pub not_unit : h ≢ [] ∷ []
 
--- h is the made family, and neither empty nor the family of the empty set alone
-abbrev pub IsMade : Family → Family → Type 0
-IsMade made h = (h ≡ made) × (h ≢ []) × (h ≢ [] ∷ [])
-
 -- h is a part of f and g: at some event, for some set of events below it and some subset of that, a counted section of
 -- the sets of f's section at the set that contain no set of g's section at the subset
 pub record IsPartOfBoth (f g h : Family) : Type 0 where

@@ -4,7 +4,8 @@ use Rattle.std.proofs.Math.ListN.{get_or-append}
 use Rattle.std.proofs.Math.Seq.{get_or-append_seam}
 use Rattle.std.proofs.lemmas.Option.{slice_get-get_or}
 use Rattle.ar_base.specs.Lists.{AreDifferent}
-use Rattle.zdd_families.specs.Families.{Family, IsAbove}
+use Rattle.zdd_families.specs.Families.{Family}
+use Rattle.zdd_families.specs.FamiliesInside.{IsAbove}
 use Rattle.zdd_families.proofs.Laws.{IsAbove-node}
 use Rattle.zdd_nodes.specs.Nodes.{all_of, at, IsNode}
 

@@ -2,7 +2,8 @@
 use Rattle.std.proofs.Common.{◌≡◌, ℕ, ◌<◌, cond, eqb, List, [], ◌∷◌, map, refl, ap, ◌∙◌, lt-ltb, Less, Equal, Greater}
 use Rattle.std.specs.List.{AllByRecursion}
 use Rattle.std.specs.Ordering.{ordering_then}
-use Rattle.zdd_families.specs.Families.{Family, node, IsAbove, IsFamily, order}
+use Rattle.zdd_families.specs.Families.{Family}
+use Rattle.zdd_families.specs.FamiliesInside.{node, IsAbove, IsFamily, order}
 use Rattle.zdd_families.proofs.Ascending.{ascends_nil, ascends_cons}
 use Rattle.zdd_families.proofs.Laws.{each-append, order-with}
 

@@ -6,8 +6,8 @@
 #![tactic(auto)]
 
 ghost use Rattle.std.specs.Prelude.{◌≡◌, ◌+◌, ◌<◌, ◌≤◌, ◌↔◌, [], length, IfOk, OnErr, MatchOption};
-ghost use Rattle.zdd_families.specs.Families.{node, IsAbove};
-ghost use Rattle.zdd_families.specs.Sections.{IsMade};
+ghost use Rattle.zdd_families.specs.FamiliesInside.{node, IsAbove};
+ghost use Rattle.zdd_families.specs.SectionsInside.{IsMade};
 ghost use Rattle.zdd_nodes.specs.Nodes.{family, IsNumber, IsNode, IsSoundStore, Draws, HasNoRoom, Makes};
 ghost use Rattle.zdd_nodes.specs.Room.{SectionsAreStored, EachTakesANode};
 

@@ -2,7 +2,8 @@
 use Rattle.std.proofs.Common.{◌≡◌, ℕ, zero, suc, ◌<◌, List, Result, Ok, sym, ap, ◌∙◌, subst, arith, lt_trans}
 use Rattle.std.specs.List.{AllByRecursion}
 use Rattle.ar_base.specs.Sets.{Ascends}
-use Rattle.zdd_families.specs.Families.{Family, node, minimal, without}
+use Rattle.zdd_families.specs.Families.{Family, minimal, without}
+use Rattle.zdd_families.specs.FamiliesInside.{node}
 use Rattle.zdd_families.specs.Sections.{IsCounted, IsPartOfBoth, IsHalf}
 use Rattle.zdd_families.proofs.Laws.{minimal-nil, minimal-unit, IsAbove-minimal, IsAbove-without}
 use Rattle.zdd_families.proofs.Minimal.{minimal-node}

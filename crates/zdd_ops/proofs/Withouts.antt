@@ -1,6 +1,7 @@
 -- The sets that contain no set of another family, by halves.
 use Rattle.std.proofs.Common.{◌≡◌, ℕ, Result, Ok, sym, ap₂, ◌∙◌, subst}
-use Rattle.zdd_families.specs.Families.{Family, node, IsAbove, meet, without}
+use Rattle.zdd_families.specs.Families.{Family, without}
+use Rattle.zdd_families.specs.FamiliesInside.{node, IsAbove, meet}
 use Rattle.zdd_families.specs.Sections.{IsCounted, IsPartOfBoth}
 use Rattle.zdd_families.proofs.Laws.{without-node, IsAbove-without, IsAbove-meet}
 use Rattle.zdd_families.proofs.Sections.{IsCounted-upper, IsPart-00, IsPart-10, IsPart-11, IsPart-whole}

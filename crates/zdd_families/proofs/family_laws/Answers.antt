@@ -1,5 +1,6 @@
 use Rattle.std.proofs.Common.{refl}
-use Rattle.zdd_families.specs.Families.{union, meet, minus, having, minimal, without}
+use Rattle.zdd_families.specs.Families.{minimal, without}
+use Rattle.zdd_families.specs.FamiliesInside.{union, meet, minus, having}
 use Rattle.zdd_families.specs.Sections.{section}
 use Rattle.zdd_families.proofs.Members.{order_law, order_equal, holds_law, same_law, within_law, has-union, has-meet, has-minus, has-having, has-without, has-minimal}
 use Rattle.zdd_families.proofs.OneList.{same_sets}

@@ -1,6 +1,7 @@
 use Rattle.std.proofs.Common.{◌≡◌, refl, ap, arith}
 use Rattle.std.proofs.lemmas.Result.{err_from_is_err_and}
-use Rattle.run_words.specs.Commands.{shape_of, is_script, is_list, is_made, is_second}
+use Rattle.run_words.specs.Commands.{shape_of, is_script, is_list, is_made}
+use Rattle.run_words.specs.CommandsInside.{is_second}
 use Rattle.run_words.specs.declared.verbs.Verb.{Verb}
 use Rattle.job_stages.specs.Stages.{Ready, has_table, lists_cuts}
 use Rattle.altarica_run.proofs.CommandLemmas.{checked_there, drawn_there, drawn_told, elaborate_stops, forest_here, forest_stops, lines_given, lines_stop, lines_there, nodes_told, request_stops, table_stops, tabled}

@@ -1,6 +1,7 @@
 use Rattle.std.proofs.Common.{ap, sym, subst}
 use Rattle.std.proofs.lemmas.Result.{err_from_is_err_and}
-use Rattle.run_words.specs.Commands.{shape_of, is_script, is_list, is_made, is_second}
+use Rattle.run_words.specs.Commands.{shape_of, is_script, is_list, is_made}
+use Rattle.run_words.specs.CommandsInside.{is_second}
 use Rattle.run_words.specs.declared.verbs.Verb.{Verb}
 use Rattle.job_stages.specs.Passing.{IsScripted}
 use Rattle.job_stages.specs.Stages.{bare, is_static, has_table}

@@ -1,6 +1,6 @@
 use Rattle.std.proofs.Common.{ℕ, List, Err, subst}
 use Rattle.job_stages.specs.Logs.{Grew}
-use Rattle.ar_base.specs.Texts.{bytes_of_all}
+use Rattle.ar_base.specs.TextsInside.{bytes_of_all}
 use Rattle.ar_io.specs.Outside.{Rose}
 use Rattle.altarica_run.specs.Doing.{AnswersWords, AnswersReading}
 use Rattle.job_stages.specs.declared.stops.Stop.{Stop}

@@ -1,6 +1,6 @@
 use Rattle.std.proofs.Common.{ℕ, List, refl}
 use Rattle.std.proofs.lemmas.Result.{err_from_is_err_and}
-use Rattle.ar_base.specs.Texts.{bytes_of_all}
+use Rattle.ar_base.specs.TextsInside.{bytes_of_all}
 use Rattle.ar_io.specs.Outside.{Rose}
 use Rattle.altarica_run.proofs.EndLemmas.{words_stop, files_stop, job_done}
 use Rattle.job_stages.proofs.FileLemmas.{loaded_script, script_loaded}

@@ -1,6 +1,6 @@
 use Rattle.std.proofs.Common.{ap, ◌∙◌}
 use Rattle.std.proofs.lemmas.List.{take_all}
-use Rattle.ar_base.specs.Numbers.{numbers_of}
+use Rattle.ar_base.specs.NumbersInside.{numbers_of}
 use Rattle.ar_base.proofs.Counting.{numbers_more}
 use Rattle.ar_base.proofs.numbers.numbers_of.Goals as goal
 

@@ -1,5 +1,5 @@
 use Rattle.std.proofs.Common.{◌≡◌, take}
-use Rattle.ar_base.specs.Numbers.{numbers_of}
+use Rattle.ar_base.specs.NumbersInside.{numbers_of}
 use Rattle.ar_base.proofs.numbers.numbers_of.Given as goal
 
 abbrev pub invariant-loop-id : goal.invariant-loop-id

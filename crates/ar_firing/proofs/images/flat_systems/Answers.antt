@@ -1,4 +1,4 @@
-use Rattle.typed_expr.specs.Pairs.{turned}
+use Rattle.typed_expr.specs.PairsInside.{turned}
 use Rattle.ar_meaning.specs.FlatOf.{IsNumber}
 use Rattle.ar_meaning.proofs.FlatSystems.{flat_image, flat_back}
 use Rattle.ar_firing.proofs.ImageCuts.{reaches_there, conflicts_there, meets_there, makes_there, makes_back, cut_there, cut_back, conflict_set_there}

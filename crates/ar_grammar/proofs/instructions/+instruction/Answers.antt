@@ -4,7 +4,8 @@ use Rattle.ar_lexer.specs.declared.signs.TheConstants.{OPEN_BRACE, CLOSE_BRACE}
 use Rattle.ar_lexer.specs.declared.words.TheConstants.{ELSE}
 use Rattle.ar_syntax.specs.declared.instructions.Instr.{Instr}
 use Rattle.expression_grammar.specs.Words.{between, each}
-use Rattle.ar_grammar.specs.Instructions.{ReadsInstr, ReadsSimple, ReadsGroup, ReadsConditional}
+use Rattle.ar_grammar.specs.Instructions.{ReadsInstr}
+use Rattle.ar_grammar.specs.InstructionsInside.{ReadsSimple, ReadsGroup, ReadsConditional}
 use Rattle.expression_grammar.specs.Results.{is_word}
 use Rattle.ar_grammar.specs.Results.{begins_instr}
 use Rattle.expression_grammar.proofs.Finding.{apart, err_memory}

@@ -2,7 +2,7 @@ use Rattle.ar_meaning.proofs.FlatSystems.{flat_image, flat_back, names_back, key
 use Rattle.ar_meaning.proofs.ImageBoth.{same_facts, same_flows, same_ways, same_effects, same_steps, same_runs}
 use Rattle.ar_meaning.proofs.ImageTexts.{trace_there}
 use Rattle.ar_meaning.specs.FlatOf.{IsNumber}
-use Rattle.typed_expr.specs.Pairs.{turned}
+use Rattle.typed_expr.specs.PairsInside.{turned}
 use Rattle.ar_base.proofs.Standing.{stands_one}
 use Rattle.ar_meaning.specs.Image.{Transition_renames}
 use Rattle.ar_meaning.proofs.ImageTurned.{along_turned}

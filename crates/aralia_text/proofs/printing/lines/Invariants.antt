@@ -1,5 +1,5 @@
 use Rattle.std.proofs.Common.{drop, map}
-use Rattle.ar_io.specs.Writing.{Leaves}
+use Rattle.ar_io.specs.WritingInside.{Leaves}
 use Rattle.eq_core.specs.Views.{gate_of}
 use Rattle.aralia_text.specs.Texts.{gate_lines}
 use Rattle.aralia_text.proofs.printing.lines.Given as goal

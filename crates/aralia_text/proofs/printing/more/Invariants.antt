@@ -1,5 +1,5 @@
 use Rattle.std.proofs.Common.{drop, map}
-use Rattle.ar_io.specs.Writing.{Leaves}
+use Rattle.ar_io.specs.WritingInside.{Leaves}
 use Rattle.eq_core.specs.Views.{all_needed, operand_of}
 use Rattle.aralia_text.specs.Texts.{more_text}
 use Rattle.aralia_text.proofs.printing.more.Given as goal

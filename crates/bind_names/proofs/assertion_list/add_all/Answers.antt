@@ -4,7 +4,7 @@ use Rattle.ar_base.specs.Lists.{IsOneOf}
 use Rattle.ar_base.specs.Numbers.{BodyId}
 use Rattle.ar_base.proofs.Standing.{one_here, stands_get, stands_map}
 use Rattle.class_table.specs.Members.{Site, owned_at}
-use Rattle.class_table.specs.Tables.{site_of}
+use Rattle.class_table.specs.TablesInside.{site_of}
 use Rattle.hierarchy.specs.Listing.{all_in, asserted, form_of}
 use Rattle.unit_rules.specs.Searched.{forms_of}
 use Rattle.bind_names.specs.Adding.{AddsAssertions}

@@ -1,7 +1,7 @@
 use Rattle.std.proofs.Common.{◌≡◌, List, map, take}
 use Rattle.std.specs.List.{flat_map}
 use Rattle.ar_base.specs.Lists.{Stands}
-use Rattle.class_table.specs.Tables.{site_of}
+use Rattle.class_table.specs.TablesInside.{site_of}
 use Rattle.hierarchy.specs.Listing.{all_in, asserted}
 use Rattle.hierarchy.specs.Models.{RootedModel}
 use Rattle.hierarchy.specs.Units.{UnitPath, members_at}

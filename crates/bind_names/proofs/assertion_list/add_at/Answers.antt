@@ -2,7 +2,7 @@ use Rattle.std.proofs.Common.{List, ap}
 use Rattle.std.specs.List.{flat_map}
 use Rattle.class_table.specs.Declaring.{MemberForm}
 use Rattle.class_table.specs.Members.{owned_at}
-use Rattle.class_table.specs.Tables.{site_of}
+use Rattle.class_table.specs.TablesInside.{site_of}
 use Rattle.ar_syntax.specs.declared.members.Member.TheOpen as member
 use Rattle.hierarchy.specs.Listing.{all_in, asserted, form_of}
 use Rattle.bind_names.proofs.Asserted.{adds_none, adds_one, form_asserted, none_asserted, site_member}

@@ -2,7 +2,7 @@ use Rattle.std.proofs.Common.{ℕ, List, [], map, take, take_all, get_or, refl, 
 use Rattle.ar_base.specs.Numbers.{BodyId}
 use Rattle.ar_base.proofs.Standing.{stands_get, stands_map}
 use Rattle.class_table.specs.Members.{Site, owned_at}
-use Rattle.class_table.specs.Tables.{site_of}
+use Rattle.class_table.specs.TablesInside.{site_of}
 use Rattle.hierarchy.specs.Listing.{form_of}
 use Rattle.unit_rules.proofs.Sited.{one_flat}
 use Rattle.bind_names.specs.Gathering.{AddsMembers}

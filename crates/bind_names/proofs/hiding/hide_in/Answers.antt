@@ -3,7 +3,7 @@ use Rattle.ar_base.specs.Numbers.{BodyId}
 use Rattle.ar_base.proofs.Standing.{stands_get}
 use Rattle.class_table.specs.Declaring.{MemberForm}
 use Rattle.class_table.specs.Members.{owned_at}
-use Rattle.class_table.specs.Tables.{site_of}
+use Rattle.class_table.specs.TablesInside.{site_of}
 use Rattle.hierarchy.specs.Listing.{events, form_of}
 use Rattle.bind_names.specs.Hiding.{HidesIn, Marks}
 use Rattle.bind_names.proofs.Marked.{marks_none, marks_join, hides_none, hides_join, hides_split}

@@ -1,5 +1,5 @@
 use Rattle.std.proofs.Common.{Option, subst}
-use Rattle.ar_base.specs.Numbers.{UnitId}
+use Rattle.ar_base.specs.NumbersInside.{UnitId}
 use Rattle.hierarchy.specs.Tie.{IsOwner}
 use Rattle.bind_names.proofs.Named.{prefix_below}
 use Rattle.bind_names.proofs.paths.prefix_of.Goals as goal

@@ -1,8 +1,8 @@
 use Rattle.std.proofs.Common.{take, map}
 use Rattle.class_table.specs.Declaring.{Declared}
 use Rattle.class_table.specs.Members.{named_at}
-use Rattle.class_table.specs.Tables.{HoldsDeclared, site_of}
-use Rattle.unit_rules.specs.Typing.{KnowsPlaces}
+use Rattle.class_table.specs.TablesInside.{HoldsDeclared, site_of}
+use Rattle.unit_rules.specs.TypingInside.{KnowsPlaces}
 use Rattle.bind_scopes.specs.Members.{AddsNames}
 use Rattle.bind_scopes.proofs.members.add_sites.Given as goal
 

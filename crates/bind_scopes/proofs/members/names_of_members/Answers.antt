@@ -1,7 +1,7 @@
 use Rattle.std.proofs.Common.{ℕ, ◌≡◌, List, length, subst, arith}
 use Rattle.ar_base.proofs.Standing.{along_back, along_length}
 use Rattle.class_table.specs.Members.{Site, named_at}
-use Rattle.hierarchy.specs.Units.{names_in}
+use Rattle.hierarchy.specs.UnitsInside.{names_in}
 use Rattle.class_table.proofs.Taken.{item_stands}
 use Rattle.bind_scopes.specs.Members.{AddsNames, HasFirst}
 use Rattle.bind_scopes.proofs.NameSets.{first_none, first_more}

@@ -1,5 +1,5 @@
 use Rattle.std.proofs.Common.{map, ap, sym, ◌∙◌, ltb-false}
-use Rattle.class_table.specs.Tables.{site_of}
+use Rattle.class_table.specs.TablesInside.{site_of}
 use Rattle.class_table.proofs.Taken.{item_stands}
 use Rattle.instantiate.proofs.OneName.{members_past, members_there}
 use Rattle.bind_scopes.proofs.sites.members_of.Goals as goal

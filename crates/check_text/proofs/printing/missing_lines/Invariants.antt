@@ -1,5 +1,5 @@
 use Rattle.std.proofs.Common.{◌≡◌, ◌&&◌, List, length}
-use Rattle.ar_io.specs.Writing.{Leaves}
+use Rattle.ar_io.specs.WritingInside.{Leaves}
 use Rattle.ar_meaning.specs.Runs.{Label}
 use Rattle.cut_check.specs.LineSets.{AreLineSets, HaveEventNumbers}
 use Rattle.cut_text.specs.Tables.{AllHaveWays}

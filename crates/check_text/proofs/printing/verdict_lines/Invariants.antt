@@ -1,5 +1,5 @@
 use Rattle.std.proofs.Common.{drop}
-use Rattle.ar_io.specs.Writing.{Leaves}
+use Rattle.ar_io.specs.WritingInside.{Leaves}
 use Rattle.check_text.specs.Printed.{verdict_lines}
 use Rattle.check_text.proofs.printing.verdict_lines.Given as goal
 

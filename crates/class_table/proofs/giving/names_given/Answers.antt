@@ -4,7 +4,7 @@ use Rattle.ar_base.specs.Numbers.{BodyId}
 use Rattle.ar_base.specs.declared.places.Place.{Place}
 use Rattle.ar_base.proofs.Standing.{stands_get}
 use Rattle.class_table.specs.Retested.{names_at, names_of_site}
-use Rattle.class_table.specs.Tables.{site_of}
+use Rattle.class_table.specs.TablesInside.{site_of}
 use Rattle.class_table.proofs.Taken.{map_next}
 use Rattle.class_table.proofs.MemberNames.{named_next}
 use Rattle.class_table.proofs.giving.names_given.Goals as goal

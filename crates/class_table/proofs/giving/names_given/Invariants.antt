@@ -2,7 +2,7 @@ use Rattle.std.proofs.Common.{◌≡◌, map, take}
 use Rattle.class_table.specs.Declaring.{Declared}
 use Rattle.class_table.specs.Names.{name_and_place}
 use Rattle.class_table.specs.Retested.{names_at}
-use Rattle.class_table.specs.Tables.{site_of}
+use Rattle.class_table.specs.TablesInside.{site_of}
 use Rattle.class_table.specs.Shown.{Shows}
 use Rattle.class_table.proofs.giving.names_given.Given as goal
 

@@ -1,6 +1,6 @@
 use Rattle.std.proofs.Common.{◌≡◌, ◌++◌, map, take}
 use Rattle.class_table.specs.Members.{sites_from}
-use Rattle.class_table.specs.Tables.{site_of}
+use Rattle.class_table.specs.TablesInside.{site_of}
 use Rattle.class_table.proofs.members.add_own.Given as goal
 
 abbrev pub invariant-loop-place : goal.invariant-loop-place

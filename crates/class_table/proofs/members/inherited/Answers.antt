@@ -3,7 +3,7 @@ use Rattle.std.proofs.lemmas.List.{take_all}
 use Rattle.ar_base.proofs.Standing.{one_first}
 use Rattle.class_table.specs.Listing.{InheritsMore}
 use Rattle.class_table.specs.Members.{Inherits, nothing}
-use Rattle.class_table.specs.Tables.{site_of}
+use Rattle.class_table.specs.TablesInside.{site_of}
 use Rattle.class_table.specs.declared.tables.Owned.{Owned}
 use Rattle.class_table.proofs.Taken.{item_stands, take_item, map_join}
 use Rattle.class_table.proofs.Inheriting.{inherit_none, inherit_some, inherit_next}

@@ -1,7 +1,7 @@
 use Rattle.std.proofs.Common.{ℕ, List, map, take}
 use Rattle.class_table.specs.Declaring.{Declared}
 use Rattle.class_table.specs.Members.{Inherits}
-use Rattle.class_table.specs.Tables.{site_of}
+use Rattle.class_table.specs.TablesInside.{site_of}
 use Rattle.class_table.specs.Listing.{ListsDone, AreDone}
 use Rattle.class_table.proofs.members.inherited.Given as goal
 

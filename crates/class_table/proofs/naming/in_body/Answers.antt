@@ -4,7 +4,7 @@ use Rattle.class_table.specs.Earliest.{IsEarliest}
 use Rattle.class_table.specs.Names.{name_and_place}
 use Rattle.class_table.specs.Repeating.{IsRepeated}
 use Rattle.class_table.specs.Retested.{IsTaken, names_at}
-use Rattle.class_table.specs.Tables.{site_of}
+use Rattle.class_table.specs.TablesInside.{site_of}
 use Rattle.class_table.proofs.Retested.{met_earliest, rest_whole}
 use Rattle.class_table.proofs.naming.in_body.Goals as goal
 

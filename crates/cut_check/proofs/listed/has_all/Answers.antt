@@ -1,4 +1,4 @@
-use Rattle.ar_base.specs.Numbers.{EventId}
+use Rattle.ar_base.specs.NumbersInside.{EventId}
 use Rattle.cut_check.proofs.ListedLemmas.{numbers_more, within_more}
 use Rattle.cut_check.proofs.listed.has_all.Goals as goal
 

@@ -1,5 +1,5 @@
 use Rattle.std.proofs.Common.{refl}
-use Rattle.ar_base.specs.Numbers.{EventId}
+use Rattle.ar_base.specs.NumbersInside.{EventId}
 use Rattle.cut_check.proofs.LookupLemmas.{bits_more}
 use Rattle.cut_check.proofs.lookup.has_all_bits.Goals as goal
 

@@ -1,5 +1,5 @@
 use Rattle.std.proofs.Common.{get_or, arith}
-use Rattle.ar_base.specs.Numbers.{EventId}
+use Rattle.ar_base.specs.NumbersInside.{EventId}
 use Rattle.ar_base.proofs.Standing.{one_here, one_none, stands_get, stands_map}
 use Rattle.cut_check.specs.Flat.{numbers_of}
 use Rattle.cut_check.proofs.LookupLemmas.{put_more}

@@ -1,5 +1,5 @@
 use Rattle.std.proofs.Common.{ℕ, List, get_or, set, take, false, refl, sym, subst, arith}
-use Rattle.ar_base.specs.Numbers.{EventId}
+use Rattle.ar_base.specs.NumbersInside.{EventId}
 use Rattle.ar_base.proofs.Standing.{one_here, stands_get}
 use Rattle.cut_check.specs.Flat.{numbers_of}
 use Rattle.cut_check.specs.Rows.{AreOpenEvents}

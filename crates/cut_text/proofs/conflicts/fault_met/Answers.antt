@@ -1,6 +1,7 @@
 use Rattle.std.proofs.Common.{◌<◌, ℕ, List, length, get_or, sym, ◌∙◌, subst, arith}
 use Rattle.ar_base.proofs.Standing.{stands_within}
-use Rattle.ar_base.specs.Numbers.{EventId, WayId}
+use Rattle.ar_base.specs.Numbers.{WayId}
+use Rattle.ar_base.specs.NumbersInside.{EventId}
 use Rattle.domains.specs.declared.Value.{Value}
 use Rattle.ar_meaning.specs.Systems as s
 use Rattle.ar_meaning.specs.Steps as steps

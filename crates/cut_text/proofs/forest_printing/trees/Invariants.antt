@@ -1,5 +1,5 @@
 use Rattle.std.proofs.Common.{drop}
-use Rattle.ar_io.specs.Writing.{Leaves}
+use Rattle.ar_io.specs.WritingInside.{Leaves}
 use Rattle.cut_text.specs.ForestPrinted.{trees_text}
 use Rattle.cut_text.proofs.forest_printing.trees.Given as goal
 

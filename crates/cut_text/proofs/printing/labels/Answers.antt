@@ -1,5 +1,5 @@
 use Rattle.std.proofs.Common.{List, ap, sym, true, codes}
-use Rattle.ar_base.specs.Numbers.{EventId}
+use Rattle.ar_base.specs.NumbersInside.{EventId}
 use Rattle.ar_base.specs.Texts.{separated}
 use Rattle.ar_io.proofs.Writing.{writes_exit, writes_on, writes_front, writes_as}
 use Rattle.min_cuts.specs.Kept.{numbers}

@@ -1,5 +1,5 @@
 use Rattle.std.proofs.Common.{List, get_or, false, codes}
-use Rattle.ar_base.specs.Numbers.{EventId}
+use Rattle.ar_base.specs.NumbersInside.{EventId}
 use Rattle.ar_base.specs.Texts.{separated}
 use Rattle.ar_io.proofs.Writing.{writes_exit, writes_on, writes_front, leaves_all, leaves_on, leaves_front, leaves_none, next_read, no_item}
 use Rattle.text_pieces.specs.WayLabels.{way_label}

@@ -1,6 +1,6 @@
 use Rattle.std.proofs.Common.{drop, false, codes}
 use Rattle.ar_base.specs.Texts.{separated}
-use Rattle.ar_io.specs.Writing.{Leaves}
+use Rattle.ar_io.specs.WritingInside.{Leaves}
 use Rattle.min_cuts.specs.Kept.{numbers}
 use Rattle.cut_text.specs.Tables.{texts_at}
 use Rattle.cut_text.proofs.printing.more_labels.Given as goal

@@ -1,5 +1,5 @@
 use Rattle.std.proofs.Common.{length}
-use Rattle.ar_io.specs.Writing.{Leaves}
+use Rattle.ar_io.specs.WritingInside.{Leaves}
 use Rattle.cut_text.specs.Tables.{lines_at, AllHaveWays}
 use Rattle.cut_text.proofs.printing.set_lines.Given as goal
 

@@ -9,7 +9,8 @@ use Rattle.typed_expr.proofs.Opened.{opened-constant, opened-variable, opened-no
 use Rattle.typed_expr.proofs.Shrinking as smaller
 use Rattle.eq_build.specs.Entries as e
 use Rattle.eq_build.specs.Entries.{only, entries_for, opposite_terms, joint_terms, combined, folded, led, with_step, with_signs, chosen}
-use Rattle.eq_build.specs.Builds.{Builds, Builds_each, Builds_parts, Builds_cases, NeedsMore}
+use Rattle.eq_build.specs.Builds.{Builds, Builds_each, Builds_parts, Builds_cases}
+use Rattle.eq_build.specs.BuildsInside.{NeedsMore}
 use Rattle.eq_build.specs.Builds as b
 use Rattle.eq_build.specs.Views.{entries_in, lists_in, parts_in, cases_in, gates_in, row_of, MakesEntries}
 use Rattle.eq_build.specs.Answers.{Entries, PartsNeedMore, CasesNeedMore}

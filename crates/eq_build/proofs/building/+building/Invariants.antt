@@ -1,5 +1,6 @@
 use Rattle.std.proofs.Common.{◌≤◌, length}
-use Rattle.eq_build.specs.Builds.{Builds_each, Builds_parts, Builds_cases, most_gates}
+use Rattle.eq_build.specs.Builds.{Builds_each, Builds_parts, Builds_cases}
+use Rattle.eq_build.specs.BuildsInside.{most_gates}
 use Rattle.eq_build.specs.Views.{lists_in, parts_in, cases_in, gates_in, row_of}
 use Rattle.eq_build.proofs.Threading.{SoFar}
 use Rattle.eq_build.proofs.building.+building.Given as goal

@@ -1,7 +1,7 @@
 use Rattle.std.proofs.Common.{suc, ◌<◌, ◌++◌, length, drop, ap, ◌∙◌, subst}
 use Rattle.eq_core.specs.Gates.{all_of}
 use Rattle.eq_build.specs.Entries.{all_of_each, one_of_alls}
-use Rattle.eq_build.specs.Builds.{most_gates}
+use Rattle.eq_build.specs.BuildsInside.{most_gates}
 use Rattle.eq_build.specs.Views.{terms_in, operands_in, gates_in}
 use Rattle.eq_build.proofs.Places.{item_next}
 use Rattle.eq_build.proofs.Stopping.{stops_up, operand_passed_on, term_stops}

@@ -1,6 +1,6 @@
 use Rattle.std.proofs.Common.{◌≡◌, ◌≤◌, ◌++◌, drop, length}
 use Rattle.eq_build.specs.Entries.{all_of_each}
-use Rattle.eq_build.specs.Builds.{most_gates}
+use Rattle.eq_build.specs.BuildsInside.{most_gates}
 use Rattle.eq_build.specs.Views.{terms_in, operands_in, gates_in}
 use Rattle.eq_build.proofs.entries.one_of_alls.Given as goal
 

@@ -1,6 +1,6 @@
 use Rattle.std.proofs.Common.{◌<◌, List, length, sym, ap, ◌∙◌, subst}
 use Rattle.eq_build.specs.Entries.{Built, chosen, entries_for, case_terms}
-use Rattle.eq_build.specs.Builds.{most_gates}
+use Rattle.eq_build.specs.BuildsInside.{most_gates}
 use Rattle.eq_build.specs.Views.{entries_in, gates_in, cases_in}
 use Rattle.eq_build.specs.declared.entries.Entry as flat
 use Rattle.eq_build.proofs.Stopping.{stops_up, entries_passed_on, case_stops, chosen_last, cases_split}

@@ -1,6 +1,6 @@
 use Rattle.std.proofs.Common.{suc, ◌<◌, List, length, drop, ap, ◌∙◌, subst}
 use Rattle.eq_build.specs.Entries.{folded, combined, with_signs}
-use Rattle.eq_build.specs.Builds.{most_gates}
+use Rattle.eq_build.specs.BuildsInside.{most_gates}
 use Rattle.eq_build.specs.Views.{entries_in, gates_in, parts_in}
 use Rattle.eq_build.specs.declared.entries.Entry.{Entry}
 use Rattle.eq_build.specs.declared.steps.Step.TheVariants.{Part}

@@ -1,6 +1,6 @@
 use Rattle.std.proofs.Common.{◌≡◌, ◌≤◌, drop, length}
 use Rattle.eq_build.specs.Entries.{folded, with_signs}
-use Rattle.eq_build.specs.Builds.{most_gates}
+use Rattle.eq_build.specs.BuildsInside.{most_gates}
 use Rattle.eq_build.specs.Views.{entries_in, gates_in, parts_in}
 use Rattle.eq_build.proofs.forms.summed.Given as goal
 

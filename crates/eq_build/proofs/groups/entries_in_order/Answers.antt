@@ -1,6 +1,6 @@
 use Rattle.std.proofs.Common.{suc, ◌<◌, length, drop, map, ap, ◌∙◌, subst}
 use Rattle.eq_build.specs.Entries.{Built, entries_of, one_of_alls}
-use Rattle.eq_build.specs.Builds.{most_gates}
+use Rattle.eq_build.specs.BuildsInside.{most_gates}
 use Rattle.eq_build.specs.Views.{terms_in, gates_in, group_of}
 use Rattle.eq_build.proofs.Places.{item_next}
 use Rattle.eq_build.proofs.Stopping.{stops_up, entries_passed_on, group_stops}

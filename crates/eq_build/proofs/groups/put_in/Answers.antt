@@ -2,7 +2,8 @@ use Rattle.std.proofs.Common.{◌≡◌, ◌<◌, ◌++◌, [], ◌∷◌, List,
 use Rattle.std.proofs.lemmas.List.{get_or_default}
 use Rattle.domains.specs.Values.{is_before}
 use Rattle.domains.specs.Same.{is_same}
-use Rattle.eq_build.specs.Entries.{Term, Rises}
+use Rattle.eq_build.specs.Entries.{Term}
+use Rattle.eq_build.specs.EntriesInside.{Rises}
 use Rattle.eq_build.specs.Views.{operands_in, group_of}
 use Rattle.eq_build.specs.declared.groups.Group as flat
 use Rattle.eq_build.proofs.GroupsRise.{term_rises}

@@ -5,6 +5,8 @@ use Rattle.sync_expand.specs.Counting.{way_rules}
 use Rattle.gts_flatten.specs.Elaborating.{BreaksWayRule}
 use Rattle.existence_laws.proofs.Chain.{limits_answered}
 use Rattle.existence_laws.proofs.Stages.{keeps_answered}
+use Rattle.existence_laws.proofs.System.{system_of}
+use Rattle.existence_laws.proofs.Units.{unfolds_some}
 use Rattle.existence_laws.proofs.sources.rules_are_answered.Goals as goal
 
 pub returns-clause-limits : goal.returns-clause-limits
@@ -18,3 +20,9 @@ returns-clause-name_rules c = λ t. keeps_answered name_rules name_breaks t
 
 pub returns-clause-way_rules : goal.returns-clause-way_rules
 returns-clause-way_rules c = λ d. keeps_answered way_rules BreaksWayRule d
+
+pub returns-clause-units : goal.returns-clause-units
+returns-clause-units c = unfolds_some
+
+pub returns-clause-systems : goal.returns-clause-systems
+returns-clause-systems c = system_of

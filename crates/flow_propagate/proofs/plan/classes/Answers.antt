@@ -1,6 +1,7 @@
 use Rattle.std.proofs.Common.{◌<◌, ℕ, List, [], map, length, subst, sym, ◌∙◌, ap}
 use Rattle.ar_base.proofs.Results.{ok_map}
-use Rattle.flow_blocks.specs.Blocks.{AreBelow, Follow}
+use Rattle.flow_blocks.specs.Blocks.{Follow}
+use Rattle.flow_blocks.specs.BlocksInside.{AreBelow}
 use Rattle.flow_blocks.specs.declared.graph.Block.{Block}
 use Rattle.gts_core.specs.declared.system.Variable.{Variable}
 use Rattle.flow_propagate.specs.Dependence.{flows_in, ArePlaces}

@@ -6,7 +6,7 @@ use Rattle.gts_core.specs.View.{net_of, numbered}
 use Rattle.gts_core.specs.declared.system.Observer.{Observer}
 use Rattle.gts_core.specs.declared.system.GtsParts.{GtsParts}
 use Rattle.gts_core.proofs.Viewing.{variables_long}
-use Rattle.flow_reasons.specs.Reasons.{IsCone}
+use Rattle.flow_reasons.specs.ReasonsInside.{IsCone}
 use Rattle.flow_reasons.specs.Answers.{numbers_of, reasons_of}
 use Rattle.flow_reasons.specs.Cones.{AreOrderly, AreMembers, AreReached}
 use Rattle.flow_reasons.proofs.Gathering.{variables_as}

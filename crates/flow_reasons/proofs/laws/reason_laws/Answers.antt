@@ -4,7 +4,7 @@ use Rattle.flow_reasons.proofs.RoundStanding.{no_two, descends, reasons_one}
 use Rattle.ar_base.proofs.Sets.{same_ascending}
 use Rattle.ar_meaning.proofs.StatesAlone.{same_flows, turned as turned_states}
 use Rattle.flow_reasons.proofs.RoundTotals.{states_of, reasons_same}
-use Rattle.typed_expr.specs.Pairs.{turned}
+use Rattle.typed_expr.specs.PairsInside.{turned}
 use Rattle.typed_expr.proofs.Renaming.{renames_turned}
 use Rattle.ar_meaning.specs.FlatOf.{IsNumber}
 use Rattle.ar_meaning.proofs.FlatSystems.{flat_image, flat_back}

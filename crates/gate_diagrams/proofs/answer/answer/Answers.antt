@@ -7,7 +7,7 @@ use Rattle.zdd_nodes.specs.declared.NodeFault.{NodeFault}
 use Rattle.zdd_nodes.specs.declared.NodeFault.TheVariants.{Full}
 use Rattle.eq_core.specs.Values.{value_at}
 use Rattle.eq_core.specs.Views.{gate_of, gates_of, operand_of, table_of}
-use Rattle.firable_families.specs.Firable.{ListsLeastUpTo}
+use Rattle.firable_families.specs.FirableInside.{ListsLeastUpTo}
 use Rattle.gate_diagrams.specs.Needed.{family_at, IsNeeded, IsNeededByBoth}
 use Rattle.gate_diagrams.proofs.Answering as a
 use Rattle.gate_diagrams.proofs.answer.answer.Goals as goal

@@ -1,6 +1,6 @@
 use Rattle.std.proofs.Common.{map, sym, subst}
 use Rattle.std.proofs.lemmas.List.{length-map}
-use Rattle.eq_core.specs.Values.{IsBelow}
+use Rattle.eq_core.specs.ValuesInside.{IsBelow}
 use Rattle.eq_core.specs.Views.{gate_of, operand_of}
 use Rattle.mode_diagrams.specs.Agreement.{AreClosed}
 use Rattle.gate_diagrams.proofs.ByModes.{few_small, marks_closed, enough_kept, listed_or_not}

@@ -1,5 +1,5 @@
 use Rattle.std.proofs.Common.{map, ap, ◌∙◌, arith}
-use Rattle.gate_modules.specs.Shortened.{event_numbers, short_form_of}
+use Rattle.gate_modules.specs.ShortenedInside.{event_numbers, short_form_of}
 use Rattle.gate_modules.proofs.Numbers.{lo_in, hi_in}
 use Rattle.gate_modules.proofs.Parting.{events_push}
 use Rattle.gate_modules.proofs.Walking.{fit_upper, fit_lower, adds_uncovered, fit_exit, fit_skip, adds_covered}

@@ -1,5 +1,6 @@
 use Rattle.std.proofs.Common.{◌≡◌, not, filter, take}
-use Rattle.gate_modules.specs.Shortened.{event_numbers, is_covered}
+use Rattle.gate_modules.specs.Shortened.{is_covered}
+use Rattle.gate_modules.specs.ShortenedInside.{event_numbers}
 use Rattle.gate_modules.proofs.forms.free_events.Given as goal
 
 abbrev pub invariant-loop-event : goal.invariant-loop-event

@@ -1,5 +1,6 @@
 use Rattle.std.proofs.Common.{◌≡◌, false, take}
-use Rattle.gate_modules.specs.Shortened.{event_numbers, touches}
+use Rattle.gate_modules.specs.Shortened.{touches}
+use Rattle.gate_modules.specs.ShortenedInside.{event_numbers}
 use Rattle.gate_modules.proofs.forms.touches.Given as goal
 
 abbrev pub invariant-loop-event : goal.invariant-loop-event

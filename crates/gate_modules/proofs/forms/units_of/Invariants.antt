@@ -1,6 +1,7 @@
 use Rattle.std.proofs.Common.{◌≡◌, map, take}
-use Rattle.ar_base.specs.Numbers.{UnitId}
-use Rattle.gate_modules.specs.Shortened.{event_numbers, touches, units_where}
+use Rattle.ar_base.specs.NumbersInside.{UnitId}
+use Rattle.gate_modules.specs.Shortened.{touches, units_where}
+use Rattle.gate_modules.specs.ShortenedInside.{event_numbers}
 use Rattle.gate_modules.proofs.forms.units_of.Given as goal
 
 abbrev pub invariant-loop-range : goal.invariant-loop-range

@@ -5,7 +5,7 @@ use Rattle.ar_base.proofs.Standing.{one_here, stands_map}
 use Rattle.zdd_families.specs.Families.{Family}
 use Rattle.zdd_nodes.specs.Nodes.{NodeId, Stored, family, IsNumber}
 use Rattle.gate_modules.specs.Parts.{AreSomeHeads, AddsSomeHeads}
-use Rattle.gate_modules.specs.Shortened.{set_of}
+use Rattle.gate_modules.specs.ShortenedInside.{set_of}
 use Rattle.event_bounds.specs.Bounds.{node_numbers, AllEnd, IsReference}
 use Rattle.gate_modules.specs.Entries.{EntriesAnswer}
 use Rattle.gate_modules.proofs.Deciding.{event_not_end, none_is_module, differs_no_module, few_no_module, is_module}

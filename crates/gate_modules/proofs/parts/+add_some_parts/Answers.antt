@@ -1,5 +1,5 @@
 use Rattle.std.proofs.Common.{map, ap, ◌∙◌}
-use Rattle.gate_modules.specs.Shortened.{event_numbers, set_of}
+use Rattle.gate_modules.specs.ShortenedInside.{event_numbers, set_of}
 use Rattle.gate_modules.proofs.Parting.{adds_some_heads, adds_no_some}
 use Rattle.gate_modules.proofs.parts.+add_some_parts.Goals as goal
 

@@ -3,7 +3,7 @@ use Rattle.std.proofs.lemmas.List.{map-append}
 use Rattle.zdd_nodes.specs.Nodes.{family}
 use Rattle.gate_modules.specs.Choosing.{IsWithin, IsWithinNone, AreChosenSoFar}
 use Rattle.gate_modules.specs.Choosing.Considers.{within, no_module, is_new}
-use Rattle.gate_modules.specs.Shortened.{module_of, set_of}
+use Rattle.gate_modules.specs.ShortenedInside.{module_of, set_of}
 use Rattle.gate_modules.specs.declared.ranges.Range.{Range}
 use Rattle.gate_modules.proofs.Answering.{told_none, told_some}
 use Rattle.gate_modules.proofs.Choosing.{none_yet, one_more}

@@ -1,7 +1,7 @@
 use Rattle.std.proofs.Common.{◌≡◌, ◌+◌, length, map, take}
 use Rattle.zdd_nodes.specs.Nodes.{family}
 use Rattle.gate_modules.specs.Choosing.{AreChosenSoFar}
-use Rattle.gate_modules.specs.Shortened.{module_of}
+use Rattle.gate_modules.specs.ShortenedInside.{module_of}
 use Rattle.gate_modules.specs.Walked.{AreTwins}
 use Rattle.gate_modules.proofs.shortening.choose.Given as goal
 

@@ -1,7 +1,7 @@
 use Rattle.std.proofs.Common.{[], map, sym, subst}
 use Rattle.zdd_nodes.specs.Nodes.{family}
 use Rattle.gate_modules.specs.Forms.{AreOfDifferentUnits, IsFit, AddsForms}
-use Rattle.gate_modules.specs.Shortened.{module_of, short_form_of}
+use Rattle.gate_modules.specs.ShortenedInside.{module_of, short_form_of}
 use Rattle.gate_modules.proofs.Choosing.{different, shortened, fit_root}
 use Rattle.gate_modules.proofs.Standing.{stand_for}
 use Rattle.gate_modules.proofs.shortening.shorten.Goals as goal

@@ -2,7 +2,7 @@ use Rattle.std.proofs.Common.{rules, subst, sym}
 use Rattle.std.specs.List.{each_same}
 use Rattle.domains.specs.declared.Domain.{Domain}
 use Rattle.domains.specs.declared.Domain.TheVariants.{Boolean, Symbols}
-use Rattle.domains.specs.Same.{IsSameDomain, boolean, symbols}
+use Rattle.domains.specs.SameInside.{IsSameDomain, boolean, symbols}
 use Rattle.gts_core.proofs.SameDomains.{ranges}
 use Rattle.gts_core.proofs.copies.copy_domain.Goals as goal
 

@@ -2,7 +2,7 @@ use Rattle.std.proofs.Common.{map, drop, Bool, true}
 use Rattle.std.specs.List.{concat}
 use Rattle.ar_base.specs.Texts.{separated}
 use Rattle.typed_expr.specs.declared.expr.Expr.{Expr}
-use Rattle.ar_io.specs.Writing.{Leaves}
+use Rattle.ar_io.specs.WritingInside.{Leaves}
 use Rattle.ar_base.specs.Numbers.{VarId}
 use Rattle.gts_core.specs.Printed.{expr_text, summed, case_form}
 use Rattle.gts_core.proofs.expressions.+expression.Given as goal

@@ -1,5 +1,5 @@
 use Rattle.std.proofs.Common.{◌≡◌, drop}
-use Rattle.ar_io.specs.Writing.{Leaves}
+use Rattle.ar_io.specs.WritingInside.{Leaves}
 use Rattle.gts_core.specs.Printed.{assert_lines}
 use Rattle.gts_core.proofs.print.asserts.Given as goal
 

@@ -1,6 +1,6 @@
 use Rattle.std.proofs.Common.{map, drop}
 use Rattle.std.specs.List.{concat}
-use Rattle.ar_io.specs.Writing.{Leaves}
+use Rattle.ar_io.specs.WritingInside.{Leaves}
 use Rattle.gts_core.specs.Printed.{condition_text}
 use Rattle.gts_core.proofs.print.conditions.Given as goal
 

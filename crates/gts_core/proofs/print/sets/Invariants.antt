@@ -1,6 +1,6 @@
 use Rattle.std.proofs.Common.{map, drop, codes, true}
 use Rattle.ar_base.specs.Texts.{separated}
-use Rattle.ar_io.specs.Writing.{Leaves}
+use Rattle.ar_io.specs.WritingInside.{Leaves}
 use Rattle.gts_core.specs.Printed.{set_text}
 use Rattle.gts_core.proofs.print.sets.Given as goal
 

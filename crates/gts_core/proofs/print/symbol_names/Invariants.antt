@@ -1,6 +1,6 @@
 use Rattle.std.proofs.Common.{map, drop, codes, true}
 use Rattle.ar_base.specs.Texts.{text_at, separated}
-use Rattle.ar_io.specs.Writing.{Leaves}
+use Rattle.ar_io.specs.WritingInside.{Leaves}
 use Rattle.gts_core.proofs.print.symbol_names.Given as goal
 
 abbrev pub invariant-loop-symbol : goal.invariant-loop-symbol

@@ -1,6 +1,6 @@
 use Rattle.std.proofs.Common.{map, drop, slice_get}
 use Rattle.std.specs.List.{concat}
-use Rattle.ar_io.specs.Writing.{Leaves}
+use Rattle.ar_io.specs.WritingInside.{Leaves}
 use Rattle.ar_base.specs.Numbers.{WayId}
 use Rattle.gts_core.specs.Printed.{line_found}
 use Rattle.gts_core.proofs.print.ways.Given as goal

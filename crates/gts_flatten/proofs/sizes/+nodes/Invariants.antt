@@ -1,5 +1,6 @@
 use Rattle.std.proofs.Common.{◌≡◌, min, take}
-use Rattle.gts_flatten.specs.Sizes.{nodes_in, term_nodes_in, case_nodes_in}
+use Rattle.gts_flatten.specs.Sizes.{nodes_in}
+use Rattle.gts_flatten.specs.SizesInside.{term_nodes_in, case_nodes_in}
 use Rattle.gts_flatten.proofs.sizes.+nodes.Given as goal
 
 abbrev pub invariant-all_nodes-loop-e : goal.invariant-all_nodes-loop-e

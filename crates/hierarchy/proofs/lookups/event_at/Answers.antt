@@ -1,7 +1,7 @@
 use Rattle.std.proofs.Common.{ℕ, List, length, sym, subst, arith, Some, None, Option, option_map}
 use Rattle.std.specs.List.Sorted.{IsNonDecreasingBy}
 use Rattle.ar_base.proofs.Standing.{stands_within}
-use Rattle.ar_base.specs.Numbers.{EventId}
+use Rattle.ar_base.specs.NumbersInside.{EventId}
 use Rattle.hierarchy.specs.Units.{numbers}
 use Rattle.hierarchy.specs.Walks.{is_event}
 use Rattle.hierarchy.specs.Listing.{events}

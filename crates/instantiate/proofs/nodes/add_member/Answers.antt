@@ -1,7 +1,7 @@
 use Rattle.std.proofs.Common.{◌≡◌, ◌∷◌, [], ◌++◌, OnOk, List, sym, ◌∙◌, ap, subst}
 use Rattle.std.proofs.lemmas.List.{append-nil}
 use Rattle.ar_syntax.specs.declared.members.Member.{out-Member}
-use Rattle.class_table.specs.Tables.{site_of}
+use Rattle.class_table.specs.TablesInside.{site_of}
 use Rattle.hierarchy.specs.declared.tree.MemNode.{MemNode}
 use Rattle.instantiate.proofs.Noded.{declared_nodes, declared_none, singles}
 use Rattle.instantiate.proofs.nodes.add_member.Goals as goal

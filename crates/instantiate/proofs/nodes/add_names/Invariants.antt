@@ -1,5 +1,5 @@
 use Rattle.std.proofs.Common.{◌≡◌, ◌++◌, take}
-use Rattle.class_table.specs.Tables.{site_of}
+use Rattle.class_table.specs.TablesInside.{site_of}
 use Rattle.instantiate.specs.Nodes.{names_nodes}
 use Rattle.instantiate.proofs.nodes.add_names.Given as goal
 

@@ -4,7 +4,7 @@ use Rattle.std.proofs.lemmas.List.{append-nil}
 use Rattle.ar_base.specs.Numbers.{BodyId}
 use Rattle.ar_base.proofs.Standing.{stands_get}
 use Rattle.class_table.specs.Members.{Site, NamedMember, named_at, names_of, owned_at}
-use Rattle.class_table.specs.Tables.{site_of}
+use Rattle.class_table.specs.TablesInside.{site_of}
 use Rattle.class_table.proofs.Taken.{map_next}
 use Rattle.instantiate.specs.Nodes.{test_of, nodes_of}
 use Rattle.instantiate.proofs.Noded.{grown, nodes_join}

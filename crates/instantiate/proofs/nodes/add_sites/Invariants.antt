@@ -1,8 +1,8 @@
 use Rattle.std.proofs.Common.{◌≡◌, ◌++◌, take, map}
 use Rattle.class_table.specs.Declaring.{Declared}
 use Rattle.class_table.specs.Members.{named_at}
-use Rattle.class_table.specs.Tables.{HoldsDeclared, site_of}
-use Rattle.unit_rules.specs.Typing.{KnowsPlaces}
+use Rattle.class_table.specs.TablesInside.{HoldsDeclared, site_of}
+use Rattle.unit_rules.specs.TypingInside.{KnowsPlaces}
 use Rattle.instantiate.specs.Nodes.{test_of, nodes_of}
 use Rattle.instantiate.proofs.nodes.add_sites.Given as goal
 

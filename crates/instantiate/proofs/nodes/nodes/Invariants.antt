@@ -5,7 +5,7 @@ use Rattle.hierarchy.specs.Models.{RootedModel}
 use Rattle.hierarchy.specs.Units.{UnitPath}
 use Rattle.hierarchy.specs.Listing.{things_in}
 use Rattle.hierarchy.specs.Tie.{AreOutlines}
-use Rattle.unit_rules.specs.Typing.{KnowsPlaces}
+use Rattle.unit_rules.specs.TypingInside.{KnowsPlaces}
 use Rattle.instantiate.specs.Nodes.{test_of, IsNodeSo}
 use Rattle.instantiate.proofs.nodes.nodes.Given as goal
 

@@ -3,7 +3,7 @@ use Rattle.ar_syntax.specs.declared.members.TypeForm.{TypeForm}
 use Rattle.ar_syntax.specs.declared.members.Word.{Word}
 use Rattle.ar_syntax.specs.declared.members.Word.TheVariants as word
 use Rattle.class_table.specs.Members.{Site, MemberKind, owned_at}
-use Rattle.class_table.specs.Tables.{site_of}
+use Rattle.class_table.specs.TablesInside.{site_of}
 use Rattle.hierarchy.specs.Units.{names_at}
 use Rattle.hierarchy.specs.Settings.{Named, target_word_of, target_in, declared_in}
 use Rattle.hierarchy.specs.Tie.{HasParameterDomain, HasAttributeOf}

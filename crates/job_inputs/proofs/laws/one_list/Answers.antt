@@ -5,7 +5,8 @@ use Rattle.ar_base.proofs.Standing.{stands_one, stands_none, along_on}
 use Rattle.ar_meaning.specs.Runs.{Label}
 use Rattle.gts_flatten.specs.Elaborating.{Elaborated}
 use Rattle.job_inputs.specs.CutLines.{IsPassed, IsCutLine}
-use Rattle.job_inputs.specs.CutLists.{CutLine, ListsCutLines, IsBadLabel, IsFirstBadLabel, IsBadCut, IsFirstBadCut, CutList, HaveOneMeaning}
+use Rattle.job_inputs.specs.CutLists.{CutLine, ListsCutLines, IsBadLabel, IsFirstBadLabel, IsBadCut, IsFirstBadCut, CutList}
+use Rattle.job_inputs.specs.CutListsInside.{HaveOneMeaning}
 use Rattle.job_inputs.specs.CutLists as lists
 use Rattle.job_inputs.specs.Labels.{IsLabel}
 use Rattle.job_inputs.specs.Scripts.{Why, BadLine}

@@ -1,6 +1,7 @@
 use Rattle.std.proofs.Common.{ℕ, List, [], Option, option_map, IfSome, Vec, Global, sym, subst}
 use Rattle.ar_base.specs.Lists.{Stands, AreDifferent}
-use Rattle.ar_base.specs.Numbers.{NameId, EventId}
+use Rattle.ar_base.specs.Numbers.{NameId}
+use Rattle.ar_base.specs.NumbersInside.{EventId}
 use Rattle.ar_syntax.specs.declared.paths.PathStart.TheVariants.{Here}
 use Rattle.hierarchy.specs.Listing.{events}
 use Rattle.hierarchy.specs.Tie.{AnswersThing}

@@ -1,5 +1,5 @@
 use Rattle.std.proofs.Common.{Option, subst}
-use Rattle.ar_base.specs.Numbers.{EventId}
+use Rattle.ar_base.specs.NumbersInside.{EventId}
 use Rattle.gts_core.specs.declared.system.GtsParts.{GtsParts}
 use Rattle.job_inputs.specs.Reads.{AnswersEvent, IsUnlessHidden}
 use Rattle.job_inputs.proofs.VisibleLemmas.{event_visible, none_visible}

@@ -1,5 +1,5 @@
 use Rattle.std.proofs.Common.{List, Option, subst, ap, map}
-use Rattle.ar_base.specs.Numbers.{EventId}
+use Rattle.ar_base.specs.NumbersInside.{EventId}
 use Rattle.ar_base.proofs.Standing.{stands_within}
 use Rattle.job_inputs.specs.Reads.{AnswersEvent}
 use Rattle.job_inputs.proofs.VisibleLemmas.{event_there}

@@ -1,11 +1,11 @@
 use Rattle.std.proofs.Common.{map}
-use Rattle.ar_base.specs.Numbers.{EventId}
+use Rattle.ar_base.specs.NumbersInside.{EventId}
 use Rattle.gts_flatten.specs.Elaborating.{Elaborated}
 use Rattle.job_inputs.specs.Flat.{IsOfTree}
 use Rattle.job_inputs.specs.Lines.{pieces}
 use Rattle.job_inputs.specs.Reads.{bytes_left}
 use Rattle.job_inputs.specs.CutLines.{is_comma}
-use Rattle.job_inputs.specs.Naming.{AreEventsOf}
+use Rattle.job_inputs.specs.NamingInside.{AreEventsOf}
 use Rattle.job_inputs.proofs.ReadSoFar.{IsRead, parts_left}
 use Rattle.job_inputs.proofs.reading.read_events.Given as goal
 

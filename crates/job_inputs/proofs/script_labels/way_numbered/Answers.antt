@@ -1,5 +1,5 @@
 use Rattle.std.proofs.Common.{Option, subst}
-use Rattle.ar_base.specs.Numbers.{EventId}
+use Rattle.ar_base.specs.NumbersInside.{EventId}
 use Rattle.gts_core.specs.declared.system.GtsParts.{GtsParts}
 use Rattle.job_inputs.specs.Reads.{AnswersVisible, IsWayOf, IsNoWayOf}
 use Rattle.job_inputs.proofs.VisibleLemmas.{numbered_way, no_mark_label, no_path_label, no_way_label}

@@ -1,6 +1,6 @@
 use Rattle.std.proofs.Common.{◌≡◌, Ok, Err, subst}
 use Rattle.std.proofs.lemmas.Result.{err_from_is_err_and}
-use Rattle.ar_base.specs.Stages.{Meets}
+use Rattle.ar_base.specs.StagesInside.{Meets}
 use Rattle.ar_base.proofs.Stages.{stage_stops, stage_passes}
 use Rattle.ar_syntax.specs.declared.items.Model.{Model}
 use Rattle.job_stages.specs.Elaborates.{Parses, Ruled, Systems, Elaborates}

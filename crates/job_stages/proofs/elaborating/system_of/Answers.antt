@@ -1,9 +1,10 @@
 use Rattle.std.proofs.Common.{Ok, refl}
 use Rattle.std.proofs.lemmas.Result.{err_from_is_err_and}
-use Rattle.ar_base.specs.Stages.{Then, rule_told}
+use Rattle.ar_base.specs.Stages.{Then}
+use Rattle.ar_base.specs.StagesInside.{rule_told}
 use Rattle.ar_base.proofs.Stages.{stage_stops, stage_passes}
 use Rattle.gts_flatten.specs.Elaborating.{Flattens}
-use Rattle.hierarchy.specs.Models.{IsKeptTable}
+use Rattle.hierarchy.specs.ModelsInside.{IsKeptTable}
 use Rattle.instantiate.specs.Unfolding.{Instantiates}
 use Rattle.instantiate.specs.MadeTrees.{IsTreeFor}
 use Rattle.source_meaning.specs.Binding.{IsBoundFrom}

@@ -1,6 +1,6 @@
 use Rattle.std.proofs.Common.{arith}
 use Rattle.std.proofs.lemmas.List.{length-map}
-use Rattle.ar_base.specs.Numbers.{EventId}
+use Rattle.ar_base.specs.NumbersInside.{EventId}
 use Rattle.ar_base.proofs.Standing.{stands_within}
 use Rattle.min_cuts.specs.Kept.{numbers}
 use Rattle.min_cuts.proofs.Placing.{event_stands, placed_more}

@@ -6,7 +6,7 @@ use Rattle.ar_base.specs.Lists.{Stands}
 use Rattle.ar_base.proofs.Results.{ok_map}
 use Rattle.ar_base.proofs.Standing.{stands_get, stands_map}
 use Rattle.eq_core.specs.Ordered.{AreBelow}
-use Rattle.eq_core.specs.Values.{IsBelow}
+use Rattle.eq_core.specs.ValuesInside.{IsBelow}
 use Rattle.eq_core.specs.Views.{gate_of, operand_of}
 use Rattle.eq_core.proofs.Telling.{place_below}
 use Rattle.mode_nodes.proofs.Allowed.{GrowsWithin-none, GrowsWithin-then}

@@ -1,7 +1,7 @@
 use Rattle.std.proofs.Common.{◌<◌, ⊎_elim, inl, inr, Err, [], length, get_or, sym, ap, ◌∙◌, subst}
 use Rattle.std.proofs.lemmas.Result.{err_from_is_err_and}
 use Rattle.ar_base.proofs.Standing.{stands_get}
-use Rattle.eq_core.specs.Values.{IsBelow}
+use Rattle.eq_core.specs.ValuesInside.{IsBelow}
 use Rattle.eq_core.specs.Views.{operand_of}
 use Rattle.mode_nodes.specs.Diagrams.{DiagramId}
 use Rattle.mode_diagrams.specs.Agreement.{Agrees}

@@ -1,5 +1,5 @@
 use Rattle.std.proofs.Common.{take}
-use Rattle.ar_base.specs.Lists.{HasOther}
+use Rattle.ar_base.specs.ListsInside.{HasOther}
 use Rattle.mode_search.proofs.moves.has_other.Given as goal
 
 abbrev pub invariant-loop-w : goal.invariant-loop-w

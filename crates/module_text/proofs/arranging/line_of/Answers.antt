@@ -1,7 +1,7 @@
 use Rattle.std.proofs.Common.{◌≡◌, ◌++◌, ◌↔◌, ◌<◌, ◌∙◌, ℕ, List, [], length, ap, sym, subst, Vec, Global}
 use Rattle.ar_base.specs.Lists.{IsOneOf}
 use Rattle.ar_base.specs.Numbers.{WayId}
-use Rattle.gate_modules.specs.Shortened.{event_numbers}
+use Rattle.gate_modules.specs.ShortenedInside.{event_numbers}
 use Rattle.module_text.specs.Arranged.{unit_pieces, way_pieces}
 use Rattle.module_text.specs.Places.{IsPlaced, pieces_at}
 use Rattle.module_text.specs.declared.arranging.Piece.{Piece}

@@ -1,6 +1,6 @@
 use Rattle.std.proofs.Common.{◌∙◌, List, map, take_all, ap}
-use Rattle.ar_base.specs.Numbers.{EventId, UnitId}
-use Rattle.gate_modules.specs.Shortened.{event_numbers}
+use Rattle.ar_base.specs.NumbersInside.{EventId, UnitId}
+use Rattle.gate_modules.specs.ShortenedInside.{event_numbers}
 use Rattle.module_text.specs.Arranged.{pieces_of, line_pieces, form_pieces}
 use Rattle.module_text.proofs.Placing.{lines_more}
 use Rattle.module_text.proofs.arranging.lines_of_forms.Goals as goal

@@ -1,6 +1,6 @@
 use Rattle.std.proofs.Common.{◌∙◌, List, [], map, take_all, ap}
-use Rattle.ar_base.specs.Numbers.{EventId}
-use Rattle.gate_modules.specs.Shortened.{event_numbers}
+use Rattle.ar_base.specs.NumbersInside.{EventId}
+use Rattle.gate_modules.specs.ShortenedInside.{event_numbers}
 use Rattle.module_text.specs.Arranged.{pieces_of, line_pieces, part_pieces}
 use Rattle.module_text.proofs.Placing.{lines_more}
 use Rattle.module_text.proofs.arranging.lines_of_sets.Goals as goal

@@ -1,7 +1,7 @@
 use Rattle.std.proofs.Common.{◌↔◌, ℕ, List, [], sym, subst, take_all}
 use Rattle.ar_base.specs.Lists.{IsOneOf}
-use Rattle.ar_base.specs.Numbers.{EventId}
-use Rattle.gate_modules.specs.Shortened.{event_numbers}
+use Rattle.ar_base.specs.NumbersInside.{EventId}
+use Rattle.gate_modules.specs.ShortenedInside.{event_numbers}
 use Rattle.module_text.specs.Places.{IsPlaced}
 use Rattle.module_text.proofs.Placing.{none_placed, placed_more, sorted_ascends, sorted_same}
 use Rattle.module_text.proofs.places.spots_of.Goals as goal

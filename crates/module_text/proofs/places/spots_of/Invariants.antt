@@ -1,6 +1,6 @@
 use Rattle.std.proofs.Common.{◌↔◌, ℕ, take}
 use Rattle.ar_base.specs.Lists.{IsOneOf}
-use Rattle.gate_modules.specs.Shortened.{event_numbers}
+use Rattle.gate_modules.specs.ShortenedInside.{event_numbers}
 use Rattle.module_text.specs.Places.{IsPlaced}
 use Rattle.module_text.proofs.places.spots_of.Given as goal
 

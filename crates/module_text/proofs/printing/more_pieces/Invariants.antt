@@ -1,6 +1,6 @@
 use Rattle.std.proofs.Common.{map, drop, false, codes}
 use Rattle.ar_base.specs.Texts.{separated}
-use Rattle.ar_io.specs.Writing.{Leaves}
+use Rattle.ar_io.specs.WritingInside.{Leaves}
 use Rattle.module_text.specs.Arranged.{piece_text}
 use Rattle.module_text.proofs.printing.more_pieces.Given as goal
 

@@ -1,5 +1,5 @@
 use Rattle.std.proofs.Common.{drop}
-use Rattle.ar_io.specs.Writing.{Leaves}
+use Rattle.ar_io.specs.WritingInside.{Leaves}
 use Rattle.module_text.specs.Arranged.{part_lines}
 use Rattle.module_text.proofs.printing.parts.Given as goal
 

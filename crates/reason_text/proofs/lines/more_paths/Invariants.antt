@@ -1,6 +1,6 @@
 use Rattle.std.proofs.Common.{drop, false, codes}
 use Rattle.ar_base.specs.Texts.{separated}
-use Rattle.ar_io.specs.Writing.{Leaves}
+use Rattle.ar_io.specs.WritingInside.{Leaves}
 use Rattle.gts_flatten.specs.Flat.{naming_of_parts}
 use Rattle.flow_reasons.specs.Answers.{numbers_of}
 use Rattle.reason_text.specs.Texts.{paths_of}

@@ -1,5 +1,5 @@
 use Rattle.std.proofs.Common.{drop}
-use Rattle.ar_io.specs.Writing.{Leaves}
+use Rattle.ar_io.specs.WritingInside.{Leaves}
 use Rattle.gts_flatten.specs.Flat.{naming_of_parts}
 use Rattle.flow_reasons.specs.Answers.{reasons_of}
 use Rattle.reason_text.specs.Answers.{told_lines}

@@ -1,5 +1,6 @@
 use Rattle.std.proofs.Common.{Option, List, sym, ap, ◌∙◌}
-use Rattle.ar_base.specs.Numbers.{VarId, AssignId}
+use Rattle.ar_base.specs.Numbers.{VarId}
+use Rattle.ar_base.specs.NumbersInside.{AssignId}
 use Rattle.std.specs.Option.{option_map}
 use Rattle.ar_io.proofs.Writing.{writes_as}
 use Rattle.gts_flatten.specs.Flat.{naming_of_parts}

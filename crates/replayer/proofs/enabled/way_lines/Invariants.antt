@@ -1,5 +1,5 @@
 use Rattle.std.proofs.Common.{drop}
-use Rattle.ar_io.specs.Writing.{Leaves}
+use Rattle.ar_io.specs.WritingInside.{Leaves}
 use Rattle.replayer.specs.Printing.{way_lines}
 use Rattle.replayer.proofs.enabled.way_lines.Given as goal
 

@@ -1,5 +1,6 @@
 use Rattle.std.proofs.Common.{◌≡◌, ℕ, refl, subst, sym}
-use Rattle.ar_meaning.specs.FlatOf.{IsNumber, IsFlatOf, NameAlike}
+use Rattle.ar_meaning.specs.FlatOf.{IsNumber, IsFlatOf}
+use Rattle.ar_meaning.specs.FlatOfInside.{NameAlike}
 use Rattle.ar_meaning.specs.Systems.{System}
 use Rattle.ar_meaning.specs.TraceText.{Naming}
 use Rattle.ar_meaning.proofs.FlatSystems.{flat_image, flat_back}
@@ -7,7 +8,7 @@ use Rattle.ar_meaning.proofs.ImageRuns.{runs_there}
 use Rattle.ar_meaning.proofs.ImageTexts.{trace_there}
 use Rattle.gts_flatten.specs.Flat.{naming_of, naming_of_parts}
 use Rattle.hierarchy.specs.Listing.{variables}
-use Rattle.typed_expr.specs.Pairs.{turned}
+use Rattle.typed_expr.specs.PairsInside.{turned}
 use Rattle.replayer.proofs.laws.replays_of_the_source.Goals as goal
 
 -- equal namings name alike

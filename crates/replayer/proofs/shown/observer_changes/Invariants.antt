@@ -1,5 +1,5 @@
 use Rattle.std.proofs.Common.{drop}
-use Rattle.ar_io.specs.Writing.{Leaves}
+use Rattle.ar_io.specs.WritingInside.{Leaves}
 use Rattle.replayer.specs.Printing.{texts_of}
 use Rattle.replayer.proofs.ObservingLemmas.{observer_text}
 use Rattle.replayer.proofs.shown.observer_changes.Given as goal

@@ -1,5 +1,5 @@
 use Rattle.std.proofs.Common.{drop}
-use Rattle.ar_io.specs.Writing.{Leaves}
+use Rattle.ar_io.specs.WritingInside.{Leaves}
 use Rattle.ar_meaning.specs.TraceText.{variable_line}
 use Rattle.gts_core.specs.Readings.{value_at}
 use Rattle.gts_flatten.specs.Flat.{naming_of_parts}

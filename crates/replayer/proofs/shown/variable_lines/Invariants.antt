@@ -1,5 +1,5 @@
 use Rattle.std.proofs.Common.{◌≡◌, drop}
-use Rattle.ar_io.specs.Writing.{Leaves}
+use Rattle.ar_io.specs.WritingInside.{Leaves}
 use Rattle.ar_meaning.specs.TraceText.{variable_line, lines_from}
 use Rattle.gts_flatten.specs.Flat.{naming_of_parts}
 use Rattle.replayer.proofs.shown.variable_lines.Given as goal

@@ -1,5 +1,5 @@
 use Rattle.std.proofs.Common.{◌≡◌, map, take}
-use Rattle.ar_base.specs.Texts.{bytes_of_all}
+use Rattle.ar_base.specs.TextsInside.{bytes_of_all}
 use Rattle.run_words.specs.Jobs.{given_words}
 use Rattle.run_words.proofs.reading.with_program.Given as goal
 

@@ -1,6 +1,6 @@
 use Rattle.std.proofs.Common.{ℕ, Option, None, map, sym, subst}
 use Rattle.class_table.specs.Members.{Site}
-use Rattle.class_table.specs.Tables.{site_of}
+use Rattle.class_table.specs.TablesInside.{site_of}
 use Rattle.hierarchy.specs.Settings.{target_word_of, set_by, settings_at}
 use Rattle.hierarchy.specs.Settings as s
 use Rattle.settings_in_force.specs.SettingPlaces.{SetsAt}

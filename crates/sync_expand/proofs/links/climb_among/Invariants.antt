@@ -1,6 +1,6 @@
 use Rattle.std.proofs.Common.{ℕ, ◌<◌, Bool}
 use Rattle.ar_base.specs.Lists.{Stands}
-use Rattle.ar_base.specs.Numbers.{EventId}
+use Rattle.ar_base.specs.NumbersInside.{EventId}
 use Rattle.sync_expand.specs.Links.{Climbs}
 use Rattle.sync_expand.proofs.links.climb_among.Given as goal
 

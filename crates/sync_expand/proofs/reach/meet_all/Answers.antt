@@ -1,5 +1,5 @@
 use Rattle.std.proofs.Common.{Bool, false, get_or, arith}
-use Rattle.ar_base.specs.Numbers.{EventId}
+use Rattle.ar_base.specs.NumbersInside.{EventId}
 use Rattle.ar_base.proofs.Standing.{stands_get, one_here}
 use Rattle.sync_expand.proofs.Walking.{parts_start, parts_next, parts_end}
 use Rattle.sync_expand.proofs.reach.meet_all.Goals as goal

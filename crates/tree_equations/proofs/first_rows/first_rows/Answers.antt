@@ -3,7 +3,7 @@ use Rattle.std.proofs.Math.Path.{fun_ext}
 use Rattle.std.proofs.lemmas.List.{length_push, get_or_default, length-set}
 use Rattle.ar_base.specs.Lists.{Stands}
 use Rattle.ar_base.proofs.Standing.{stands_one, stands_within, stands_item, stands_left, stands_next}
-use Rattle.eq_build.specs.Builds.{most_gates}
+use Rattle.eq_build.specs.BuildsInside.{most_gates}
 use Rattle.eq_build.specs.Views.{row_at, lists_in, entries_in}
 use Rattle.eq_build.specs.declared.entries.Entry.{Entry}
 use Rattle.gts_core.specs.declared.system.Variable.{Variable}

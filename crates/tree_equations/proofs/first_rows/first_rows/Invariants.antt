@@ -1,6 +1,6 @@
 use Rattle.std.proofs.Common.{◌≡◌, ◌≤◌, ℕ, take, length, vec_len}
 use Rattle.ar_base.specs.Lists.{Stands}
-use Rattle.eq_build.specs.Builds.{most_gates}
+use Rattle.eq_build.specs.BuildsInside.{most_gates}
 use Rattle.eq_build.specs.Views.{lists_in, row_at}
 use Rattle.gts_core.specs.View.{variables_from}
 use Rattle.table_steps.specs.Steps.{first_reading}

@@ -1,7 +1,7 @@
 use Rattle.std.proofs.Common.{◌<◌, List, [], length, arith, subst, ap, ◌∙◌}
 use Rattle.std.proofs.lemmas.List.{length-map}
 use Rattle.eq_core.specs.declared.joints.Gate.{Gate}
-use Rattle.eq_build.specs.Builds.{most_gates}
+use Rattle.eq_build.specs.BuildsInside.{most_gates}
 use Rattle.eq_build.specs.Entries.{Group, entries_of, with_terms}
 use Rattle.eq_build.specs.Views.{entry_of, entries_in, gates_in}
 use Rattle.table_steps.specs.Steps.{as_terms}

@@ -1,5 +1,5 @@
 use Rattle.std.proofs.Common.{◌≤◌, length}
-use Rattle.eq_build.specs.Builds.{most_gates}
+use Rattle.eq_build.specs.BuildsInside.{most_gates}
 use Rattle.eq_build.specs.Views.{gates_in}
 use Rattle.table_steps.specs.Steps.{Has_modes}
 use Rattle.tree_equations.specs.Answers.{tree_in, row_in}

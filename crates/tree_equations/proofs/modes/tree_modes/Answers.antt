@@ -2,7 +2,7 @@ use Rattle.std.proofs.Common.{◌<◌, ◌∷◌, List, suc, true, get_or, lengt
 use Rattle.std.proofs.lemmas.List.{get_or_default}
 use Rattle.eq_core.specs.Gates.{EventIs, all_of}
 use Rattle.eq_build.specs.Entries.{Built}
-use Rattle.eq_build.specs.Builds.{most_gates}
+use Rattle.eq_build.specs.BuildsInside.{most_gates}
 use Rattle.eq_build.specs.Views.{gates_in}
 use Rattle.eq_build.proofs.Growing.{longer_on}
 use Rattle.eq_build.proofs.Places.{item_next}

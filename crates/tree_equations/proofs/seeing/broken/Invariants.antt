@@ -1,6 +1,6 @@
 use Rattle.std.proofs.Common.{◌≤◌, length}
 use Rattle.eq_core.specs.Views.{operand_of}
-use Rattle.eq_build.specs.Builds.{most_gates}
+use Rattle.eq_build.specs.BuildsInside.{most_gates}
 use Rattle.eq_build.specs.Views.{gates_in, row_at}
 use Rattle.gts_core.specs.View.{assign_of}
 use Rattle.table_steps.specs.Steps.{Sees_broken}

@@ -2,7 +2,7 @@ use Rattle.std.proofs.Common.{◌≤◌, ℕ, List, length}
 use Rattle.ar_base.specs.Lists.{Along}
 use Rattle.ar_meaning.specs.Systems as s
 use Rattle.eq_core.specs.Views.{operand_of}
-use Rattle.eq_build.specs.Builds.{most_gates}
+use Rattle.eq_build.specs.BuildsInside.{most_gates}
 use Rattle.eq_build.specs.Views.{gates_in, row_at}
 use Rattle.table_steps.specs.Steps.{Sees_outside}
 use Rattle.tree_equations.specs.Index.{IsLeaving}

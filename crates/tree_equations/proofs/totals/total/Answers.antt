@@ -1,6 +1,6 @@
 use Rattle.std.proofs.Common.{◌<◌, [], ◌∷◌, ◌++◌, length, ap, ◌∙◌, subst}
 use Rattle.eq_core.specs.Gates.{all_of}
-use Rattle.eq_build.specs.Builds.{most_gates}
+use Rattle.eq_build.specs.BuildsInside.{most_gates}
 use Rattle.eq_build.specs.Views.{gates_in, entries_in, operands_in}
 use Rattle.eq_build.proofs.Growing.{longer_on, terms_more}
 use Rattle.eq_build.proofs.Stopping.{stops_up, entries_passed_on}

@@ -1,5 +1,5 @@
 use Rattle.std.proofs.Common.{◌≤◌, length}
-use Rattle.eq_build.specs.Builds.{most_gates}
+use Rattle.eq_build.specs.BuildsInside.{most_gates}
 use Rattle.eq_build.specs.Views.{gates_in, row_at}
 use Rattle.gts_core.specs.View.{variables_from}
 use Rattle.table_steps.specs.Steps.{Totals_of, flows_from}

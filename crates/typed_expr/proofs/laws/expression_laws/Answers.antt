@@ -1,4 +1,4 @@
-use Rattle.typed_expr.specs.Yields.{facts_of}
+use Rattle.typed_expr.specs.YieldsInside.{facts_of}
 use Rattle.typed_expr.proofs.Facts.{yields_more}
 use Rattle.typed_expr.proofs.Kinded.{one_kind}
 use Rattle.typed_expr.proofs.OneValue.{yields_one}

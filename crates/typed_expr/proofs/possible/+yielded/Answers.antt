@@ -4,7 +4,7 @@ use borrow.Author.Count.{falls}
 use Rattle.domains.specs.declared.Value.{Value}
 use Rattle.domains.specs.declared.Value.TheVariants.{Truth}
 use Rattle.typed_expr.specs.Sets.{Gathers}
-use Rattle.typed_expr.specs.Yields.{facts_of}
+use Rattle.typed_expr.specs.YieldsInside.{facts_of}
 use Rattle.typed_expr.specs.Evaluating.{Evaluates, compared, right_stopped, Tells, Tallies, Steps, stepped, operand_stopped, Folds, Sums, Chooses, Joins, SomeRelated, IsNext}
 use Rattle.typed_expr.specs.declared.expr.Expr.{Expr, out-Expr}
 use Rattle.typed_expr.specs.declared.expr.Expr as plain

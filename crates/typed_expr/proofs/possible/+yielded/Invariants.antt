@@ -1,4 +1,4 @@
-use Rattle.typed_expr.specs.Yields.{facts_of}
+use Rattle.typed_expr.specs.YieldsInside.{facts_of}
 use Rattle.typed_expr.proofs.SoFar.{TallySoFar, FoldSoFar, SumSoFar, ChoiceSoFar}
 use Rattle.typed_expr.proofs.possible.+yielded.Given as goal
 

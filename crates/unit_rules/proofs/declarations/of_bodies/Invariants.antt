@@ -1,8 +1,8 @@
 use Rattle.std.proofs.Common.{take}
 use Rattle.ar_base.specs.Lists.{Along}
 use Rattle.class_table.specs.Declaring.{Declared}
-use Rattle.class_table.specs.Tables.{HoldsDeclared}
-use Rattle.unit_rules.specs.Typing.{KnowsPlaces}
+use Rattle.class_table.specs.TablesInside.{HoldsDeclared}
+use Rattle.unit_rules.specs.TypingInside.{KnowsPlaces}
 use Rattle.unit_rules.specs.Searched.{IsFirstIn}
 use Rattle.unit_rules.proofs.declarations.of_bodies.Given as goal
 

@@ -4,10 +4,10 @@ use Rattle.ar_base.specs.declared.places.Place.{Place}
 use Rattle.class_table.specs.Declaring.{Declared}
 use Rattle.class_table.specs.Earliest.{IsEarliest, Until}
 use Rattle.class_table.specs.Members.{owned_at}
-use Rattle.class_table.specs.Tables.{HoldsDeclared, site_of}
+use Rattle.class_table.specs.TablesInside.{HoldsDeclared, site_of}
 use Rattle.class_table.proofs.Looping.{AtItem}
 use Rattle.hierarchy.specs.Listing.{form_of}
-use Rattle.unit_rules.specs.Typing.{KnowsPlaces}
+use Rattle.unit_rules.specs.TypingInside.{KnowsPlaces}
 use Rattle.unit_rules.specs.Searched.{BreaksOne}
 use Rattle.unit_rules.proofs.declarations.wrong_in.Given as goal
 

@@ -1,6 +1,7 @@
 use Rattle.std.proofs.Common.{◌≡◌, Err, sym, ◌∙◌, ap, List}
 use Rattle.std.proofs.lemmas.Result.{err_from_is_err_and}
-use Rattle.ar_base.specs.Stages.{Then, Fits, fits, rule_told}
+use Rattle.ar_base.specs.Stages.{Then, Fits, fits}
+use Rattle.ar_base.specs.StagesInside.{rule_told}
 use Rattle.ar_base.specs.declared.counts.Count.TheVariants.{Variables, Events, TreeNodes}
 use Rattle.ar_base.proofs.Stages.{stage_stops, stage_passes}
 use Rattle.hierarchy.specs.Models.{RootedModel}

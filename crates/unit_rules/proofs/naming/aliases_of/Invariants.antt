@@ -1,7 +1,7 @@
 use Rattle.std.proofs.Common.{List, [], map, take}
 use Rattle.ar_base.specs.Lists.{Stands, Along}
 use Rattle.class_table.specs.Declaring.{Declared}
-use Rattle.class_table.specs.Tables.{IsBodyOf, site_of}
+use Rattle.class_table.specs.TablesInside.{IsBodyOf, site_of}
 use Rattle.hierarchy.specs.Models.{RootedModel}
 use Rattle.hierarchy.specs.Units.{UnitPath}
 use Rattle.unit_walks.specs.Settling.{AreOutcomes}

@@ -3,7 +3,7 @@ use Rattle.std.proofs.lemmas.List.{take_all}
 use Rattle.ar_base.specs.Numbers.{BodyId}
 use Rattle.ar_base.proofs.Standing.{stands_get}
 use Rattle.class_table.specs.Members.{owned_at}
-use Rattle.class_table.specs.Tables.{site_of}
+use Rattle.class_table.specs.TablesInside.{site_of}
 use Rattle.class_table.proofs.Taken.{map_next}
 use Rattle.unit_rules.specs.Naming.{Entry, AddsNames, none, inner_names, names_if, names_at_sites}
 use Rattle.unit_rules.proofs.Adding.{adds_more, sites_next}

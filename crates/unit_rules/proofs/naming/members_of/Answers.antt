@@ -1,5 +1,5 @@
 use Rattle.std.proofs.Common.{List, ◌∙◌, ap, map, sym, subst}
-use Rattle.class_table.specs.Tables.{site_of}
+use Rattle.class_table.specs.TablesInside.{site_of}
 use Rattle.class_table.specs.declared.tables.Body.{Body}
 use Rattle.class_table.proofs.Taken.{item_stands}
 use Rattle.ar_base.specs.Lists.{Stands}

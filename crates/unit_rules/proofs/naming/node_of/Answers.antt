@@ -1,6 +1,6 @@
 use Rattle.std.proofs.Common.{List, refl, sym, subst}
 use Rattle.ar_base.specs.Lists.{Along}
-use Rattle.class_table.specs.Tables.{IsBodyOf}
+use Rattle.class_table.specs.TablesInside.{IsBodyOf}
 use Rattle.class_table.specs.declared.tables.Body.{Body}
 use Rattle.unit_rules.specs.Naming.{inner_names, alias_names}
 use Rattle.unit_rules.proofs.Named.{inner_listed, aliases_listed}

@@ -3,7 +3,7 @@ use Rattle.hierarchy.specs.declared.outline.Outline.{Outline}
 use Rattle.ar_base.specs.Lists.{Stands, Along}
 use Rattle.ar_base.proofs.Standing.{stands_get}
 use Rattle.class_table.specs.Earliest.{IsEarliest}
-use Rattle.class_table.specs.Tables.{IsBodyOf}
+use Rattle.class_table.specs.TablesInside.{IsBodyOf}
 use Rattle.class_table.specs.declared.tables.Body.{Body}
 use Rattle.class_table.proofs.Looping.{loop_start, loop_next, loop_end}
 use Rattle.class_table.proofs.Taken.{item_stands}

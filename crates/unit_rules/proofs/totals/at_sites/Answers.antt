@@ -3,7 +3,7 @@ use Rattle.std.proofs.lemmas.List.{take_all}
 use Rattle.ar_base.specs.Numbers.{BodyId}
 use Rattle.ar_base.proofs.Standing.{stands_get}
 use Rattle.class_table.specs.Members.{Site}
-use Rattle.class_table.specs.Tables.{site_of}
+use Rattle.class_table.specs.TablesInside.{site_of}
 use Rattle.class_table.proofs.Taken.{map_next}
 use Rattle.unit_rules.specs.Counting.{AreAt}
 use Rattle.unit_rules.proofs.Joined.{at_join}

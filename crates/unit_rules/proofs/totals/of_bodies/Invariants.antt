@@ -1,7 +1,7 @@
 use Rattle.std.proofs.Common.{take}
 use Rattle.ar_base.specs.Lists.{Along}
 use Rattle.class_table.specs.Declaring.{Declared}
-use Rattle.class_table.specs.Tables.{IsBodyOf}
+use Rattle.class_table.specs.TablesInside.{IsBodyOf}
 use Rattle.unit_rules.specs.Counting.{AreOwn, AreOfBody}
 use Rattle.unit_rules.proofs.totals.of_bodies.Given as goal
 

@@ -1,9 +1,9 @@
 use Rattle.std.proofs.Common.{take}
 use Rattle.ar_base.specs.Lists.{Along}
 use Rattle.class_table.specs.Declaring.{Declared}
-use Rattle.class_table.specs.Tables.{IsNamedType}
+use Rattle.class_table.specs.TablesInside.{IsNamedType}
 use Rattle.unit_rules.specs.Counting.{AreOf}
-use Rattle.unit_rules.specs.Typing.{KnowsPlaces}
+use Rattle.unit_rules.specs.TypingInside.{KnowsPlaces}
 use Rattle.unit_rules.proofs.totals.own_counts.Given as goal
 
 abbrev pub invariant-loop-owned : goal.invariant-loop-owned

@@ -1,6 +1,6 @@
 use Rattle.std.proofs.Common.{sym, ◌∙◌, ap}
 use Rattle.ar_base.proofs.Results.{ok_map}
-use Rattle.class_table.specs.Tables.{site_of}
+use Rattle.class_table.specs.TablesInside.{site_of}
 use Rattle.hierarchy.specs.Settings.{settings_of}
 use Rattle.unit_rules.proofs.Searched.{no_declaration, no_settings, of_settings, set_nowhere, set_there}
 use Rattle.unit_rules.proofs.wrong.wrong_in.Goals as goal

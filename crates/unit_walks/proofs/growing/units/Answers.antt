@@ -1,7 +1,7 @@
 use Rattle.std.proofs.Common.{[], ◌∙◌, ap, length, arith}
 use Rattle.std.proofs.lemmas.Result.{err_from_is_err_and}
 use Rattle.std.proofs.lemmas.List.{length-map}
-use Rattle.unit_walks.specs.Unfolding.{memory}
+use Rattle.unit_walks.specs.UnfoldingInside.{memory}
 use Rattle.std.proofs.Common.{map}
 use Rattle.unit_walks.specs.declared.growing.Node.{Node}
 use Rattle.unit_walks.proofs.Fronts.{refused, unfolded}

@@ -3,7 +3,7 @@ use Rattle.std.proofs.lemmas.List.{take_all, append-nil}
 use Rattle.ar_base.specs.Lists.{Along}
 use Rattle.ar_base.specs.Numbers.{NameId}
 use Rattle.ar_base.specs.declared.places.Place.{Place}
-use Rattle.class_table.specs.Tables.{site_of}
+use Rattle.class_table.specs.TablesInside.{site_of}
 use Rattle.unit_walks.specs.Forms.{IsUnitName, instances}
 use Rattle.unit_walks.proofs.NameLists.{instance_pushed}
 use Rattle.unit_walks.proofs.indexing.add_instances.Goals as goal

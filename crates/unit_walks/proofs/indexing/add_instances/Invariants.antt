@@ -1,7 +1,7 @@
 use Rattle.std.proofs.Common.{List, ◌++◌, take}
 use Rattle.ar_base.specs.Lists.{Along}
 use Rattle.class_table.specs.Members.{NamedMember}
-use Rattle.class_table.specs.Tables.{site_of}
+use Rattle.class_table.specs.TablesInside.{site_of}
 use Rattle.unit_walks.specs.Forms.{IsUnitName, instances}
 use Rattle.unit_walks.proofs.indexing.add_instances.Given as goal
 

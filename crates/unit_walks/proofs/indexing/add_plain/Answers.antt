@@ -2,7 +2,7 @@ use Rattle.ar_syntax.specs.declared.members.Member.{out-Member}
 use Rattle.std.proofs.Common.{refl}
 use Rattle.std.proofs.lemmas.List.{append-nil}
 use Rattle.ar_base.proofs.Items.{along_push}
-use Rattle.class_table.specs.Tables.{site_of}
+use Rattle.class_table.specs.TablesInside.{site_of}
 use Rattle.unit_walks.specs.Forms.{clone, alias}
 use Rattle.unit_walks.proofs.NameLists.{declares_none, declares_instances}
 use Rattle.unit_walks.proofs.indexing.add_plain.Goals as goal

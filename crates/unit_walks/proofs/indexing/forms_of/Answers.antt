@@ -1,8 +1,8 @@
 use Rattle.std.proofs.Common.{length, sym, ◌∙◌, ap, subst}
 use Rattle.std.proofs.Common.{map}
 use Rattle.ar_base.specs.Lists.{Along}
-use Rattle.class_table.specs.Tables.{IsNamedType, IsBodyOf}
-use Rattle.hierarchy.specs.Models.{sites_kept}
+use Rattle.class_table.specs.TablesInside.{IsNamedType, IsBodyOf}
+use Rattle.hierarchy.specs.ModelsInside.{sites_kept}
 use Rattle.unit_walks.specs.Forms.{AreIndexed}
 use Rattle.unit_walks.proofs.NameLists.{forms_ready}
 use Rattle.unit_walks.proofs.indexing.forms_of.Goals as goal

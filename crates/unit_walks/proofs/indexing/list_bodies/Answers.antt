@@ -3,7 +3,7 @@ use Rattle.std.proofs.Common.{map}
 use Rattle.std.proofs.lemmas.List.{take_all}
 use Rattle.ar_base.specs.Lists.{Along, none}
 use Rattle.class_table.specs.declared.tables.Body.{Body}
-use Rattle.hierarchy.specs.Models.{sites_kept}
+use Rattle.hierarchy.specs.ModelsInside.{sites_kept}
 use Rattle.unit_walks.specs.Forms.{IsUnitList}
 use Rattle.unit_walks.proofs.NameLists.{list_pushed}
 use Rattle.unit_walks.proofs.indexing.list_bodies.Goals as goal

@@ -1,8 +1,8 @@
 use Rattle.std.proofs.Common.{map, take}
 use Rattle.ar_base.specs.Lists.{Along}
 use Rattle.class_table.specs.Declaring.{Declared}
-use Rattle.class_table.specs.Tables.{IsBodyOf}
-use Rattle.hierarchy.specs.Models.{sites_kept}
+use Rattle.class_table.specs.TablesInside.{IsBodyOf}
+use Rattle.hierarchy.specs.ModelsInside.{sites_kept}
 use Rattle.unit_walks.specs.Classes.{AreClasses}
 use Rattle.unit_walks.specs.Forms.{IsUnitList}
 use Rattle.unit_walks.proofs.indexing.list_bodies.Given as goal

@@ -4,7 +4,7 @@ use Rattle.std.proofs.lemmas.List.{take_all, append-nil}
 use Rattle.ar_base.specs.Lists.{Along, none}
 use Rattle.ar_base.specs.Numbers.{BodyId}
 use Rattle.class_table.specs.Members.{named_at, names_of, owned_at}
-use Rattle.class_table.specs.Tables.{site_of}
+use Rattle.class_table.specs.TablesInside.{site_of}
 use Rattle.unit_walks.specs.Forms.{IsUnitName, AddsNames, only_units}
 use Rattle.unit_walks.proofs.NameLists.{site_added}
 use Rattle.unit_walks.proofs.indexing.list_body.Goals as goal

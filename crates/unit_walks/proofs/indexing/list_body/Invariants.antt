@@ -2,7 +2,7 @@ use Rattle.std.proofs.Common.{map, take}
 use Rattle.ar_base.specs.Lists.{Along}
 use Rattle.class_table.specs.Declaring.{Declared}
 use Rattle.class_table.specs.Members.{named_at}
-use Rattle.class_table.specs.Tables.{IsBodyOf, site_of}
+use Rattle.class_table.specs.TablesInside.{IsBodyOf, site_of}
 use Rattle.unit_walks.specs.Classes.{AreClasses}
 use Rattle.unit_walks.specs.Forms.{IsUnitName, only_units}
 use Rattle.unit_walks.proofs.indexing.list_body.Given as goal

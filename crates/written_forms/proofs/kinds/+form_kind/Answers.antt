@@ -1,7 +1,7 @@
 use Rattle.std.proofs.Common.{refl}
 use Rattle.ar_syntax.proofs.Opened as opened
 use Rattle.typed_expr.specs.declared.expr.ValueKind.TheVariants.{Truth, Whole}
-use Rattle.written_forms.specs.Wrong.{NamesKind}
+use Rattle.written_forms.specs.WrongInside.{NamesKind}
 use Rattle.written_forms.proofs.KindsFound.{own_answer, path_answer, first_answer, last_answer}
 use Rattle.written_forms.proofs.kinds.+form_kind.Goals as goal
 

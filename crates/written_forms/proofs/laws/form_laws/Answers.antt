@@ -1,4 +1,4 @@
-use Rattle.written_forms.specs.Wrong.{NamesKind}
+use Rattle.written_forms.specs.WrongInside.{NamesKind}
 use Rattle.written_forms.proofs.KindsFound.{one_form, one_named}
 use Rattle.std.proofs.Common.{subst}
 use Rattle.ar_base.specs.Numbers.{VarId}

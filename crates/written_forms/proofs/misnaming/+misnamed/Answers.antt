@@ -8,7 +8,8 @@ use Rattle.class_table.proofs.Taken.{item_stands}
 use Rattle.class_table.proofs.Looping.{loop_start, loop_next, loop_end}
 use Rattle.written_forms.specs.Operands.{level_of, wanting, OfKind, Like, each_wanting, terms, tests, branches, first_branch}
 use Rattle.typed_expr.specs.declared.expr.ValueKind.TheVariants.{Truth, Whole}
-use Rattle.written_forms.specs.Wrong.{IsMisnamed, IsNamedPath, Among, MisnamedOperand}
+use Rattle.written_forms.specs.Wrong.{IsMisnamed}
+use Rattle.written_forms.specs.WrongInside.{IsNamedPath, Among, MisnamedOperand}
 use Rattle.written_forms.proofs.Gathering.{none_among, one_among, both_among, mapped_to, mapped_back, paired_to, paired_back}
 use Rattle.written_forms.proofs.MisnamedForms as misnamed
 use Rattle.typed_expr.proofs.Shrinking as falls

@@ -4,7 +4,8 @@ use Rattle.ar_syntax.specs.declared.expressions.RawExpr.{RawExpr}
 use Rattle.class_table.specs.Earliest.{IsEarliest, Until}
 use Rattle.class_table.proofs.Looping.{AtItem}
 use Rattle.written_forms.specs.Operands.{level_of}
-use Rattle.written_forms.specs.Wrong.{IsMisnamed, IsNamedPath}
+use Rattle.written_forms.specs.Wrong.{IsMisnamed}
+use Rattle.written_forms.specs.WrongInside.{IsNamedPath}
 use Rattle.written_forms.proofs.misnaming.+misnamed.Given as goal
 
 abbrev pub invariant-misnamed_in-loop-e : goal.invariant-misnamed_in-loop-e

@@ -8,8 +8,9 @@ use Rattle.class_table.proofs.Taken.{item_stands}
 use Rattle.class_table.proofs.Looping.{loop_start, loop_next, loop_end}
 use Rattle.typed_expr.specs.declared.expr.ValueKind.TheVariants.{Truth, Whole}
 use Rattle.written_forms.specs.Operands.{level_of, wanting, OfKind, Like, each_wanting, terms, tests, branches, is_equality}
-use Rattle.written_forms.specs.Forms.{IsFormOf}
-use Rattle.written_forms.specs.Wrong.{IsMistyped, NamesKind, demanding, AreWanted, Among, MistypedOperand}
+use Rattle.written_forms.specs.FormsInside.{IsFormOf}
+use Rattle.written_forms.specs.Wrong.{IsMistyped}
+use Rattle.written_forms.specs.WrongInside.{NamesKind, demanding, AreWanted, Among, MistypedOperand}
 use Rattle.written_forms.proofs.Gathering.{one_among, mapped_to, mapped_back, paired_to, paired_back}
 use Rattle.written_forms.proofs.MistypedForms.{wrong_both, wrong_leaf, wrong_like, wrong_sides, wrong_choices}
 use Rattle.typed_expr.proofs.Shrinking as falls

@@ -5,8 +5,9 @@ use Rattle.typed_expr.specs.declared.expr.ValueKind.TheVariants.{Truth, Whole}
 use Rattle.class_table.specs.Earliest.{IsEarliest, Until}
 use Rattle.class_table.proofs.Looping.{AtItem}
 use Rattle.written_forms.specs.Operands.{level_of, OfKind, Like}
-use Rattle.written_forms.specs.Forms.{IsFormOf}
-use Rattle.written_forms.specs.Wrong.{IsMistyped, NamesKind}
+use Rattle.written_forms.specs.FormsInside.{IsFormOf}
+use Rattle.written_forms.specs.Wrong.{IsMistyped}
+use Rattle.written_forms.specs.WrongInside.{NamesKind}
 use Rattle.written_forms.proofs.mistyping.+mistyped.Given as goal
 
 abbrev pub invariant-wrong_in-loop-e : goal.invariant-wrong_in-loop-e

@@ -1,4 +1,4 @@
-use Rattle.written_forms.specs.Wrong.{demanding}
+use Rattle.written_forms.specs.WrongInside.{demanding}
 use Rattle.written_forms.proofs.MistypedForms.{wrong_real, wrong_empty, wrong_kind, right_kind}
 use Rattle.written_forms.proofs.mistyping.wrong_itself.Goals as goal
 

@@ -5,7 +5,7 @@ use Rattle.ar_syntax.proofs.Opened as opened
 use Rattle.class_table.specs.Earliest.{IsEarliest}
 use Rattle.class_table.proofs.Taken.{item_stands}
 use Rattle.class_table.proofs.Looping.{loop_start, loop_next, loop_end}
-use Rattle.written_forms.specs.Parts.{BreaksInside, BreaksInOne}
+use Rattle.written_forms.specs.PartsInside.{BreaksInside, BreaksInOne}
 use Rattle.written_forms.proofs.PartForms as form
 use Rattle.written_forms.proofs.parts.+parts.Goals as goal
 

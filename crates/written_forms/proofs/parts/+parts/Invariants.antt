@@ -2,7 +2,7 @@ use Rattle.std.proofs.Common.{ℕ}
 use Rattle.ar_syntax.specs.declared.instructions.Instr.{Instr, out-Instr}
 use Rattle.class_table.specs.Earliest.{IsEarliest, Until}
 use Rattle.class_table.proofs.Looping.{AtItem}
-use Rattle.written_forms.specs.Parts.{BreaksInside}
+use Rattle.written_forms.specs.PartsInside.{BreaksInside}
 use Rattle.written_forms.proofs.parts.+parts.Given as goal
 
 abbrev pub invariant-first_in-loop-instr : goal.invariant-first_in-loop-instr

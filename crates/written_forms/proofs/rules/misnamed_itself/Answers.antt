@@ -1,6 +1,7 @@
 use Rattle.ar_syntax.proofs.Opened as opened
-use Rattle.written_forms.specs.Wrong.{IsNamedPath}
-use Rattle.written_forms.specs.Breaches.{IsTarget, MisnamesItself}
+use Rattle.written_forms.specs.WrongInside.{IsNamedPath}
+use Rattle.written_forms.specs.Breaches.{MisnamesItself}
+use Rattle.written_forms.specs.BreachesInside.{IsTarget}
 use Rattle.written_forms.proofs.RuleForms as form
 use Rattle.written_forms.proofs.rules.misnamed_itself.Goals as goal
 

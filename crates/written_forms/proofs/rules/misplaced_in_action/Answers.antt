@@ -1,6 +1,7 @@
 use Rattle.std.proofs.Common.{false}
 use Rattle.ar_syntax.proofs.Opened as opened
-use Rattle.written_forms.specs.Breaches.{IsSort, MisplacedInAction}
+use Rattle.written_forms.specs.Breaches.{MisplacedInAction}
+use Rattle.written_forms.specs.BreachesInside.{IsSort}
 use Rattle.written_forms.proofs.RuleForms as form
 use Rattle.written_forms.proofs.rules.misplaced_in_action.Goals as goal
 

@@ -1,6 +1,7 @@
 use Rattle.std.proofs.Common.{Bool, true, false, Some, sym, ap, ◌∙◌}
 use Rattle.ar_syntax.proofs.Opened as opened
-use Rattle.written_forms.specs.Breaches.{IsSort, MisplacedInAssertion}
+use Rattle.written_forms.specs.Breaches.{MisplacedInAssertion}
+use Rattle.written_forms.specs.BreachesInside.{IsSort}
 use Rattle.written_forms.proofs.RuleForms as form
 use Rattle.written_forms.proofs.rules.misplaced_in_assertion.Goals as goal
 

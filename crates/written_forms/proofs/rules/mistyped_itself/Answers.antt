@@ -1,6 +1,6 @@
 use Rattle.std.proofs.Common.{sym, ◌∙◌}
 use Rattle.ar_syntax.proofs.Opened as opened
-use Rattle.written_forms.specs.Wrong.{NamesKind}
+use Rattle.written_forms.specs.WrongInside.{NamesKind}
 use Rattle.written_forms.specs.Breaches.{MistypesItself}
 use Rattle.written_forms.proofs.RuleForms as form
 use Rattle.written_forms.proofs.rules.mistyped_itself.Goals as goal

@@ -2,7 +2,7 @@
 use Rattle.std.proofs.Common.{◌≡◌, ℕ, List, sym, subst}
 use Rattle.std.specs.HashMap.{get_by_text}
 use Rattle.ar_base.specs.Lists.{Stands, HasNo, AreDifferent}
-use Rattle.ar_base.specs.Texts.{bytes_of_all}
+use Rattle.ar_base.specs.TextsInside.{bytes_of_all}
 use Rattle.ar_base.proofs.Tables.{lacks, differ}
 use Rattle.ar_base.proofs.table.Names.find.Goals as goal
 

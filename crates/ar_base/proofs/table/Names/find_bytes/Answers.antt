@@ -3,7 +3,7 @@ use Rattle.std.proofs.Common.{subst}
 use Rattle.std.specs.HashMap.{get_by_text}
 use Rattle.std.specs.Str.{IsUtf8}
 use Rattle.ar_base.specs.Lists.{AreDifferent}
-use Rattle.ar_base.specs.Texts.{bytes_of_all, AreUtf8}
+use Rattle.ar_base.specs.TextsInside.{bytes_of_all, AreUtf8}
 use Rattle.ar_base.proofs.Tables.{differ}
 use Rattle.ar_base.proofs.table.Names.find_bytes.Goals as goal
 

@@ -9,7 +9,8 @@ use Rattle.std.specs.Str.{bytes_eq}
 use Rattle.std.specs.String.{string_bytes}
 use Rattle.std.proofs.lemmas.List.{length-map, map-append, take_at}
 use Rattle.ar_base.specs.Lists.{Stands, HasNo}
-use Rattle.ar_base.specs.Texts.{bytes_of_all, AreUtf8, NumbersTexts, Interns, known, added}
+use Rattle.ar_base.specs.Texts.{Interns, known, added}
+use Rattle.ar_base.specs.TextsInside.{bytes_of_all, AreUtf8, NumbersTexts}
 use Rattle.ar_base.proofs.Standing.{stands_next}
 use Rattle.ar_base.proofs.Tables.{differ, numbered_more, utf8_more}
 use Rattle.ar_base.proofs.table.Names.intern.Goals as goal

@@ -1,5 +1,5 @@
 use Rattle.std.proofs.Common.{ℕ, Some, None, Option, option_map, sym, subst}
-use Rattle.ar_base.specs.Numbers.{EventId}
+use Rattle.ar_base.specs.NumbersInside.{EventId}
 use Rattle.hierarchy.specs.Units.{numbers}
 use Rattle.hierarchy.specs.Walks.{is_event}
 use Rattle.hierarchy.specs.Listing.{events}

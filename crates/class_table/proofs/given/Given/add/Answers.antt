@@ -1,7 +1,7 @@
 use Rattle.std.proofs.Common.{◌≡◌, Some, refl}
 use Rattle.class_table.specs.Members.{Site}
 use Rattle.class_table.specs.Retested.{MayGive, giver_of}
-use Rattle.class_table.specs.Tables.{site_of}
+use Rattle.class_table.specs.TablesInside.{site_of}
 use Rattle.class_table.proofs.GivenNames.{adds_name}
 use Rattle.class_table.proofs.given.Given.add.Goals as goal
 use Rattle.class_table.proofs.given.Given.add.Goals.{in-None, in-Some}

@@ -4,7 +4,7 @@ use Rattle.ar_base.specs.Numbers.{NameId}
 use Rattle.ar_base.specs.declared.places.Place.{Place}
 use Rattle.ar_base.proofs.Standing.{stands_get}
 use Rattle.class_table.specs.Names.{name_and_place}
-use Rattle.class_table.specs.Tables.{site_of}
+use Rattle.class_table.specs.TablesInside.{site_of}
 use Rattle.class_table.proofs.Taken.{map_next}
 use Rattle.class_table.proofs.GivenNames.{AddsAt, at_none, at_next, at_site}
 use Rattle.class_table.proofs.given.Given.add_all.Goals as goal

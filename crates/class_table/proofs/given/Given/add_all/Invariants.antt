@@ -1,6 +1,6 @@
 use Rattle.std.proofs.Common.{map, take}
 use Rattle.class_table.specs.Names.{name_and_place}
-use Rattle.class_table.specs.Tables.{site_of}
+use Rattle.class_table.specs.TablesInside.{site_of}
 use Rattle.class_table.proofs.GivenNames.{AddsAt}
 use Rattle.class_table.proofs.given.Given.add_all.Given as goal
 

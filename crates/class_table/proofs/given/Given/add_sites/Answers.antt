@@ -6,7 +6,7 @@ use Rattle.ar_base.proofs.Standing.{stands_get}
 use Rattle.class_table.specs.Members.{Site}
 use Rattle.class_table.specs.Names.{name_and_place}
 use Rattle.class_table.specs.Retested.{AddsGiven, names_of_site}
-use Rattle.class_table.specs.Tables.{site_of}
+use Rattle.class_table.specs.TablesInside.{site_of}
 use Rattle.class_table.proofs.Taken.{map_next}
 use Rattle.class_table.proofs.GivenNames.{gives_none, gives_more}
 use Rattle.class_table.proofs.given.Given.add_sites.Goals as goal

@@ -6,7 +6,7 @@ use Rattle.ar_base.proofs.Standing.{stands_get}
 use Rattle.class_table.specs.Earliest.{IsEarliest}
 use Rattle.class_table.specs.Names.{name_and_place}
 use Rattle.class_table.specs.Retested.{names_at, IsTaken}
-use Rattle.class_table.specs.Tables.{site_of}
+use Rattle.class_table.specs.TablesInside.{site_of}
 use Rattle.class_table.proofs.Taken.{map_next}
 use Rattle.class_table.proofs.GivenNames.{taken_none, taken_same, taken_more}
 use Rattle.class_table.proofs.given.Given.first_taken.Goals as goal

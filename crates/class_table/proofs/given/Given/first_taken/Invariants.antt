@@ -3,7 +3,7 @@ use Rattle.class_table.specs.Declaring.{Declared}
 use Rattle.class_table.specs.Earliest.{IsEarliest}
 use Rattle.class_table.specs.Names.{name_and_place}
 use Rattle.class_table.specs.Retested.{KnowsGiven, IsTaken, names_at}
-use Rattle.class_table.specs.Tables.{site_of}
+use Rattle.class_table.specs.TablesInside.{site_of}
 use Rattle.class_table.proofs.given.Given.first_taken.Given as goal
 
 abbrev pub invariant-loop-name : goal.invariant-loop-name

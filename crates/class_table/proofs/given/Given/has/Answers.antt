@@ -6,7 +6,7 @@ use Rattle.ar_base.proofs.Standing.{stands_get, stands_map}
 use Rattle.class_table.specs.Members.{Site}
 use Rattle.class_table.specs.Repeating.{IsNamed}
 use Rattle.class_table.specs.Retested.{names_at}
-use Rattle.class_table.specs.Tables.{site_of}
+use Rattle.class_table.specs.TablesInside.{site_of}
 use Rattle.class_table.proofs.Taken.{map_next}
 use Rattle.class_table.proofs.GivenNames.{named_within, named_more}
 use Rattle.class_table.proofs.given.Given.has.Goals as goal

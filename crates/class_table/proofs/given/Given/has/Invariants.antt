@@ -2,7 +2,7 @@ use Rattle.std.proofs.Common.{map, take}
 use Rattle.class_table.specs.Declaring.{Declared}
 use Rattle.class_table.specs.Repeating.{IsNamed}
 use Rattle.class_table.specs.Retested.{KnowsGiven, names_at}
-use Rattle.class_table.specs.Tables.{site_of}
+use Rattle.class_table.specs.TablesInside.{site_of}
 use Rattle.class_table.proofs.given.Given.has.Given as goal
 
 abbrev pub invariant-loop-site : goal.invariant-loop-site

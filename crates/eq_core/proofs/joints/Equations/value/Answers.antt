@@ -4,7 +4,7 @@ use Rattle.ar_base.specs.Lists.{Stands}
 use Rattle.ar_base.proofs.Standing.{stands_get, stands_map}
 use Rattle.eq_core.specs.Ordered.{AreBelow}
 use Rattle.eq_core.specs.Values.{values_at, joint_at}
-use Rattle.ar_base.specs.Numbers.{numbers_of}
+use Rattle.ar_base.specs.NumbersInside.{numbers_of}
 use Rattle.eq_core.specs.Views.{gate_of}
 use Rattle.eq_core.specs.declared.joints.Gate as flat
 use Rattle.eq_core.proofs.Telling.{place_below, values_next}

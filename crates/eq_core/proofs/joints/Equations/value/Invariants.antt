@@ -1,6 +1,6 @@
 use Rattle.std.proofs.Common.{◌≡◌, map, take}
 use Rattle.eq_core.specs.Values.{values_at}
-use Rattle.ar_base.specs.Numbers.{numbers_of}
+use Rattle.ar_base.specs.NumbersInside.{numbers_of}
 use Rattle.eq_core.specs.Views.{gate_of}
 use Rattle.eq_core.proofs.joints.Equations.value.Given as goal
 

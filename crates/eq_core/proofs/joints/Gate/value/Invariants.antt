@@ -1,6 +1,6 @@
 use Rattle.std.proofs.Common.{◌≡◌, map, drop}
 use Rattle.eq_core.specs.Values.{joint_at}
-use Rattle.ar_base.specs.Numbers.{numbers_of}
+use Rattle.ar_base.specs.NumbersInside.{numbers_of}
 use Rattle.eq_core.specs.Views.{all_needed, operand_of}
 use Rattle.eq_core.proofs.joints.Gate.value.Given as goal
 

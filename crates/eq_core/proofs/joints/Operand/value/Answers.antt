@@ -1,9 +1,9 @@
 use Rattle.std.proofs.Common.{◌≡◌, sym, ap, ◌∙◌, nat_eq, rules}
 use Rattle.std.specs.List.{list_any}
-use Rattle.ar_base.specs.Numbers.{EventId}
+use Rattle.ar_base.specs.NumbersInside.{EventId}
 use mathlib.Core.Bool.{beq}
 use Rattle.eq_core.specs.Values.{operand_at}
-use Rattle.ar_base.specs.Numbers.{numbers_of}
+use Rattle.ar_base.specs.NumbersInside.{numbers_of}
 use Rattle.eq_core.specs.Views.{operand_of}
 use Rattle.eq_core.proofs.Valuing.{compared, found, read_at}
 use Rattle.eq_core.proofs.joints.Operand.value.Goals as goal

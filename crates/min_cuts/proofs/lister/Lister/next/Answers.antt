@@ -2,7 +2,7 @@ use Rattle.std.proofs.Common.{◌≡◌, ◌<◌, ◌≤◌, List, ◌∷◌, �
 use Rattle.std.specs.List.Sorted.{IsPermutation}
 use Rattle.std.proofs.lemmas.List.{length-map}
 use Rattle.ar_base.specs.Lists.{Stands}
-use Rattle.ar_base.specs.Numbers.{EventId}
+use Rattle.ar_base.specs.NumbersInside.{EventId}
 use Rattle.min_cuts.specs.Kept.{numbers, taken, to_give, in_order}
 use Rattle.min_cuts.specs.declared.steps.Step.{Step}
 use Rattle.min_cuts.proofs.Going.{first_inside, first_spots, spots_long, listing_goes, first_gives}

@@ -1,7 +1,7 @@
 use Rattle.std.proofs.Common.{◌≡◌, List, [], ℕ, sym, ap, subst, arith}
 use Rattle.ar_base.specs.Lists.{AreDifferent}
 use Rattle.ar_base.specs.Lists.Along.{none as nothing}
-use Rattle.ar_base.specs.Numbers.{EventId}
+use Rattle.ar_base.specs.NumbersInside.{EventId}
 use Rattle.mode_trees.specs.Views.{trees_of}
 use Rattle.zdd_families.specs.Families.{Family}
 use Rattle.zdd_nodes.specs.Nodes.{family}

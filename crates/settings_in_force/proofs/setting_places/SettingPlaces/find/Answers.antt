@@ -1,5 +1,5 @@
 use Rattle.std.proofs.Common.{ℕ, ◌∷◌, Option, map, sym, ◌∙◌, ap, subst}
-use Rattle.class_table.specs.Tables.{site_of}
+use Rattle.class_table.specs.TablesInside.{site_of}
 use Rattle.hierarchy.specs.Settings.{target_word_of, settings_at}
 use Rattle.unit_rules.specs.Repeats.{code_of}
 use Rattle.settings_in_force.specs.SettingPlaces.{SetsAt}

@@ -1,4 +1,4 @@
-use Rattle.class_table.specs.Tables.{HoldsDeclared}
+use Rattle.class_table.specs.TablesInside.{HoldsDeclared}
 use Rattle.hierarchy.specs.Models.{RootedModel}
 use Rattle.settings_in_force.specs.SettingPlaces.{TellsFirst}
 use Rattle.settings_in_force.proofs.setting_places.SettingPlaces.new.Given as goal

@@ -3,7 +3,7 @@ use Rattle.ar_base.proofs.Standing.{stands_get, stands_within, along_back, along
 use Rattle.hierarchy.specs.declared.outline.Outline.{Outline}
 use Rattle.class_table.specs.Members.{Site, named_at}
 use Rattle.class_table.proofs.Taken.{item_stands}
-use Rattle.hierarchy.specs.Units.{names_in}
+use Rattle.hierarchy.specs.UnitsInside.{names_in}
 use Rattle.unit_rules.specs.Settables.{Adds, entries_of}
 use Rattle.unit_rules.proofs.Entries.{members_there, members_past}
 use Rattle.unit_rules.proofs.Keeping.{adds_none, settables_next, settables_all}

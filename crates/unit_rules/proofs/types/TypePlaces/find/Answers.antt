@@ -3,7 +3,7 @@ use Rattle.std.specs.HashMap as hash
 use Rattle.ar_base.proofs.Standing.{stands_one, stands_within}
 use Rattle.class_table.specs.Members.{type_named}
 use Rattle.class_table.proofs.Taken.{item_stands}
-use Rattle.unit_rules.specs.Typing.{IsFound}
+use Rattle.unit_rules.specs.TypingInside.{IsFound}
 use Rattle.unit_rules.proofs.Found.{found_none, found_some}
 use Rattle.std.proofs.Common.{arith}
 use Rattle.unit_rules.proofs.types.TypePlaces.find.Goals as goal

@@ -5,7 +5,7 @@ use Rattle.std.specs.Map.{lookup}
 use Rattle.ar_base.specs.Numbers.{NameId}
 use Rattle.class_table.specs.declared.tables.TypeBody.{TypeBody}
 use Rattle.class_table.proofs.Taken.{take_item}
-use Rattle.unit_rules.specs.Typing.{type_place_in}
+use Rattle.unit_rules.specs.TypingInside.{type_place_in}
 use Rattle.unit_rules.proofs.Found.{known_step, new_step}
 use Rattle.unit_rules.proofs.types.TypePlaces.new.Goals as goal
 use Rattle.unit_rules.proofs.types.TypePlaces.new.Goals.{then-not-contains_key+in_ok-insert, else-not-contains_key}

@@ -1,6 +1,6 @@
 use Rattle.std.proofs.Common.{◌≡◌, ℕ, take, nat_eq}
 use Rattle.std.specs.HashMap as hash
-use Rattle.unit_rules.specs.Typing.{type_place_in}
+use Rattle.unit_rules.specs.TypingInside.{type_place_in}
 use Rattle.unit_rules.proofs.types.TypePlaces.new.Given as goal
 
 abbrev pub invariant-loop-place : goal.invariant-loop-place

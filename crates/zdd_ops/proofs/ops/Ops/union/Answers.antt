@@ -1,5 +1,5 @@
 use Rattle.std.proofs.Common.{◌≡◌, Err, subst, ◌⊎◌}
-use Rattle.zdd_families.specs.Families.{union}
+use Rattle.zdd_families.specs.FamiliesInside.{union}
 use Rattle.zdd_families.specs.Sections.{IsMoreThan, IsCounted}
 use Rattle.zdd_nodes.specs.Nodes.{family, Stored, IsStored}
 use Rattle.zdd_nodes.specs.declared.NodeFault.TheVariants.{Full}

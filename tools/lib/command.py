@@ -159,6 +159,16 @@ def readable(name):
     return printed(name).encode("utf-8").decode("latin-1")
 
 
+def content_of(name):
+    """The bytes of a file. A pipe and a terminal come to an end; a device like /dev/zero does not, and is no file."""
+    with open(name, "rb") as file:
+        about = os.fstat(file.fileno())
+        is_device = stat.S_ISBLK(about.st_mode) or stat.S_ISCHR(about.st_mode) and not file.isatty()
+        if is_device and about.st_rdev != os.stat(os.devnull).st_rdev:
+            raise CouldNot("%s is a device, and no file" % shown(name))
+        return file.read()
+
+
 def write(text):
     """Writes a text of bytes to standard output."""
     sys.stdout.buffer.write(text.encode("latin-1"))

@@ -6,7 +6,7 @@ order mark say nothing. `count N up to order K` ends a list of the cuts of at mo
 import re
 import sys
 
-from command import CouldNot, NoUse, escaped, say, shown
+from command import CouldNot, NoUse, content_of, escaped, say, shown
 
 MARK = b"\xef\xbb\xbf"
 CUT = re.compile(rb"\{([^{}\x00-\x08\x0a-\x1f\x7f]*)\}")
@@ -18,11 +18,7 @@ BLANKS = b" \t\r"
 
 def lines_of(name):
     """The lines of a file, of standard input where the name is `-`, without a byte order mark."""
-    if name == "-":
-        content = sys.stdin.buffer.read()
-    else:
-        with open(name, "rb") as file:
-            content = file.read()
+    content = sys.stdin.buffer.read() if name == "-" else content_of(name)
     return (content[len(MARK):] if content.startswith(MARK) else content).split(b"\n")
 
 

@@ -5,6 +5,8 @@ The text is taken as bytes (one character of the string a byte), so columns coun
 import re
 from collections import namedtuple
 
+from command import content_of
+
 RESERVED = tuple(
     "and as assertion block Boolean case class clones count default domain else embeds end event extends false hide if "
     "init Integer main max min not observer or owner parameter Real reset skip switch then transition true".split())
@@ -49,8 +51,7 @@ class Places:
 
 def read(path):
     """The bytes of a file as a string with one character for each."""
-    with open(path, "rb") as file:
-        return file.read().decode("latin-1")
+    return content_of(path).decode("latin-1")
 
 
 def _kind_at(text, at):

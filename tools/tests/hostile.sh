@@ -182,6 +182,11 @@ for words in "lint pipe" "why check pipe" "fmea pipe" "report pipe --observer x"
   # shellcheck disable=SC2086
   equal "a model that can be read once alone: $words" '4 1' "$(timeout 60 "$top"/tools/$words <model >/dev/null 2>err; echo $?) $(grep -c 'is no plain file' err)"
 done
+# A device has no end: it is no model and no list, and does not fill the memory.
+for words in "join /dev/zero" "from_altarica /dev/full" "compare /dev/zero list" "compare list /dev/full"; do
+  # shellcheck disable=SC2086
+  equal "a device for a file: $words" '4 1' "$( (ulimit -v 4000000; timeout 60 "$top"/tools/$words >/dev/null 2>err; echo $?)) $(grep -c 'is a device, and no file' err)"
+done
 equal "a list may be a pipe" 0 "$(cat list >pipe & timeout 60 "$top/tools/compare" pipe list >/dev/null 2>&1; echo $?)"
 
 equal "a pipe may be written to, and no folder is made a file" 'same same 4' "$("$top/tools/draw" units "$work/model" --dot --out /dev/stdout | cmp - units.dot && echo -n 'same '

@@ -1,13 +1,13 @@
 -- What a path names in a listed unit stands in a listed unit.
-use Rattle.std.proofs.Common.{◌≡◌, inl, inr, Bool, true, false, ◌||◌, ℕ, List, [], ◌∷◌, Option, Some, None, refl, sym, ◌∙◌, ap, subst}
+use Rattle.std.proofs.Common.{◌≡◌, inl, inr, Bool, true, false, ◌||◌, ℕ, List, [], ◌∷◌, Option, Some, refl, sym, ◌∙◌, subst}
 use Rattle.ar_base.specs.Lists.{IsOneOf}
 use Rattle.ar_syntax.specs.declared.paths.Path.{Path}
 use Rattle.ar_syntax.specs.declared.paths.PathStart.{PathStart}
 use Rattle.ar_syntax.specs.declared.paths.PathStart.TheVariants.{Here, Owner, Main}
-use Rattle.class_table.specs.Members.{NamedMember, MemberKind, Inner, Clone, Alias}
+use Rattle.class_table.specs.Members.{MemberKind}
 use Rattle.hierarchy.specs.Models.{RootedModel}
-use Rattle.hierarchy.specs.Units.{UnitLevel, UnitPath, Thing, same_thing, is_among, names_at, kind_at, start_of, numbers}
-use Rattle.hierarchy.specs.Walks.{WalkOutcome, Reaches, Nothing, Loops, NameLeads, NamesLead, thing, cloned, inner, clones, embeds, arrives, on, Finds, is_event}
+use Rattle.hierarchy.specs.Units.{UnitLevel, UnitPath, Thing, same_thing, is_among, start_of}
+use Rattle.hierarchy.specs.Walks.{Reaches, Nothing, Loops, NameLeads, NamesLead, thing, inner, clones, embeds, arrives, on, Finds, is_event}
 use Rattle.hierarchy.specs.Listing.{AreUnits, is_inner, events, things_in}
 use Rattle.hierarchy.proofs.Places.{lists_closed, lists_first, lists_origin, made_named}
 use Rattle.hierarchy.proofs.Things.{flat_one, has_listed}

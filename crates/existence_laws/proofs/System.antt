@@ -1,27 +1,26 @@
 -- Declarations of which no synchronisation leads back to its event mean a system.
-use Rattle.std.proofs.Common.{◌≡◌, inl, inr, ◌⊎◌, Bool, List, Result, Ok, refl, sym, ◌∙◌, ap, subst}
+use Rattle.std.proofs.Common.{◌≡◌, inl, inr, ◌⊎◌, Bool, List, [], Ok, refl, sym, ◌∙◌, subst}
 use Rattle.ar_base.specs.Breach.{AreKept}
-use Rattle.ar_base.specs.Lists.{Stands, IsOneOf, Along}
+use Rattle.ar_base.specs.Lists.{Stands, IsOneOf}
 use Rattle.ar_base.specs.Stages.{passes, Keeps, kept, Fits, fits}
 use Rattle.ar_base.specs.declared.counts.Count.{Count}
 use Rattle.ar_base.specs.declared.places.Place.{Place}
 use Rattle.ar_base.specs.Numbers.{NameId}
 use Rattle.ar_base.proofs.Standing.{along_on, along_back, one_first}
-use Rattle.ar_syntax.specs.declared.members.Part.{Part}
-use Rattle.ar_meaning.specs.Systems.{Transition, Tree, System, Event}
-use Rattle.ar_meaning.specs.Expand.{Member, One, Synchronises, EventDeclaration, HasPart, ReachesPart, part_of, further, Ways, IsExpanded, LeadsBack}
+use Rattle.ar_meaning.specs.Systems.{Transition}
+use Rattle.ar_meaning.specs.Expand.{Synchronises, EventDeclaration, HasPart, ReachesPart, part_of, further, IsExpanded}
 use Rattle.class_table.specs.Declaring.{MemberForm}
 use Rattle.hierarchy.specs.Models.{RootedModel}
-use Rattle.hierarchy.specs.Units.{UnitPath, Thing}
+use Rattle.hierarchy.specs.Units.{Thing}
 use Rattle.hierarchy.specs.Listing.{Unfolded, AreUnits, events, ways_declared}
-use Rattle.unit_walks.specs.Unfolding.{Unfolds, whole}
+use Rattle.unit_walks.specs.Unfolding.{whole}
 use Rattle.instantiate.specs.Unfolding.{Instantiates}
 use Rattle.source_meaning.specs.Rules.{IsWayOf, sync as sync_way}
-use Rattle.source_meaning.specs.Systems.{Declarations, AreOf, IsEvent, IsMember, IsPart, sync, Declares, declares, Binds}
+use Rattle.source_meaning.specs.Systems.{Declarations, AreOf, IsEvent, IsMember, sync, declares, Binds}
 use Rattle.sync_expand.specs.Counting.{way_rules}
 use Rattle.sync_expand.proofs.WaysLemmas.{along_all}
-use Rattle.gts_flatten.specs.Elaborating.{Elaborated, BreaksSynchronisation, BreaksWayRule, l14, HasSystem, has}
-use Rattle.existence_laws.proofs.Expanding.{HasWays, IsDeclared, all_have_ways}
+use Rattle.gts_flatten.specs.Elaborating.{Elaborated, BreaksWayRule, l14, HasSystem, has}
+use Rattle.existence_laws.proofs.Expanding.{IsDeclared, all_have_ways}
 use Rattle.existence_laws.proofs.Reached.{event_in}
 
 module _ (d : Declarations) (are_units : AreUnits d.model d.units) (are : AreOf d.model d.units d)

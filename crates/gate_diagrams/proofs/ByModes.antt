@@ -7,11 +7,13 @@ use Rattle.ar_firing.specs.Forest.{ModeTree}
 use Rattle.ar_firing.specs.Listed.{AreListed}
 use Rattle.zdd_families.specs.Families.{Family, minimal}
 use Rattle.zdd_families.specs.FamiliesInside.{IsFamily}
-use Rattle.zdd_families.specs.Sections.{IsCounted, IsHalf}
+use Rattle.zdd_families.specs.Sections.{IsCounted, IsHalf, of_minimal}
+use Rattle.zdd_families.proofs.Ascending.{ascends_nil}
+use Rattle.zdd_families.proofs.Sections.{section-whole}
 use Rattle.zdd_nodes.specs.Nodes.{NodeId, Stored, family, Draws, IsNumber, IsSoundStore}
 use Rattle.zdd_nodes.specs.declared.NodeFault.{NodeFault}
 use Rattle.zdd_nodes.specs.declared.NodeFault.TheVariants.{Full, Memory as OutOfMemory}
-use Rattle.zdd_nodes.proofs.Growing.{Draws-weaker, Draws-refused}
+use Rattle.zdd_nodes.proofs.Growing.{Grows-none, Draws-weaker, Draws-refused}
 use Rattle.eq_core.specs.Gates.{Operand, GateIs, Gate, Table}
 use Rattle.eq_core.specs.Ordered.{AreOrdered}
 use Rattle.eq_core.specs.Values.{value_at}
@@ -19,7 +21,7 @@ use Rattle.eq_core.specs.ValuesInside.{IsBelow}
 use Rattle.eq_core.proofs.Telling.{place_below}
 use Rattle.firable_families.specs.FirableInside.{IsFirableUpTo, IsTrueUpTo, ListsLeastUpTo}
 use Rattle.firable_families.proofs.Few.{firable_of, small_of, firable_up_to}
-use Rattle.firable_families.proofs.Listing.{Lists, lists_listed, listed_lists, true_lists}
+use Rattle.firable_families.proofs.Listing.{Lists, lists_listed, listed_lists, true_lists, least_listed}
 use Rattle.mode_nodes.specs.Bounds.{Bounded, GrowsWithin}
 use Rattle.mode_nodes.proofs.Allowed.{allowed, allowed_before}
 use Rattle.diagram_steps.specs.declared.trees.NumberedTree.{NumberedTree}
@@ -33,17 +35,32 @@ use Rattle.mode_diagrams.specs.declared.listing.Listed.{Listed}
 use Rattle.gate_cones.specs.Cones.{own, named}
 use Rattle.gate_diagrams.specs.Needed.{family_at, IsNeeded, IsNeededByBoth, itself}
 use Rattle.gate_diagrams.specs.NodeLimits.{NodesMayUpTo}
-use Rattle.gate_diagrams.specs.Needed.IsNeeded.{of_signed}
+use Rattle.gate_diagrams.specs.Needed.IsNeeded.{of_signed, of_half}
 use Rattle.gate_diagrams.specs.declared.answer.Drawn.{Drawn}
 use Rattle.gate_diagrams.specs.declared.answer.Drawn.TheVariants.{Conflicts, Cuts}
 use Rattle.gate_diagrams.specs.declared.answer.Family.{Family as Answered}
 use Rattle.gate_diagrams.specs.declared.by_modes.Unanswered.{Unanswered}
 use Rattle.gate_diagrams.specs.declared.by_modes.Unanswered.TheVariants.{Beyond, Nodes}
 use Rattle.gate_cones.specs.Marks.{AreMarks}
-use Rattle.gate_diagrams.specs.ByModes.{IsListed, AnswersByModes, unanswered_of}
+use Rattle.gate_diagrams.specs.ByModes.{IsListed, HasValueOf, DrawsByModes, AnswersByModes, unanswered_of}
 use Rattle.gate_diagrams.proofs.Answering.{least_drawn, needed_conflict, full_conflict, sets_conflict, needed_both, full_both, sets_top}
-use Rattle.gate_diagrams.proofs.Filters.{of_members}
+use Rattle.gate_diagrams.proofs.Filters.{of_members, family_same}
 use Rattle.gate_diagrams.proofs.FirableSets.{listed_one}
+
+-- ---- what is listed of a table is listed of one with the same values
+pub listed_as : (order : Option ℕ) (trees : List NumberedTree) (new old : List Gate) (o p : Operand) (l : Listed)
+    → ((set : List ℕ) → value_at new o set ≡ value_at old p set) → IsListed order trees new o l
+    → IsListed order trees old p l
+listed_as order trees new old o p l h i = record {
+  sound = i.sound;
+  in_store = i.in_store;
+  is = λ forest b all a. i.is forest b all a ∙ family_same all new old o p h;
+}
+
+-- and so are the minimal sets
+pub minimal_as : (all : Family) (new : List Gate) (o : Operand) (old : List Gate) (p : Operand) → HasValueOf old p new o
+    → minimal (family_at all new o) ≡ minimal (family_at all old p)
+minimal_as all new o old p h = ap minimal (family_same all new old o p h.same)
 
 -- ---- what the calls need
 pub few_small : (trees : List NumberedTree) → All HasFewEdges trees → AreSmall trees
@@ -140,6 +157,36 @@ module _ (all : Family) (gates : List Gate) (o : Operand) (whole : Family) (is :
       → Draws (IsNeeded all gates o) (minimal (family_at all gates o)) s u r
   least_copied u n r d m = least_drawn all gates o s t u n r (copied_needed (Ok n) d) m
 
+-- ---- the least sets by products
+-- what is listed as the least firable sets is the minimal sets of the operand's family
+pub minimal_is : (order : Option ℕ) (forest : List ModeTree) (gates : List Gate) (o : Operand) (f all : Family)
+    → ListsLeastUpTo order forest (value_at gates o) f → AreListed (IsFirableUpTo order forest) all
+    → f ≡ minimal (family_at all gates o)
+unfolding family_at
+minimal_is order forest gates o f all l is = listed_one f (minimal (filter (value_at gates o) all)) l
+    (least_listed order forest (value_at gates o) (of_members gates o) all is)
+
+module _ (all : Family) (gates : List Gate) (o : Operand) (f : Family) (is : f ≡ minimal (family_at all gates o))
+    (s t : Stored) where
+  counted_needed : (h : Family) → IsCounted (minimal (family_at all gates o)) h → IsNeeded all gates o h
+  counted_needed h c = of_half (of_minimal 0 [] (ascends_nil, tt)
+      (subst (λ x. IsCounted (minimal x) h) (sym (section-whole (family_at all gates o))) c))
+
+  pub minimal_copied : (r : Result NodeId NodeFault) → Draws (IsCounted f) f s t r
+      → Draws (IsNeeded all gates o) (minimal (family_at all gates o)) s t r
+  minimal_copied r d = Draws-weaker (IsCounted (minimal (family_at all gates o))) (IsNeeded all gates o)
+      (minimal (family_at all gates o)) s t r counted_needed (subst (λ z. Draws (IsCounted z) z s t r) is d)
+
+-- nothing was drawn
+pub memory_drawn : (all : Family) (gates : List Gate) (o : Operand) (s : Stored)
+    → Draws (IsNeeded all gates o) (minimal (family_at all gates o)) s s (Err OutOfMemory)
+memory_drawn all gates o s = record { grows = Grows-none (IsNeeded all gates o) s; ok = tt; full = λ e. cc }
+
+pub undrawn_drawn : (all : Family) (gates : List Gate) (o : Operand) (s : Stored) (u : Undrawn)
+    → DrawsByModes all gates o s s (Err (unanswered_of u))
+undrawn_drawn all gates o s Undrawn.Beyond = tt
+undrawn_drawn all gates o s Undrawn.Memory = memory_drawn all gates o s
+
 -- ---- the answer
 module _ (order : Option ℕ) (trees : List ModeTree) (table : Table) (all : Family)
     (is_all : AreListed (IsFirableUpTo order trees) all) (limit : ℕ)
@@ -182,6 +229,11 @@ module _ (order : Option ℕ) (trees : List ModeTree) (table : Table) (all : Fam
             (full_conflict table all is_family s0 s1 stored (Err e) d order trees is_all (ap (λ (z : NodeFault). Err z) y));
       }
 
+      pub conflict_unanswered : (e : Unanswered) → DrawsByModes all table.gates table.conflict s0 s1 (Err e)
+          → Right (Err e)
+      conflict_unanswered Beyond d = beyond_right
+      conflict_unanswered (Nodes e) d = conflict_refused e d
+
       module _ (n : NodeId) (d : DrawsConflict s0 s1 (Ok n)) where
         pub conflicts_right : (f : Answered) → f.store ≡ s1 → f.root ≡ n → IsSoundStore s1 → (n.n ≡ 0 → ⊥)
             → Right (Ok (Conflicts f))
@@ -212,6 +264,10 @@ module _ (order : Option ℕ) (trees : List ModeTree) (table : Table) (all : Fam
                 (full_both table all is_family s0 s1 stored n d s2 (Err e) zero_is t order trees is_all
                 (ap (λ (z : NodeFault). Err z) y));
           }
+
+          pub top_unanswered : (e : Unanswered) → DrawsByModes all table.gates table.top s1 s2 (Err e) → Right (Err e)
+          top_unanswered Beyond t = beyond_right
+          top_unanswered (Nodes e) t = top_refused e t
 
           pub cuts_right : (m : NodeId) (f : Answered) → f.store ≡ s2 → f.root ≡ m → IsSoundStore s2 → DrawsTop s1 s2 (Ok m)
               → Right (Ok (Cuts f))

@@ -45,6 +45,13 @@ unfolding family_at
 family_of_never all gates = filter-none (value_at gates Never) all
     (every (λ s. value_at gates Never s ≡ false) (λ s. refl) all)
 
+-- operands with the same values
+pub family_same : (all : Family) (g h : List Gate) (o p : Operand) → ((set : List ℕ) → value_at g o set ≡ value_at h p set)
+    → family_at all g o ≡ family_at all h p
+unfolding family_at
+family_same all g h o p e = filter_alike (value_at g o) (value_at h p) all
+    (every (λ s. value_at g o s ≡ value_at h p s) e all)
+
 -- the other sign
 pub family_of_opposite : (all : Family) (gates : List Gate) (o : Operand)
     → family_at all gates (opposite o) ≡ minus all (family_at all gates o)

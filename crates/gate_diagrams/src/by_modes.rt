@@ -1,29 +1,33 @@
 //! The least firable sets, drawn over the modes of the trees.
 
-ghost use Rattle.std.specs.Prelude.{◌≤◌, List, length};
+ghost use Rattle.std.specs.Prelude.{◌≤◌, List, length, map};
 ghost use Rattle.std.specs.List.{All};
 ghost use Rattle.ar_firing.specs.Forest.{ModeTree};
 ghost use Rattle.ar_firing.specs.Listed.{AreListed};
 ghost use Rattle.ar_firing.specs.Trees.{AreTrees};
 ghost use Rattle.mode_trees.specs.Views.{trees_of};
 ghost use Rattle.zdd_families.specs.Families.{Family as Sets};
-ghost use Rattle.eq_core.specs.Ordered.{IsOrderedTable};
-ghost use Rattle.eq_core.specs.Views.{table_of};
+ghost use Rattle.eq_core.specs.Gates.{Gate as GateOf, Operand as OperandOf};
+ghost use Rattle.eq_core.specs.Ordered.{AreOrdered, IsOrderedTable};
+ghost use Rattle.eq_core.specs.ValuesInside.{IsBelow};
+ghost use Rattle.eq_core.specs.Views.{gate_of, operand_of, table_of};
 ghost use Rattle.firable_families.specs.FirableInside.{IsFirableUpTo};
 ghost use Rattle.mode_diagrams.specs.Trees.{AreNumbered, AreApart};
 ghost use Rattle.mode_diagrams.specs.Costs.{HaveDifferentEvents};
 ghost use Rattle.mode_diagrams.specs.Numbers.{HasFewEdges, IsByModes};
-ghost use Rattle.gate_diagrams.specs.ByModes.{AnswersByModes};
+ghost use Rattle.gate_diagrams.specs.ByModes.{AnswersByModes, DrawsByModes, HasValueOf};
 
 use crate::answer::{Drawn, Family};
 use crate::listed::{least_listed, listed_at};
 use ar_base::Memory;
+use coherent_cuts::{is_coherent, least_cuts};
 use diagram_steps::{NumberedTree, in_order};
-use eq_core::Equations;
-use mode_diagrams::{Undrawn, numbered};
+use eq_core::{Equations, Gate, Operand};
+use gate_sharing::simplified;
+use mode_diagrams::{Undrawn, copied, numbered};
 use mode_trees::Forest;
 use std::alloc::Global;
-use zdd_nodes::NodeFault;
+use zdd_nodes::{NodeFault, NodeId};
 use zdd_ops::Ops;
 
 /// Why there is no answer by mode diagrams.
@@ -101,7 +105,8 @@ pub(crate) fn by_modes(
     answer_by_modes(alloc, equations, &trees, order, limit)
 }
 
-// The least sets with a conflict, or, where there are none, those that make the value.
+// The least sets with a conflict, or, where there are none, those that make the value. What is drawn is a simplified table: at
+// every set it has the values of the one that is given, and its conflict operand is often Never, for which nothing is drawn.
 fn answer_by_modes(
     alloc: Global,
     equations: &Equations,
@@ -120,19 +125,77 @@ fn answer_by_modes(
         → AreListed (IsFirableUpTo order forest) all
         → AnswersByModes order forest (table_of equations.now) all limit result }
 {
-    let conflicts = listed_at(alloc, trees, &equations.gates, equations.conflict, order)?;
+    let Some(table) = simplified(alloc, equations)? else {
+        return Err(Unanswered::Beyond);
+    };
     let mut ops = Ops::new(alloc, limit);
-    let conflict = least_listed(alloc, &mut ops, &conflicts)?;
+    let conflict = least_at(alloc, &mut ops, trees, &table.gates, table.conflict, order)?;
     if conflict.n != 0 {
         return Ok(Drawn::Conflicts(Family {
             store: ops.into_store(),
             root: conflict,
         }));
     }
-    let cuts = listed_at(alloc, trees, &equations.gates, equations.top, order)?;
-    let top = least_listed(alloc, &mut ops, &cuts)?;
+    let top = least_at(alloc, &mut ops, trees, &table.gates, table.top, order)?;
     Ok(Drawn::Cuts(Family {
         store: ops.into_store(),
         root: top,
     }))
+}
+
+// The least sets of an operand: from products of least sets where nothing that it rests on is negated and they take no more
+// nodes than a store may have, else from the family of all its sets.
+fn least_at(
+    alloc: Global,
+    ops: &mut Ops,
+    trees: &[NumberedTree],
+    gates: &[Gate],
+    root: Operand,
+    order: Option<u32>,
+) -> Result<NodeId, Unanswered>
+    requires few { length trees.now ≤ 4294967295 }
+    requires numbered { AreNumbered trees.now }
+    requires apart { AreApart trees.now }
+    requires different { HaveDifferentEvents trees.now }
+    requires small { All HasFewEdges trees.now }
+    requires ordered { AreOrdered (map gate_of gates.now) }
+    requires root_in { IsBelow (length gates.now) (operand_of root) }
+    ensures { (forest : List ModeTree) → IsByModes forest trees.now → (all : Sets)
+        → AreListed (IsFirableUpTo order forest) all → (old : List GateOf) (o : OperandOf)
+        → HasValueOf old o (map gate_of gates.now) (operand_of root)
+        → DrawsByModes all old o ops.old ops.new result }
+{
+    if is_coherent(alloc, gates, root)? {
+        match least_cuts(alloc, trees, gates, root, order) {
+            Ok(least) => return Ok(copied(alloc, ops, &least.store, least.root)?),
+            Err(Undrawn::Memory) => return Err(Unanswered::Nodes(NodeFault::Memory)),
+            Err(Undrawn::Beyond) => {}
+        }
+    }
+    least_of_all(alloc, ops, trees, gates, root, order)
+}
+
+// The least sets of an operand, from the family of all its sets.
+fn least_of_all(
+    alloc: Global,
+    ops: &mut Ops,
+    trees: &[NumberedTree],
+    gates: &[Gate],
+    root: Operand,
+    order: Option<u32>,
+) -> Result<NodeId, Unanswered>
+    requires few { length trees.now ≤ 4294967295 }
+    requires numbered { AreNumbered trees.now }
+    requires apart { AreApart trees.now }
+    requires different { HaveDifferentEvents trees.now }
+    requires small { All HasFewEdges trees.now }
+    requires ordered { AreOrdered (map gate_of gates.now) }
+    requires root_in { IsBelow (length gates.now) (operand_of root) }
+    ensures { (forest : List ModeTree) → IsByModes forest trees.now → (all : Sets)
+        → AreListed (IsFirableUpTo order forest) all → (old : List GateOf) (o : OperandOf)
+        → HasValueOf old o (map gate_of gates.now) (operand_of root)
+        → DrawsByModes all old o ops.old ops.new result }
+{
+    let listed = listed_at(alloc, trees, gates, root, order)?;
+    Ok(least_listed(alloc, ops, &listed)?)
 }

@@ -1,0 +1,4 @@
+pub mod Coherent
+pub mod Exclusive
+pub mod Gates
+pub mod Places

@@ -1,0 +1,6 @@
+pub mod Alls
+pub mod Sharings
+pub mod Making
+pub mod Needing
+pub mod Imaging
+pub mod Absorbings

@@ -1,0 +1,6 @@
+pub mod Simplified
+pub mod Literals
+pub mod Sharing
+pub mod Absorbing
+pub mod Known
+pub mod Images

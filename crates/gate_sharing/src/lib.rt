@@ -1,0 +1,10 @@
+//! Simplified tables of gates: smaller ones with the same values, for drawing.
+#![tactic(auto)]
+
+mod absorbing;
+mod literals;
+mod sharing;
+mod tables;
+mod unshared;
+
+pub use tables::simplified;

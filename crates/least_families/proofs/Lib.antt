@@ -1,0 +1,6 @@
+pub mod Covering
+pub mod Cutting
+pub mod Held
+pub mod Least
+pub mod Steps
+pub mod Upper

@@ -1,0 +1,4 @@
+pub mod Held
+pub mod Halves
+pub mod Kept
+pub mod Least

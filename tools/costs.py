@@ -2,7 +2,7 @@
 """costs.py KIND N [MORE]
 
 Writes a model of a kind and a size that shows costs (of the kinds `script` and `enabled` a script). What each kind is stands
-beside it; docs/SPEED.md has what the program takes for each. MORE is how many lines a `script` has, and how many idle states
+beside it; docs/develop/SPEED.md has what the program takes for each. MORE is how many lines a `script` has, and how many idle states
 a unit of `idle` has.
 
 Status: 0 written; 2 these words are no use; 4 it could not be done.

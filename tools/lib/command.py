@@ -15,6 +15,9 @@ import unicodedata
 DONE, FOUND, NO_USE, REFUSED, COULD_NOT = range(5)
 TOP = os.path.dirname(os.path.dirname(os.path.dirname(os.path.realpath(__file__))))
 NAME = os.path.basename(sys.argv[0])
+IS_INSTALLED = os.path.exists(os.path.join(TOP, "MADE_OF"))
+CALL = "altarica" if IS_INSTALLED else "./altarica"
+"""How the script is called: a package has it on the path."""
 if sys.version_info < (3, 9):
     sys.stderr.write("%s: this needs Python 3.9, and python3 is %s\n" % (NAME, sys.version.split()[0]))
     sys.exit(COULD_NOT)
@@ -239,13 +242,13 @@ def apart(written, *read):
 
 
 def version():
-    """The helper's name with the date of the newest change."""
+    """The helper's name with the version."""
     try:
-        with open(os.path.join(TOP, "docs", "CHANGES.md"), encoding="utf-8") as page:
-            dates = [line.split()[1] for line in page if line.startswith("## ")]
-    except (OSError, IndexError):
-        dates = []
-    return "%s of altarica %s\n" % (NAME, dates[0] if dates else "undated")
+        with open(os.path.join(TOP, "VERSION"), encoding="utf-8") as file:
+            number = file.read().strip()
+    except OSError:
+        number = ""
+    return "%s of altarica %s\n" % (NAME, number or "of no version")
 
 
 def own_words(words):

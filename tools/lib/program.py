@@ -21,6 +21,9 @@ NOT_PROVED = "no proved program is built here, so this takes out/unproved: nothi
 NOT_KNOWN = "the program of this checkout is not known to be proved: it was made of other sources than are here, or its note is gone"
 HOW = ("there is no program: ./altarica --unproved check examples/ring.alt compiles one in minutes, without proofs; or set "
        "ALTARICA")
+if command.IS_INSTALLED:
+    NOT_KNOWN = "the program that is installed is not known to be proved: altarica --version says what it was made of"
+    HOW = "the installed program is gone: install the package again, or set ALTARICA"
 
 
 def is_utf8(word):
@@ -128,7 +131,9 @@ def proved_words():
     if it.is_unproved or is_program(UNPROVED) and sum_of(it.words[-1]) == sum_of(UNPROVED):
         return "not proved: it was compiled without its proofs"
     if proved() and sum_of(it.words[-1]) == sum_of(proved()):
-        return "the proved one of this checkout"
+        return "the proved one of this package" if command.IS_INSTALLED else "the proved one of this checkout"
+    if command.IS_INSTALLED:
+        return "not known to be proved: altarica --version says what it was made of"
     return "not known to be proved: it is none that this checkout has proved of the sources that are here"
 
 

@@ -2,6 +2,7 @@
 import re
 
 from asked import VALUED
+from command import CALL
 
 USUAL_NODES = 1000000
 LISTINGS = {"cuts": "cuts", "checkcuts": "checkcuts", "modules": "cuts"}
@@ -57,4 +58,4 @@ def words_for(words):
 def command_for(words, line):
     """The command to try where these words are refused with this line, or nothing."""
     found = words_for(words) if re.match("nodes: |outside: S8 ", line) else None
-    return "./altarica %s" % " ".join(map(quoted, found)) if found else ""
+    return "%s %s" % (CALL, " ".join(map(quoted, found))) if found else ""

@@ -1,4 +1,4 @@
-"""Compares the section "What must be believed" of docs/PROMISES.md with tools/words: the files that it names, the types,
+"""Compares the section "What must be believed" of docs/trust/PROMISES.md with tools/words: the files that it names, the types,
 and the lines by crate and by what is to be believed. Prints what differs; the status is 1 where anything does.
 """
 import pathlib
@@ -6,7 +6,7 @@ import re
 import subprocess
 import sys
 
-page = pathlib.Path("docs/PROMISES.md").read_text()
+page = pathlib.Path("docs/trust/PROMISES.md").read_text()
 section = page[page.index("## What must be believed"):page.index("## What is promised")]
 call, real_run = (" ".join(part.split()) for part in section.split("The clause on real runs asks for"))
 real_run = real_run[:real_run.index("Whoever believes less")]

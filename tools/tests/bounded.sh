@@ -114,7 +114,7 @@ equal "and so it does of the last lines" "$(tools/explain max-order)" "$(tools/e
 tools/report tests/models/refusals/S8.alt --observer first --max-order 2 --out "$work/page.html" 2>"$work/said"
 equal "also of a model with too many events for trees of modes" '0 1 -1' \
   "$? $(found | sed 's/ .*//') $(sed -n 's/.*"trees":\[\([^]]*\)\].*/\1/p' "$work/page.html")"
-equal "the test for single failures of docs/IN_CI.md takes such a model" '1 single failures for first: {p1.r1.c1.fail}' \
+equal "the test for single failures of docs/use/IN_CI.md takes such a model" '1 single failures for first: {p1.r1.c1.fail}' \
   "$(said=$(tests/ci/no_single_failure tests/models/refusals/S8.alt first); echo "$? "$said)"
 
 # Lists up to an order.

@@ -13,6 +13,9 @@ for file in editors/vscode/package.json editors/vscode/language-configuration.js
   holds "$file is JSON" python3 -m json.tool "$file" /dev/null
 done
 
+equal "the extension of VS Code has the number of VERSION" "$(cat VERSION)" \
+  "$(python3 -c 'import json; print(json.load(open("editors/vscode/package.json"))["version"])')"
+
 tools/why check tests/mistakes/path.alt >"$work/refused"
 tools/lint tests/lint/slips.alt >"$work/lint"
 equal "the problem matcher reads the place and the text of a refusal and of lint" \

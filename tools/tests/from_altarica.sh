@@ -101,9 +101,9 @@ answer 2 $models/ccf.alt --immediate soon
 answer 3 tests/mistakes/path.alt
 
 # What the pages say: the lists of all models, and what is done with each form.
-missing=$(python3 $here/rows.py $models/expected | while IFS= read -r row; do grep -qxF -- "$row" docs/FROM_ALTARICA_MODELS.md || echo "$row"; done)
+missing=$(python3 $here/rows.py $models/expected | while IFS= read -r row; do grep -qxF -- "$row" docs/use/FROM_ALTARICA.md || echo "$row"; done)
 equal "the page has each list" '' "$missing"
-sed -n 's/^| `\([a-z]*\)` | `.*` | `[a-z]*: .* | \(done\|refused\)[^|]*|$/\1 \2/p' docs/FROM_ALTARICA.md | while read -r name outcome; do
+sed -n 's/^| `\([a-z]*\)` | `.*` | `[a-z]*: .* | \(done\|refused\)[^|]*|$/\1 \2/p' docs/use/FROM_ALTARICA.md | while read -r name outcome; do
   $tool tests/literature/"$name".alt --profile --range 0..9 >/dev/null 2>&1
   equal "the form $name is $outcome" "$outcome" "$([ $? -eq 0 ] && echo "done" || echo refused)"
 done

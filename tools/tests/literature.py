@@ -1,4 +1,4 @@
-"""Compares the table of docs/FROM_ALTARICA.md with tests/literature and tests/models/from."""
+"""Compares the table of docs/use/FROM_ALTARICA.md with tests/literature and tests/models/from."""
 
 import glob
 import os
@@ -35,11 +35,12 @@ def fault(name, form, line, mended):
     return ""
 
 
-names = {"node"}
+names, section = {"node"}, ""
 whole, lacking = read("tests/models/from/dataflow.alt"), []
-with open("docs/FROM_ALTARICA.md", encoding="utf-8") as page:
+with open("docs/use/FROM_ALTARICA.md", encoding="utf-8") as page:
     for row in page:
-        here = re.match(r"\| (?:`[^`]*`[^|`]*)+ \| (`[^|]*) \|$", row.replace("\\|", ""))
+        section = row.strip() if row.startswith("## ") else section
+        here = section == "## AltaRica Data-Flow" and re.match(r"\| (?:`[^`]*`[^|`]*)+ \| (`[^|]*) \|$", row.replace("\\|", ""))
         if here:
             lacking += [it for it in re.findall(r"`([^`]*)`", here[1]) if len(it) > 1 and it not in whole]
         cells = re.match(r"\| `(\w+)` \| `(.+?)` \| `(\w+: .+?)` \| `(.+?)` \| ", row)

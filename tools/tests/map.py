@@ -11,15 +11,15 @@ Of each page in PAGES:
 
 Further: crates.txt and ARCHITECTURE.md have the same crates under the same headings, each below what uses it, each with a
 job of at most 12 words, and once in the picture; each rule, limit, command and refusal has a row there; EDITS.md and the
-folders must-fail have the same edits; LAWS.md and PROMISES_BY_CRATE.md name functions of the crate that they are under.
+folders must-fail have the same edits, and its functions and clauses are there. tools/tests/generated.sh tries the other pages that
+are written from the sources.
 """
 
 import functools
 import pathlib
 import re
 
-PAGES = """ARCHITECTURE CONTRIBUTING DECISIONS DECISIONS_CUTS DEFINITIONS EDITS GLOSSARY HOW_IT_WORKS LAWS PROMISES
-    PROMISES_BY_CRATE SPEED""".split()
+PAGES = "ARCHITECTURE CONTRIBUTING DECISIONS GLOSSARY PROMISES PROOFS QUALIFICATION SPEED".split()
 MOST_WORDS = 12
 
 # Names that no source has: of other files, of packages, of the kit, and for what a reader is to add.
@@ -28,7 +28,7 @@ OTHER = set("""HANDLES RT_JOBS FILE PATH N KIND PROGRAM graphviz chromium vim zs
 
 CRATES = pathlib.Path("crates")
 IDENTIFIER = r"[A-Za-z_]\w*"
-DECLARED_RT = r"\b(?:fn|struct|enum|trait|type|const|static|mod) {}\b"
+DECLARED_RT = r"\b(?:fn|struct|enum|trait|type|const|static|mod|ensures) {}\b"
 DECLARED_ANTT = r"^\s*(?:[a-z]+ )*{}\b[^=\n]*:"
 
 
@@ -43,7 +43,11 @@ def text_of(path):
 
 
 def page_of(name):
-    return text_of(f"docs/{name}.md")
+    return text_of(file_of(name))
+
+
+def file_of(name):
+    return next(str(it) for it in pathlib.Path("docs").glob(f"*/{name}.md"))
 
 
 @functools.lru_cache(None)
@@ -61,6 +65,12 @@ def declares(path, name):
 @functools.lru_cache(None)
 def functions_of(crate):
     return {name for it in sources(crate, ("src",)) for name in re.findall(r"\bfn (\w+)", text_of(it))}
+
+
+@functools.lru_cache(None)
+def names_of_proofs():
+    """The names of the files in the folders of proofs."""
+    return {it.name for it in CRATES.glob("*/proofs/*/**/*.antt")}
 
 
 @functools.lru_cache(None)
@@ -135,7 +145,7 @@ class Block:
         if re.fullmatch(r"[\w-]+(/[\w.*-]+)+/?", token):
             return self.path_fault(token)
         if re.fullmatch(r"\w+\.(rt|antt)", token):
-            return "" if self.file(token) else "no crate that is named before has this file"
+            return "" if "NAME" in token or self.file(token) or token in names_of_proofs() else "no crate that is named before has this file"
         if re.fullmatch(r"\w+(::\w+)+", token):
             return self.qualified_fault(token.split("::"))
         if token in crates():
@@ -196,7 +206,7 @@ def named_things():
             if text.startswith("#") or above:
                 crate = above[1] if above else None
             faults += [f"line {number}: {it}" for it in Block(text, crate).faults()]
-        point(f"docs/{page}.md names what is there", faults)
+        point(f"{file_of(page)} names what is there", faults)
 
 
 def rows_below(page, head):
@@ -240,7 +250,7 @@ def table_of_crates():
             faults.append(f"under {heading}: {' '.join(names)} in crates.txt, {' '.join(listed)} in the table")
     if len(headings) != len(shown):
         faults.append(f"crates.txt has {len(headings)} headings, the table {len(shown)}")
-    point("docs/ARCHITECTURE.md has the crates of crates.txt with their jobs", faults)
+    point("docs/develop/ARCHITECTURE.md has the crates of crates.txt with their jobs", faults)
 
 
 def picture_of_crates():
@@ -249,7 +259,7 @@ def picture_of_crates():
     titles = [it.partition(":")[0] for it, _ in lines_of_crates()[0]]
     faults = [f"{it} is there {n} times" for it, n in counts.items() if n != 1]
     faults += [f"there is no {it}" for it in titles if it not in picture]
-    point("docs/ARCHITECTURE.md has each crate once in its picture", faults)
+    point("docs/develop/ARCHITECTURE.md has each crate once in its picture", faults)
 
 
 def variants_of(path, name):
@@ -269,7 +279,7 @@ def rows_of_architecture():
     faults += [f"no row for the refusal {it}" for it in refusals if not any(f"| `{it}` |" in row for row in rows)]
     if not counts or not commands or not refusals:
         faults.append("the limits, commands or refusals were not found in the code")
-    point("docs/ARCHITECTURE.md has a row for each rule, limit, command and refusal", faults)
+    point("docs/develop/ARCHITECTURE.md has a row for each rule, limit, command and refusal", faults)
 
 
 def edits():
@@ -288,39 +298,9 @@ def edits():
         lost = [it for it in clause if not re.search(rf"\b(ensures|invariant) {it} \{{", named)]
         faults += [f"{crate} has no clause {it}" for it in lost]
     faults += [f"{it} is on the page or in its folder alone" for it in sorted(there ^ shown)]
-    point("docs/EDITS.md has each edit that must be refused, with its function", faults)
-
-
-def laws():
-    faults = []
-    for number, text in blocks(page_of("LAWS")):
-        crate = None
-        for name in re.findall(r"`([\w:]+)`", text):
-            parts = name.split("::")
-            if len(parts) > 1:
-                crate = parts[0]
-            elif crate and name not in functions_of(crate):
-                faults.append(f"line {number}: {crate} has no function {name}")
-    point("docs/LAWS.md names functions of the crate before them", faults)
-
-
-def promises():
-    faults, crate, seen = [], None, []
-    for number, text in blocks(page_of("PROMISES_BY_CRATE")):
-        above = re.match(r"- `(\w+)`", text)
-        if above:
-            crate = above[1]
-            seen.append(crate)
-        elif crate and text.startswith("  - "):
-            front = re.sub(r"\([^)]*\)", "", text.replace("::", "\0").partition(":")[0]).replace("\0", "::")
-            for name in re.findall(r"`([\w:]+)`", front):
-                last = name.split("::")[-1]
-                if not any(declares(it, last) for it in sources(crate, ("src",))):
-                    faults.append(f"line {number}: {crate} has no {name}")
-    faults += [f"{it} has two items" for it in sorted(set(seen)) if seen.count(it) > 1]
-    point("docs/PROMISES_BY_CRATE.md has each crate once, with functions of it", faults)
+    point("docs/trust/EDITS.md has each edit that must be refused, with its function", faults)
 
 
 if __name__ == "__main__":
-    for test in (order_of_crates, table_of_crates, picture_of_crates, rows_of_architecture, edits, laws, promises, named_things):
+    for test in (order_of_crates, table_of_crates, picture_of_crates, rows_of_architecture, edits, named_things):
         test()

@@ -1,4 +1,4 @@
-"""Compares what README.md and the pages of docs/ show with files and with what the program writes.
+"""Compares what README.md, CHANGES.md and the pages below docs/ show with files and with what the program writes.
 
 A fenced block has directly above it one of these lines:
 
@@ -7,6 +7,7 @@ A fenced block has directly above it one of these lines:
   <!-- run: WORDS | status=N -->    the block is all that the program writes on these words at the top of the
                                     repository (status 0 where none is given); `...` as above
   <!-- shell: COMMAND | status=N -->  the same of a command of bash, in which `altarica` is the program
+                                    the first line of either may show the command, as `$ altarica WORDS` and `$ COMMAND`
   <!-- commands | status=N -->      the block is commands of bash, which end with this status; `./altarica` in them is
                                     the program
   <!-- text -->                     the block is not compared
@@ -15,8 +16,8 @@ A table has directly above it `<!-- slips: WORDS | status=N -->`. Each row has w
 slip, and the same without it, each between backquotes. With the slip in place of the line `// the row` of the model in WORDS
 the program ends with this status and names this place; with the mended text it ends with status 0.
 
-Further: no page uses certain words of output, files and values (PATTERNS), a page has at most 400 lines of at most
-300 characters, and links lead to files and headings that are there.
+Further: no page uses certain words of output, files and values (PATTERNS), a line of a page has at most 300 characters,
+links lead to files and headings that are there, and each page is named by the README of its folder.
 
 With names of pages it takes these alone.
 """
@@ -30,11 +31,14 @@ import subprocess
 import sys
 import tempfile
 
-LINES, LENGTH = 400, 300
+LENGTH = 300
 SECONDS = 120
 
 # Pages that are tried for their links alone until they have a comment of the kinds above.
 PENDING = set()
+
+# The mark of pages whose words are those of the sources.
+GENERATED = "<!-- written by tools/write_pages from the sources: change these, and run it -->"
 
 # Words that a page has for people alone, and what may be around them all the same.
 PATTERNS = [
@@ -120,6 +124,11 @@ def block_fault(comment, block):
             with open(path, encoding="utf-8") as it:
                 return fits(block, lines_of(it.read()), kind == "part")
     wanted = int(comment["number"] or 0)
+    if block and block[0].startswith("$ "):
+        command = comment["shell"] or f"altarica {comment['run']}"
+        if block[0] != f"$ {command}":
+            return f"the first line is `{block[0]}` and should be `$ {command}`"
+        block = block[1:]
     if comment["commands"]:
         text = re.sub(r"(^|[\s(;|&])\./altarica\b", r"\1altarica", "\n".join(block))
         status, output = run(["bash", "-c", text])
@@ -246,8 +255,7 @@ def words(page, lines):
 
 def size(page, lines):
     long = [str(number) for number, line in enumerate(lines, 1) if len(line) > LENGTH]
-    why = f"it has {len(lines)} lines; " * (len(lines) > LINES) + f"longer than {LENGTH}: lines {', '.join(long[:8])}" * bool(long)
-    point(f"{page}: at most {LINES} lines of at most {LENGTH} characters", why)
+    point(f"{page}: its lines have at most {LENGTH} characters", f"longer: lines {', '.join(long[:8])}" * bool(long))
 
 
 def links(page, lines):
@@ -277,10 +285,22 @@ def unused(pages):
         point(f"each file of {folder} is on a page", " ".join(lost) and f"not on any: {' '.join(lost)}")
 
 
+def listed(pages):
+    """Looks for pages that the README of their folder has no link to, or that are in no folder."""
+    for folder in ("use", "trust", "develop"):
+        text = "\n".join(read(f"docs/{folder}/README.md"))
+        lost = [it for it in pages if os.path.dirname(it) == f"docs/{folder}" and f"]({os.path.basename(it)})" not in text]
+        lost = [it for it in lost if os.path.basename(it) != "README.md"]
+        point(f"docs/{folder}/README.md has each page of its folder", " ".join(lost) and f"not there: {' '.join(lost)}")
+    lost = sorted({*glob.glob("docs/**/*.md", recursive=True)} - {*pages})
+    point("each page is in docs/use, docs/trust or docs/develop", " ".join(lost))
+
+
 def main():
-    pages = sys.argv[1:] or ["README.md", *sorted(glob.glob("docs/*.md"))]
+    pages = sys.argv[1:] or [*sorted(glob.glob("*.md")), *sorted(glob.glob("docs/*/*.md"))]
     if not sys.argv[1:]:
         unused(pages)
+        listed(pages)
     for page in pages:
         lines = read(page)
         is_pending = page in PENDING and not any(map(COMMENT.match, lines))
@@ -288,7 +308,8 @@ def main():
         tables(page, lines)
         links(page, lines)
         if not is_pending:
-            words(page, lines)
+            if GENERATED not in lines:
+                words(page, lines)
             size(page, lines)
 
 

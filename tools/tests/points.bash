@@ -25,7 +25,7 @@ holds() {
   if said=$("$@" 2>&1); then passed "$what"; else failed "$what" "$said"; fi
 }
 
-# The words with which the example plants are asked for their cuts, as docs/EXAMPLES.md gives them.
+# The words with which the example plants are asked for their cuts, as docs/use/EXAMPLES.md gives them.
 words_of() {
   case $1 in
     brake) echo --observer too_weak ;;
@@ -55,12 +55,12 @@ usage() {
   else
     failed "$1 says its statuses, and that it is not proved" "$said"
   fi
-  equal "$1 has a version" "$1 of altarica $(sed -n 's/^## \([0-9-]*\).*/\1/p' docs/CHANGES.md | head -n 1)" "$("tools/$1" --version 2>&1)"
+  equal "$1 has a version" "$1 of altarica $(cat VERSION)" "$("tools/$1" --version 2>&1)"
   # The words of `why` are those of the program.
   [ "$1" = why ] || equal "$1 does not know --no-such-word" 2 "$("tools/$1" --no-such-word x y z >/dev/null 2>&1; echo $?)"
 }
 
-# The words of each command, from the table of docs/TEXTS.md, without the program's name: `check MODEL [--main B]`.
+# The words of each command, from the table of docs/use/TEXTS.md, without the program's name: `check MODEL [--main B]`.
 commands() {
-  sed -n 's/^| `\(altarica \)\{0,1\}\(make N\|[a-z]* MODEL[^`]*\)` |.*/\2/p' docs/TEXTS.md
+  sed -n 's/^| `\(altarica \)\{0,1\}\(make N\|[a-z]* MODEL[^`]*\)` |.*/\2/p' docs/use/TEXTS.md
 }

@@ -75,7 +75,7 @@ mkdir "$work/bin"
 ln -s "$work/repo/altarica" "$work/bin/altarica"
 equal "a helper does not take the script, which would begin the proofs" '4 1' \
   "$(cd "$work/repo" && env -u ALTARICA PATH="$work/bin:$PATH" timeout 60 tools/lint "$top/examples/brake.alt" >/dev/null 2>"$work/said"; echo "$? $(grep -c 'there is no program' "$work/said")")"
-# By hand: docs/EXAMPLES.md finds the cut sets of the ring, three of one event and nine of two; HOWTO_LISTING counts those of the aircraft.
+# By hand: docs/use/EXAMPLES.md finds the cut sets of the ring, three of one event and nine of two; HOWTO_LISTING counts those of the aircraft.
 equal "the head has the number of cut sets by their events" '3 with 1 event 9 with 2 events' \
   "$(grep -o '<span class="count">.*' "$work/ring.html" | head -n 1 | sed 's|</td>.*||; s/<[^>]*>//g' | xargs)"
 equal "and the single failures by name" 'lose_head_end, north.fail, south.fail' \

@@ -34,7 +34,7 @@ new_copy() {
   copy=$lab/copy$((++copies))
   mkdir -p "$copy"/crates/{low,altarica_main}/{src,specs,proofs} "$copy/tools"
   cp "$top/altarica" "$copy/"
-  ln -s "$top/docs" "$copy/docs"
+  ln -s "$top/docs" "$top/VERSION" "$copy/"
   printf '# crates\nlow:\naltarica_main: low\n' >"$copy/crates.txt"
   for crate in low altarica_main; do
     for folder in src specs proofs; do echo "$crate $folder" >"$copy/crates/$crate/$folder/text"; done
@@ -83,7 +83,7 @@ for word in check flat replay explain fragment equations cuts modules checkcuts 
   grep -q -- "$word" "$lab/out" || echo "failed: --help names $word"
 done
 point "--help has the statuses" grep -q "Exit status" "$lab/out"
-for page in README.md docs/{LANGUAGE,HOWTO,CUTS,TEXTS,STATUSES,REFUSALS}.md; do
+for page in README.md docs/use/{LANGUAGE,HOWTO,CUTS,TEXTS,REFUSALS}.md; do
   point "--help names $page, which is there" both 'grep -qw "$page" "$lab/out"' '[ -f "$top/$page" ]'
 done
 point "--help fits into 120 columns" test -z "$(grep -E '.{121}' "$lab/out")"
@@ -96,7 +96,7 @@ run
 "$ALTARICA" >"$lab/program"
 point "no words: the program's line and status, and the help on standard error" both '[ $status -eq 1 ]' 'cmp "$lab/out" "$lab/program"' 'said "Exit status"' 'calls 0'
 run --version
-point "--version has the date of docs/CHANGES.md and the commit" grep -Eq '^altarica [0-9]{4}-[0-9]{2}-[0-9]{2}, commit ' "$lab/out"
+point "--version has the number of VERSION and the commit" grep -q "^altarica $(cat "$top/VERSION"), commit " "$lab/out"
 point "--version has the sum of the sources, and says which program is there" both 'grep -Eq "[0-9a-f]{64}" "$lab/out"' 'grep -q "^proved program: none" "$lab/out"' '[ $status -eq 0 ]' 'calls 0'
 
 # Words that are no command are refused before a build, and only these. Each line is a set of words.
@@ -487,7 +487,7 @@ if [ "$(head -c 4 "$ALTARICA" | tail -c 3)" = ELF ] && [ -d "/proc/$$" ]; then
   point "--unproved where it cannot be compiled: status 12 and a line" both '[ $status -eq 12 ]' 'said "could not be compiled"'
 fi
 
-# The scripts of docs/IN_CI.md, without a program: the message of the shell alone.
+# The scripts of docs/use/IN_CI.md, without a program: the message of the shell alone.
 for words in "no_single_failure spare.alt lost" "same_cuts spare.cuts spare.alt lost" "whole_list spare.cuts spare.alt lost"; do
   (cd tests/ci && set -- $words && ALTARICA=$lab/nowhere "./$1" "${@:2}" >"$lab/out" 2>"$lab/err" </dev/null)
   status=$?

@@ -9,7 +9,7 @@ point() {
 }
 
 # Want of memory comes from the allocator and from the named caps alone, and a body of a function is in one file, but for
-# those that docs/DECISIONS.md names.
+# those that docs/develop/DECISIONS.md names.
 point "no place answers want of memory by itself" tools/memory_places
 point "no body of a function is in two files" tools/twins
 # Memory that is refused call by call, and in a small room; every 97th call here, and by hand each.

@@ -1,7 +1,7 @@
 //! That an answer exists: it is not so that a stage answers nothing. The logic of the proofs is not the
 //! classical one, and several refusals are by definition refutations (that no way of reading goes on, that no
-//! name is found), so this negative form is what can be said of any text; a call that ends without the answer
-//! then met the outside, a refusal of memory or a cap of a table.
+//! name is found), so this negative form is what can be said of any text. A call may still end with want of
+//! memory; where that comes from no clause says.
 //!
 //! Each function here has an empty body and states a law.
 #![tactic(auto)]

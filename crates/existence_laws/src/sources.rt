@@ -17,7 +17,7 @@ ghost use Rattle.gts_flatten.specs.Elaborating.{Elaborated, BreaksWayRule, HasSy
 ghost use Rattle.job_stages.specs.Elaborates.{Parses, Tables, Elaborates};
 ghost use Rattle.existence_laws.specs.Answered.{HasAnswer};
 
-/// Stages of rules and limits have an answer, whatever the model is.
+/// Stages of units, rules, limits and systems have an answer.
 ///
 /// - `units`: The units of a model that keeps L1 to L5 are within the limits of depth and number, or its first units
 ///   pass one of them.

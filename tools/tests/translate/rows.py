@@ -1,4 +1,4 @@
-"""rows.py FILE: the rows of the table of docs/FROM_ALTARICA_MODELS.md, from the kept lists of FILE."""
+"""rows.py FILE: the rows of the table of docs/use/FROM_ALTARICA.md, from the kept lists of FILE."""
 import re
 import sys
 

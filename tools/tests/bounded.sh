@@ -106,7 +106,7 @@ equal "the report has the command, and says that it has the option" '1 1' \
   "$(grep -c 'try: ./altarica cuts .* --max-order 2' <<<"$(sed -n '/id="cuts0"/,/<.section>/p' "$work/page.html")") $(grep -c 'with --max-order 2' "$work/said")"
 tools/report examples/brake.alt --observer too_weak --max-order 2 --out "$work/page.html"
 found() { grep -o '<b class="found">.*' "$work/page.html" | sed 's|</td>.*||; s/<[^>]*>//g'; }
-equal "a report up to an order says so" '28 minimal cut sets of at most 2 events 1 of 1 event 27 of 2 events; larger ones are not listed, and a conflict of more events is not looked for' "$(found)"
+equal "a report up to an order says so" '28 minimal cut sets of at most 2 events 1 with 1 event 27 with 2 events; larger ones are not listed, and a conflict of more events is not looked for' "$(found)"
 equal "and takes no number that is none" 2 "$(tools/report examples/brake.alt --observer too_weak --max-order 0 >/dev/null 2>&1; echo $?)"
 equal "--explain max-order says what it promises" 1 "$(tools/explain max-order | grep -c 'conflict of more than K events is not looked for')"
 equal "and so it does of the last lines" "$(tools/explain max-order)" "$(tools/explain 'yes up to order 2')"
